@@ -1,0 +1,136 @@
+-- Refusals 1 to 4 of a record sheet (paper 01, "Record sheet" and "Refusal table").
+-- Assumes nothing.
+use mathlib.Core.Bool.{Bool, true, false, cond, not, _&&_, _||_}
+use mathlib.Core.List.{List, [], _∷_}
+use Prim.Native.Nat.{ℕ, _+_, _-_, _*_}
+use lib.Dec.{eqb, leb, ltb}
+use lib.ListN.{length}
+use Rattle.text.specs.declared.Range.{Range}
+use Rattle.text.specs.Part.{fits, sameBytes}
+use Rattle.sheet.specs.declared.kind.RowKind.{RowKind}
+use Rattle.sheet.specs.declared.kind.RowKind.the-variants.{Null, False, True, Number, String, Array, Object}
+use Rattle.sheet.specs.declared.record.Row.{Row}
+use Rattle.sheet.specs.Lowest.{lowestFrom}
+use Rattle.sheet.specs.Kinds.{isKind, kindOf, holdsChildren, numberOk}
+use Rattle.sheet.specs.Refusals.{Outcome, Line, lowestLine, firstLine}
+use Rattle.sheet.specs.Doc.{Doc, isObject, firstChild, level}
+use Rattle.sheet.specs.Record.{trailer-words, row-words, record-kind, rows-max, rowsWord, backWord, textWord, kindWord, rowAt, ownerAt, docOf}
+
+-- ---- 1: the trailer
+
+abbrev pub text-max : ℕ
+text-max = 65_535
+
+-- the trailer's words fit each other and a sheet of `size` words; sums and products are exact
+abbrev pub trailerFits : ℕ → ℕ → ℕ → ℕ → Bool
+trailerFits size rows back kind =
+    eqb kind record-kind && (leb 1 rows && (leb rows rows-max && (eqb back (row-words * rows) && leb (back + trailer-words) size)))
+
+unfoldable pub wordsOk : List ℕ → Bool
+wordsOk ws = leb trailer-words (length ws) && trailerFits (length ws) (rowsWord ws) (backWord ws) (kindWord ws)
+
+-- the text has the length that the trailer says, and is not too long
+abbrev pub textOk : List ℕ → ℕ → Bool
+textOk ws size = eqb (textWord ws) size && leb size text-max
+
+-- ---- 2: a row
+
+-- both numbers are 0
+abbrev pub none : ℕ → ℕ → Bool
+none a b = eqb a 0 && eqb b 0
+
+-- i is one of the `count` numbers from `first` on
+abbrev pub inRange : ℕ → ℕ → ℕ → Bool
+inRange first count i = leb first i && ltb i (first + count)
+
+-- the children of row j of n rows: none, written 0 and 0, or rows that stand after it
+abbrev pub childrenOk : ℕ → ℕ → ℕ → ℕ → Bool
+childrenOk n j first count = none first count || (ltb 0 count && (ltb j first && leb (first + count) n))
+
+-- what a row of a kind may hold, over a text of `size` bytes
+abbrev pub contentOk : RowKind → ℕ → ℕ → ℕ → ℕ → ℕ → Bool
+contentOk Null size n j first count = none first count
+contentOk False size n j first count = none first count
+contentOk True size n j first count = none first count
+contentOk Number size n j first count = numberOk first count
+contentOk String size n j first count = fits size (record { start = first; length = count })
+contentOk Array size n j first count = childrenOk n j first count
+contentOk Object size n j first count = childrenOk n j first count
+
+-- the label of a child of such an owner: a name within the text under an object, none under an array; nothing else has children
+abbrev pub labelOk : RowKind → ℕ → Range → Bool
+labelOk Null size label = false
+labelOk False size label = false
+labelOk True size label = false
+labelOk Number size label = false
+labelOk String size label = false
+labelOk Array size label = none (label .start) (label .length)
+labelOk Object size label = fits size label
+
+-- row j lies in the range of the owner it names
+abbrev pub placedUnder : Row → ℕ → ℕ → Range → Bool
+placedUnder owner j size label = labelOk (kindOf (owner .kind)) size label && inRange (owner .first) (owner .count) j
+
+-- the lowest row of a range that names another owner than j, or the range's end
+abbrev pub stranger : List ℕ → ℕ → ℕ → ℕ → ℕ
+stranger ws j first count = lowestFrom (λ k. not (eqb (ownerAt ws k) j)) count first
+
+-- the rows in the range of row j, if it can have children, name it as their owner
+unfoldable pub ownsOk : List ℕ → ℕ → Row → Bool
+ownsOk ws j row =
+    not (holdsChildren (kindOf (row .kind))) || eqb (stranger ws j (row .first) (row .count)) (row .first + row .count)
+
+-- the row's kind is one of 01's, and its fields are what the kind may hold
+abbrev pub fieldsOk : ℕ → ℕ → ℕ → Row → Bool
+fieldsOk size n j row = isKind (row .kind) && contentOk (kindOf (row .kind)) size n j (row .first) (row .count)
+
+-- the root names itself and has no label
+abbrev pub rootOk : Row → Bool
+rootOk row = eqb (row .owner) 0 && none (row .label .start) (row .label .length)
+
+-- every other row names one of the rows, and lies in its range
+unfoldable pub placeOk : List ℕ → ℕ → Row → Bool
+placeOk ws j row =
+    cond (eqb j 0) (rootOk row)
+    (ltb (row .owner) (rowsWord ws) && placedUnder (rowAt ws (row .owner)) j (textWord ws) (row .label))
+
+unfoldable pub rowOk : List ℕ → ℕ → Bool
+rowOk ws j =
+    let row = rowAt ws j in
+    fieldsOk (textWord ws) (rowsWord ws) j row && (placeOk ws j row && ownsOk ws j row)
+
+abbrev pub atFault : List ℕ → ℕ → Bool
+atFault ws j = not (rowOk ws j)
+
+-- ---- 3: a name that an earlier sibling has
+
+-- the lowest row from `first` on, and before row j, that has row j's name, or where these rows end
+abbrev pub twin : Doc → ℕ → ℕ → ℕ
+twin d first j = lowestFrom (λ k. sameBytes (d .name k) (d .name j)) (j - first) first
+
+-- an earlier child of the same object has row j's name
+unfoldable pub repeated : Doc → ℕ → Bool
+repeated d j = let siblings = d .value (d .owner j) in isObject siblings && ltb (twin d (firstChild siblings) j) j
+
+-- ---- 4: a row too deep
+
+-- the first level that is refused
+abbrev pub level-refused : ℕ
+level-refused = 33
+
+abbrev pub tooDeep : List ℕ → ℕ → Bool
+tooDeep ws j = eqb (level (ownerAt ws) j) level-refused
+
+-- ---- the table
+
+abbrev pub recordLines : List ℕ → List ℕ → List Line
+recordLines ws ts =
+    record { number = 1; applies = not (wordsOk ws && textOk ws (length ts)); place = 0 }
+    ∷ lowestLine 2 (rowsWord ws) (atFault ws)
+    ∷ lowestLine 3 (rowsWord ws) (repeated (docOf ws ts))
+    ∷ lowestLine 4 (rowsWord ws) (tooDeep ws)
+    ∷ []
+
+-- what the record check gives
+unfoldable pub recordOutcome : List ℕ → List ℕ → Outcome
+recordOutcome ws ts = firstLine (recordLines ws ts) (rowsWord ws)

@@ -1,0 +1,65 @@
+-- The kinds of a record row and what belongs to a kind (paper 01, "Record sheet"): its number, and the bounds of a number's digits and scale.
+-- Assumes nothing.
+use mathlib.Core.Bool.{Bool, true, false, _&&_}
+use Prim.Native.Nat.{ℕ}
+use lib.Dec.{eqb, leb}
+use lib.IntN.{natAbs}
+use Rattle.decimal.specs.Value.{signed, scale-max}
+use Rattle.sheet.specs.declared.kind.RowKind.{RowKind}
+use Rattle.sheet.specs.declared.kind.RowKind.the-variants.{Null, False, True, Number, String, Array, Object}
+
+-- 01's number of each kind
+abbrev pub numberOf : RowKind → ℕ
+numberOf Null = 0
+numberOf False = 1
+numberOf True = 2
+numberOf Number = 3
+numberOf String = 4
+numberOf Array = 5
+numberOf Object = 6
+
+-- the numbers of the kinds run from 0 to that of the last
+abbrev pub isKind : ℕ → Bool
+isKind n = leb n (numberOf Object)
+
+abbrev pub pickKind : Bool → RowKind → RowKind → RowKind
+pickKind true a b = a
+pickKind false a b = b
+
+-- the kind of a number; a number that is no kind's reads as `Null`, and no sheet with it is accepted
+unfoldable pub kindOf : ℕ → RowKind
+kindOf n =
+    pickKind (eqb n (numberOf False)) False
+    (pickKind (eqb n (numberOf True)) True
+    (pickKind (eqb n (numberOf Number)) Number
+    (pickKind (eqb n (numberOf String)) String
+    (pickKind (eqb n (numberOf Array)) Array
+    (pickKind (eqb n (numberOf Object)) Object Null)))))
+
+-- rows of these kinds can have children
+abbrev pub holdsChildren : RowKind → Bool
+holdsChildren Null = false
+holdsChildren False = false
+holdsChildren True = false
+holdsChildren Number = false
+holdsChildren String = false
+holdsChildren Array = true
+holdsChildren Object = true
+
+-- and the children of these have names
+abbrev pub isObjectKind : RowKind → Bool
+isObjectKind Null = false
+isObjectKind False = false
+isObjectKind True = false
+isObjectKind Number = false
+isObjectKind String = false
+isObjectKind Array = false
+isObjectKind Object = true
+
+-- the most digits of a number, on either side of zero
+abbrev pub number-max : ℕ
+number-max = 999_999_999
+
+-- a number's two words are within its bounds
+abbrev pub numberOk : ℕ → ℕ → Bool
+numberOk first count = leb (natAbs (signed first)) number-max && leb count scale-max

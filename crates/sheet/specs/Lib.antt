@@ -1,0 +1,8 @@
+-- In reading order.
+pub mod Lowest
+pub mod Kinds
+pub mod Refusals
+pub mod Doc
+pub mod Record
+pub mod Faults
+pub mod Accepted

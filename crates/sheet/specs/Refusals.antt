@@ -1,0 +1,43 @@
+-- The refusal table (paper 01, "Refusal table"): its lines are asked in order, and the first that applies gives the refusal's number and place.
+-- Assumes nothing.
+use mathlib.Core.Bool.{Bool, cond}
+use mathlib.Core.List.{List, [], _∷_}
+use Prim.Native.Nat.{ℕ}
+use lib.Dec.{ltb}
+use Rattle.sheet.specs.Lowest.{lowest}
+use Rattle.sheet.specs.declared.refusal.Refusal.{Refusal}
+use Rattle.sheet.specs.declared.refusal.Refusal.the-variants.{RecordTrailer, RecordLayout, RepeatedName, TooDeep}
+use Rattle.sheet.specs.declared.refusal.Checked.{Checked}
+use Rattle.sheet.specs.declared.refusal.Checked.the-variants.{Accepted, Refused}
+
+-- 01's number of each refusal
+abbrev pub refusalNumber : Refusal → ℕ
+refusalNumber RecordTrailer = 1
+refusalNumber RecordLayout = 2
+refusalNumber RepeatedName = 3
+refusalNumber TooDeep = 4
+
+-- what a check gives: the number of rows, or a refusal's number and place
+pub data Outcome : Type 0 where
+  accepted : ℕ → Outcome
+  refused : ℕ → ℕ → Outcome
+
+-- an answer, in 01's numbers
+abbrev pub outcomeOf : Checked → Outcome
+outcomeOf (Accepted rows) = accepted rows
+outcomeOf (Refused refusal place) = refused (refusalNumber refusal) place
+
+-- a line of the table: its number, whether it applies, and its place
+pub record Line : Type 0 where
+  pub number : ℕ
+  pub applies : Bool
+  pub place : ℕ
+
+-- a line that applies where one of n places passes the test, and gives the lowest
+abbrev pub lowestLine : ℕ → ℕ → (ℕ → Bool) → Line
+lowestLine number n test = record { number = number; applies = ltb (lowest test n) n; place = lowest test n }
+
+-- the first line that applies, or else what acceptance gives
+unfoldable pub firstLine : List Line → ℕ → Outcome
+firstLine [] rows = accepted rows
+firstLine (line ∷ lines) rows = cond (line .applies) (refused (line .number) (line .place)) (firstLine lines rows)

@@ -1,0 +1,31 @@
+// The answers of a check. `specs/Refusals.antt` gives each case 01's number and values.
+ghost use mathlib.Core.Path.{_≡_};
+ghost use Rattle.sheet.specs.Refusals.{refusalNumber};
+
+// Why a sheet is refused.
+pub enum Refusal {
+    RecordTrailer,
+    RecordLayout,
+    RepeatedName,
+    TooDeep,
+}
+
+// What a check gives: the number of rows, or the refusal and its place.
+pub enum Checked {
+    Accepted(u32),
+    Refused(Refusal, u32),
+}
+
+impl Refusal {
+    // 01's number of the refusal.
+    pub fn number(self) -> u32
+        ensures { λ r. ⌜ r ≡ refusalNumber self ⌝ }
+    {
+        match self {
+            Refusal::RecordTrailer => 1,
+            Refusal::RecordLayout => 2,
+            Refusal::RepeatedName => 3,
+            Refusal::TooDeep => 4,
+        }
+    }
+}

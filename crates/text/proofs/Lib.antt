@@ -1,0 +1,4 @@
+pub mod Ranges
+pub mod Bytes
+pub mod Comparing
+pub mod Fingerprints
