@@ -6,3 +6,5 @@ pub mod Rows
 pub mod Values
 pub mod Twins
 pub mod Checks
+pub mod Acceptance
+pub mod Shape

@@ -5,15 +5,15 @@
 --     label-fits         its label lies within the text
 --     row-test           the three tests, by what was read
 -- Assumes nothing.
-use mathlib.Core.Bool.{Bool, true, false, not, cond, _&&_, _||_}
+use mathlib.Core.Bool.{true, _&&_}
 use mathlib.Core.List.{List}
 use mathlib.Core.Logic.{⊎-elim}
-use mathlib.Core.Path.{_≡_, refl, sym, ap, _∙_}
-use Prim.Native.Nat.{ℕ, zero, suc, _+_, _≤_, _<_}
+use mathlib.Core.Path.{_≡_, refl}
+use Prim.Native.Nat.{ℕ, _+_, _≤_, _<_}
 use native.Mathlib.Nat.{eq-zero-or-pos}
 use native.Mathlib.Omega.{arith}
 use lib.Dec.{eqb, leb, ltb}
-use borrow.Author.Tests.{leb-true, ltb-true, eqb-true, eq-eqb, ne-eqb, not-false}
+use borrow.Author.Tests.{leb-true, ltb-true, eqb-true, eq-eqb, ne-eqb}
 use Rattle.laws.proofs.Tests.{left, right, either}
 use Rattle.text.specs.declared.Range.{Range}
 use Rattle.text.specs.Part.{fits}
@@ -24,7 +24,7 @@ use Rattle.sheet.specs.declared.record.Row.{Row}
 use Rattle.sheet.specs.declared.record.RecordForm.{RecordForm}
 use Rattle.sheet.specs.Kinds.{isKind, kindOf, holdsChildren}
 use Rattle.sheet.specs.Record.{rowsWord, textWord, rowAt, ownerAt}
-use Rattle.sheet.specs.Faults.{none, inRange, childrenOk, contentOk, fieldsOk, labelOk, placedUnder, rootOk, placeOk, ownsOk, rowOk}
+use Rattle.sheet.specs.Faults.{none, childrenOk, contentOk, fieldsOk, labelOk, placedUnder, rootOk, placeOk, ownsOk, rowOk}
 use Rattle.sheet.specs.Accepted.{Formed}
 use Rattle.sheet.proofs.Trailers.{form-rows}
 

@@ -5,7 +5,7 @@
 -- Assumes nothing.
 use mathlib.Core.Bool.{true, _&&_}
 use mathlib.Core.List.{List}
-use mathlib.Core.Path.{_≡_, refl, sym, ap, _∙_}
+use mathlib.Core.Path.{_≡_, ap}
 use Prim.Native.Nat.{ℕ, _+_, _-_, _*_, _≤_, _<_}
 use native.Mathlib.Nat.{add-zero}
 use native.Mathlib.Omega.{arith}
@@ -16,7 +16,7 @@ use Rattle.laws.proofs.Tests.{left, right}
 use Rattle.sheet.specs.declared.record.Row.{Row}
 use Rattle.sheet.specs.declared.record.RecordForm.{RecordForm}
 use Rattle.sheet.specs.Record.{trailer-words, row-words, record-kind, rows-max, rowsWord, backWord, kindWord, formOf, rowAt}
-use Rattle.sheet.specs.Faults.{wordsOk, trailerFits}
+use Rattle.sheet.specs.Faults.{wordsOk}
 use Rattle.sheet.specs.Accepted.{Formed}
 
 pub record TrailerFacts (ws : List ℕ) : Type 0 where

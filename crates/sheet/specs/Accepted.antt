@@ -4,14 +4,20 @@ use mathlib.Core.Bool.{true}
 use mathlib.Core.List.{List}
 use mathlib.Core.Path.{_≡_}
 use Prim.Native.Nat.{ℕ, _+_, _≤_, _<_}
+use lib.IntN.{ℤ}
 use lib.ListN.{getD}
-use Rattle.text.specs.Part.{fingerprintOf}
+use Rattle.decimal.specs.declared.Decimal.{Decimal}
+use Rattle.decimal.specs.Value.{value, Plain}
+use Rattle.text.specs.declared.Range.{Range}
+use Rattle.text.specs.Part.{fits, part, fingerprintOf}
 use Rattle.sheet.specs.declared.record.RecordForm.{RecordForm}
+use Rattle.sheet.specs.declared.record.Children.{Children}
 use Rattle.sheet.specs.declared.layout.Pass.{Pass}
 use Rattle.sheet.specs.Lowest.{lowest}
-use Rattle.sheet.specs.Doc.{Doc, Child, isObject, level}
-use Rattle.sheet.specs.Record.{rows-max, rowsWord, formOf}
-use Rattle.sheet.specs.Faults.{wordsOk, rowOk, atFault, tooDeep, level-refused}
+use Rattle.sheet.specs.Refusals.{accepted}
+use Rattle.sheet.specs.Doc.{Doc, number, string, firstChild, childCount, Child, isObject, level}
+use Rattle.sheet.specs.Record.{rows-max, rowsWord, textWord, formOf, docOf}
+use Rattle.sheet.specs.Faults.{wordsOk, rowOk, atFault, tooDeep, level-refused, recordOutcome}
 
 -- the form is that of these words, and their trailer is in order
 pub record Formed (ws : List ℕ) (form : RecordForm) : Type 0 where
@@ -23,6 +29,11 @@ pub record Laid (ws : List ℕ) (form : RecordForm) : Type 0 where
   pub formed : Formed ws form
   pub rows-ok : (j : ℕ) → j < form .rows → rowOk ws j ≡ true
 
+-- the words and the text are an accepted record sheet of that form
+pub record AcceptedRecord (ws ts : List ℕ) (form : RecordForm) : Type 0 where
+  pub same-form : form ≡ formOf ws
+  pub accepts : recordOutcome ws ts ≡ accepted (form .rows)
+
 -- what one pass over the rows finds: the lowest row at fault and, where none is, the lowest row too deep
 pub record Passed (ws : List ℕ) (pass : Pass) : Type 0 where
   pub fault-is : pass .fault ≡ lowest (atFault ws) (rowsWord ws)
@@ -31,6 +42,27 @@ pub record Passed (ws : List ℕ) (pass : Pass) : Type 0 where
 -- the first n prints are the fingerprints of the rows' names
 pub record Printed (d : Doc) (prints : List ℕ) (n : ℕ) : Type 0 where
   pub print : (k : ℕ) → k < n → getD prints k 0 ≡ fingerprintOf (d .name k)
+
+-- ---- what the readers give of row j, whatever the text
+
+pub record ChildrenRead (ws : List ℕ) (j : ℕ) (r : Children) : Type 0 where
+  pub first-is : (ts : List ℕ) → r .first ≡ firstChild (docOf ws ts .value j)
+  pub count-is : (ts : List ℕ) → r .count ≡ childCount (docOf ws ts .value j)
+
+-- the row's name is the range's bytes, within a text of the length that the trailer says
+pub record NameRead (ws : List ℕ) (j : ℕ) (r : Range) : Type 0 where
+  pub name-is : (ts : List ℕ) → part ts r ≡ docOf ws ts .name j
+  pub name-fits : fits (textWord ws) r ≡ true
+
+-- and of a string its bytes
+pub record StringRead (ws : List ℕ) (j : ℕ) (r : Range) : Type 0 where
+  pub string-is : (ts bytes : List ℕ) → docOf ws ts .value j ≡ string bytes → part ts r ≡ bytes
+  pub string-fits : (ts bytes : List ℕ) → docOf ws ts .value j ≡ string bytes → fits (textWord ws) r ≡ true
+
+-- of a number its value, and that it is within the limits of exact arithmetic
+pub record NumberRead (ws : List ℕ) (j : ℕ) (r : Decimal) : Type 0 where
+  pub number-is : (ts : List ℕ) (z : ℤ) → docOf ws ts .value j ≡ number z → value r ≡ z
+  pub number-plain : (ts : List ℕ) (z : ℤ) → docOf ws ts .value j ≡ number z → Plain r
 
 -- an accepted record of n rows
 pub record WellFormed (d : Doc) (n : ℕ) : Type 0 where

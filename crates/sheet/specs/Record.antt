@@ -1,13 +1,11 @@
 -- The record sheet (paper 01, "Record sheet"): the trailer is the last 4 words, the rows stand before it, 6 words each, and the words before row 0 change nothing.
 -- Assumes nothing.
-use mathlib.Core.Bool.{Bool, true, false, cond, _&&_}
+use mathlib.Core.Bool.{true, false, cond}
 use mathlib.Core.List.{List}
-use mathlib.Core.Path.{_≡_}
 use Prim.Native.Nat.{ℕ, _+_, _-_, _*_}
-use lib.Dec.{eqb, leb, ltb}
+use lib.Dec.{ltb}
 use lib.ListN.{length, getD}
 use Rattle.decimal.specs.Value.{signed, billionths}
-use Rattle.text.specs.declared.Range.{Range}
 use Rattle.text.specs.Part.{part}
 use Rattle.sheet.specs.declared.kind.RowKind.{RowKind}
 use Rattle.sheet.specs.declared.kind.RowKind.the-variants.{Null, False, True, Number, String, Array, Object}

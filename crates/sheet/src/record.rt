@@ -4,9 +4,12 @@ ghost use mathlib.Core.Bool.{true};
 ghost use mathlib.Core.List.{List};
 ghost use mathlib.Core.Path.{_≡_};
 ghost use Prim.Native.Nat.{ℕ, _<_};
-ghost use Rattle.sheet.specs.Record.{formOf, rowAt};
+ghost use Rattle.sheet.specs.Doc.{valueKind};
+ghost use Rattle.sheet.specs.Record.{formOf, rowAt, docOf};
 ghost use Rattle.sheet.specs.Faults.{wordsOk};
-ghost use Rattle.sheet.specs.Accepted.{Formed};
+ghost use Rattle.sheet.specs.Accepted.{Formed, Laid, ChildrenRead, NameRead, StringRead, NumberRead};
+use crate::kind::RowKind;
+use decimal::Decimal;
 use text::Range;
 
 // A row of the record: never a schema.
@@ -28,6 +31,12 @@ pub struct Row {
     pub count: u32,
     pub owner: u32,
     pub label: Range,
+}
+
+// The children of a row: `count` rows from `first` on; 0 and 0 where there are none.
+pub struct Children {
+    pub first: u32,
+    pub count: u32,
 }
 
 // A word as a number that can be an index.
@@ -76,4 +85,64 @@ pub fn row_at(words: &[u32], form: RecordForm, row: RecordRow) -> Row
             length: words[at + 5],
         },
     }
+}
+
+// The row's kind.
+pub fn kind_of(words: &[u32], form: RecordForm, row: RecordRow) -> RowKind
+    requires { ⌜ Formed (now words) form × (row .0 < form .rows) ⌝ }
+    ensures { λ r. ⌜ ((ts : List ℕ) → r ≡ valueKind (docOf (now (words .entry)) ts .value (row .0))) ⌝ }
+{
+    RowKind::of(row_at(words, form, row).kind)
+}
+
+// The row's owner; the root's is the root.
+pub fn owner_of(words: &[u32], form: RecordForm, row: RecordRow) -> RecordRow
+    requires { ⌜ Formed (now words) form × (row .0 < form .rows) ⌝ }
+    ensures { λ r. ⌜ ((ts : List ℕ) → r .0 ≡ docOf (now (words .entry)) ts .owner (row .0)) ⌝ }
+{
+    RecordRow(row_at(words, form, row).owner)
+}
+
+// The row's children: none of a row that is no array and no object.
+pub fn children_of(words: &[u32], form: RecordForm, row: RecordRow) -> Children
+    requires { ⌜ Formed (now words) form × (row .0 < form .rows) ⌝ }
+    ensures { λ r. ⌜ ChildrenRead (now (words .entry)) (row .0) r ⌝ }
+{
+    let it = row_at(words, form, row);
+    if !RowKind::of(it.kind).holds_children() {
+        return Children { first: 0, count: 0 };
+    }
+    Children {
+        first: it.first,
+        count: it.count,
+    }
+}
+
+// The row's name under its owner, as a range of the text; an empty range where it has none.
+pub fn name_of(words: &[u32], form: RecordForm, row: RecordRow) -> Range
+    requires { ⌜ Laid (now words) form × (row .0 < form .rows) ⌝ }
+    ensures { λ r. ⌜ NameRead (now (words .entry)) (row .0) r ⌝ }
+{
+    row_at(words, form, row).label
+}
+
+// The bytes of a row that is a string, as a range of the text.
+pub fn string_of(words: &[u32], form: RecordForm, row: RecordRow) -> Range
+    requires { ⌜ Laid (now words) form × (row .0 < form .rows) ⌝ }
+    ensures { λ r. ⌜ StringRead (now (words .entry)) (row .0) r ⌝ }
+{
+    let it = row_at(words, form, row);
+    Range {
+        start: it.first,
+        length: it.count,
+    }
+}
+
+// The value of a row that is a number.
+pub fn number_of(words: &[u32], form: RecordForm, row: RecordRow) -> Decimal
+    requires { ⌜ Laid (now words) form × (row .0 < form .rows) ⌝ }
+    ensures { λ r. ⌜ NumberRead (now (words .entry)) (row .0) r ⌝ }
+{
+    let it = row_at(words, form, row);
+    Decimal::of_word(it.first, it.count)
 }

@@ -1,6 +1,6 @@
 -- `check_record` meets its contract: each answer is the line of the table that it names, since those before it do not apply. Assumes nothing.
 use native.Mathlib.Omega.{arith}
-use mathlib.Core.Path.{_≡_, refl, sym, ap, _∙_}
+use mathlib.Core.Path.{sym, ap, _∙_}
 use borrow.Author.Tests.{not-true, not-false}
 use Rattle.sheet.specs.Refusals.{accepted}
 use Rattle.sheet.proofs.Checks.{laid-out, words-in-order, text-length, at-trailer, at-row, at-name, at-level, no-line}
@@ -8,12 +8,6 @@ use Rattle.sheet.proofs.Trailers.{form-rows}
 use borrow.Author.Needs.{needs}
 use Rattle.sheet.proofs.check_record.Statement.{statement}
 use Rattle.sheet.proofs.check_record.Tie as tie
-use Rattle.sheet.proofs.check_record.Reads as reads
-use Rattle.sheet.proofs.check_record.Lts as lts
-use Rattle.sheet.proofs.layout.pass_rows.Reads as pass-rows-reads
-use Rattle.sheet.proofs.layout.trailer_ok.Reads as trailer-ok-reads
-use Rattle.sheet.proofs.names.first_repeated.Reads as first-repeated-reads
-use Rattle.sheet.proofs.record.RecordForm.of.Reads as of-reads
 
 trailer-ok-requires : tie.Need-trailer-ok-requires
 trailer-ok-requires c κs = search needs

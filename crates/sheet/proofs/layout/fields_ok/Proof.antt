@@ -2,11 +2,6 @@
 use borrow.Author.Needs.{needs}
 use Rattle.sheet.proofs.layout.fields_ok.Statement.{statement}
 use Rattle.sheet.proofs.layout.fields_ok.Tie as tie
-use Rattle.sheet.proofs.layout.fields_ok.Reads as reads
-use Rattle.sheet.proofs.layout.fields_ok.Lts as lts
-use Rattle.sheet.proofs.kind.RowKind.known.Reads as known-reads
-use Rattle.sheet.proofs.kind.RowKind.of.Reads as of-reads
-use Rattle.sheet.proofs.layout.content_ok.Reads as content-ok-reads
 
 known-requires : tie.Need-known-requires
 known-requires c κs = search needs

@@ -2,8 +2,6 @@
 use borrow.Author.Tests.{lt-ltb, le-ltb, eq-eqb, ne-eqb}
 use Rattle.sheet.proofs.layout.first_deep.Statement.{statement}
 use Rattle.sheet.proofs.layout.first_deep.Tie as tie
-use Rattle.sheet.proofs.layout.first_deep.Reads as reads
-use Rattle.sheet.proofs.layout.first_deep.Lts as lts
 
 returns : tie.Need-returns
 returns c = simp (lt-ltb _ _ (c .if1 .taken))

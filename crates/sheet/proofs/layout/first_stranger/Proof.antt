@@ -1,6 +1,6 @@
 -- `first_stranger` meets its contract: what is left of the search gives what the whole gives. Assumes nothing.
 use native.Mathlib.Omega.{arith}
-use Prim.Native.Nat.{_+_, _-_, _≤_, _<_}
+use Prim.Native.Nat.{_+_, _-_, _≤_}
 use mathlib.Core.Path.{_≡_, sym, _∙_}
 use mathlib.Core.Bool.{not}
 use lib.Dec.{eqb}
@@ -11,9 +11,6 @@ use Rattle.sheet.proofs.Strangers.{stranger-here, none-here}
 use Rattle.sheet.proofs.Trailers.{form-few}
 use Rattle.sheet.proofs.layout.first_stranger.Statement.{statement}
 use Rattle.sheet.proofs.layout.first_stranger.Tie as tie
-use Rattle.sheet.proofs.layout.first_stranger.Reads as reads
-use Rattle.sheet.proofs.layout.first_stranger.Lts as lts
-use Rattle.sheet.proofs.record.row_at.Reads as row-at-reads
 
 abbrev Inv-loop : tie.InvT-loop
 Inv-loop words form j first count end k₀ k = (end ≡ first + count) × (first ≤ k) × (k ≤ end) × (stranger words j first count ≡ left (λ i. not (eqb (ownerAt words i) j)) end k)

@@ -2,9 +2,6 @@
 use borrow.Author.Needs.{needs}
 use Rattle.sheet.proofs.layout.label_ok.Statement.{statement}
 use Rattle.sheet.proofs.layout.label_ok.Tie as tie
-use Rattle.sheet.proofs.layout.label_ok.Reads as reads
-use Rattle.sheet.proofs.layout.label_ok.Lts as lts
-use Rattle.text.proofs.range_fits.Reads as range-fits-reads
 
 enum-told : tie.Need-enum-told
 enum-told c = search needs

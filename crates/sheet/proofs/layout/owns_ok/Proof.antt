@@ -1,8 +1,8 @@
 -- `owns_ok` meets its contract: a row that can have children has them within the rows. Assumes nothing.
 use native.Mathlib.Omega.{arith}
-use mathlib.Core.Path.{_≡_, refl, sym, ap, _∙_}
+use mathlib.Core.Path.{sym, ap, _∙_}
 use borrow.Author.Tests.{not-true, not-false}
-use Rattle.sheet.specs.Kinds.{kindOf, holdsChildren}
+use Rattle.sheet.specs.Kinds.{holdsChildren}
 use Rattle.sheet.specs.Record.{textWord}
 use Rattle.sheet.specs.Faults.{ownsOk}
 use Rattle.sheet.proofs.Rows.{children-facts}
@@ -10,11 +10,6 @@ use Rattle.sheet.proofs.Trailers.{form-few}
 use borrow.Author.Needs.{needs}
 use Rattle.sheet.proofs.layout.owns_ok.Statement.{statement}
 use Rattle.sheet.proofs.layout.owns_ok.Tie as tie
-use Rattle.sheet.proofs.layout.owns_ok.Reads as reads
-use Rattle.sheet.proofs.layout.owns_ok.Lts as lts
-use Rattle.sheet.proofs.kind.RowKind.holds_children.Reads as holds-children-reads
-use Rattle.sheet.proofs.kind.RowKind.of.Reads as of-reads
-use Rattle.sheet.proofs.layout.first_stranger.Reads as first-stranger-reads
 
 of-requires : tie.Need-of-requires
 of-requires c κs = search needs

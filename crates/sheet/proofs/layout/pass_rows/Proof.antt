@@ -2,8 +2,8 @@
 -- `deep` is the lowest of them that is too deep. Assumes nothing.
 use native.Mathlib.Omega.{arith}
 use mathlib.Core.Path.{_≡_, refl, sym, ap, _∙_}
-use borrow.Author.Tests.{not-true, not-false}
-use Prim.Native.Nat.{_+_, _-_, _≤_, _<_}
+use borrow.Author.Tests.{not-false}
+use Prim.Native.Nat.{_-_, _≤_}
 use native.Mathlib.Nat.{sub-zero}
 use Rattle.sheet.specs.declared.record.Row.{Row}
 use Rattle.sheet.specs.Lowest.{lowest}
@@ -17,12 +17,6 @@ use Rattle.sheet.proofs.Rows.{owner-inside}
 use borrow.Author.Needs.{needs}
 use Rattle.sheet.proofs.layout.pass_rows.Statement.{statement}
 use Rattle.sheet.proofs.layout.pass_rows.Tie as tie
-use Rattle.sheet.proofs.layout.pass_rows.Reads as reads
-use Rattle.sheet.proofs.layout.pass_rows.Lts as lts
-use Rattle.sheet.proofs.layout.first_deep.Reads as first-deep-reads
-use Rattle.sheet.proofs.layout.row_ok.Reads as row-ok-reads
-use Rattle.sheet.proofs.record.row_at.Reads as row-at-reads
-use Rattle.sheet.proofs.record.wide.Reads as wide-reads
 
 abbrev Inv-loop : tie.InvT-loop
 Inv-loop words form size n levels₀ deep₀ j₀ levels deep j = (j ≤ n) × (lowest (atFault words) n ≡ left (atFault words) n j) × (levels ≡ filled (ownerAt words) rows-max j) × Seen (tooDeep words) n j deep

@@ -7,10 +7,6 @@ use Rattle.sheet.proofs.Trailers.{form-rows}
 use borrow.Author.Needs.{needs}
 use Rattle.sheet.proofs.layout.place_ok.Statement.{statement}
 use Rattle.sheet.proofs.layout.place_ok.Tie as tie
-use Rattle.sheet.proofs.layout.place_ok.Reads as reads
-use Rattle.sheet.proofs.layout.place_ok.Lts as lts
-use Rattle.sheet.proofs.layout.placed_under.Reads as placed-under-reads
-use Rattle.sheet.proofs.record.row_at.Reads as row-at-reads
 
 returns : tie.Need-returns
 unfolding placeOk

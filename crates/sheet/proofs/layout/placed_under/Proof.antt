@@ -2,10 +2,6 @@
 use borrow.Author.Needs.{needs}
 use Rattle.sheet.proofs.layout.placed_under.Statement.{statement}
 use Rattle.sheet.proofs.layout.placed_under.Tie as tie
-use Rattle.sheet.proofs.layout.placed_under.Reads as reads
-use Rattle.sheet.proofs.layout.placed_under.Lts as lts
-use Rattle.sheet.proofs.kind.RowKind.of.Reads as of-reads
-use Rattle.sheet.proofs.layout.label_ok.Reads as label-ok-reads
 
 cast-end : tie.Need-cast-end
 cast-end c = search needs

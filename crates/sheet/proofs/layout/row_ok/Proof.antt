@@ -1,16 +1,10 @@
 -- `row_ok` meets its contract: the three tests in turn. Assumes nothing.
-use mathlib.Core.Path.{_≡_, refl, sym, ap, _∙_}
+use mathlib.Core.Path.{sym, _∙_}
 use borrow.Author.Tests.{not-true, not-false}
 use Rattle.sheet.proofs.Rows.{row-test}
 use borrow.Author.Needs.{needs}
 use Rattle.sheet.proofs.layout.row_ok.Statement.{statement}
 use Rattle.sheet.proofs.layout.row_ok.Tie as tie
-use Rattle.sheet.proofs.layout.row_ok.Reads as reads
-use Rattle.sheet.proofs.layout.row_ok.Lts as lts
-use Rattle.sheet.proofs.layout.fields_ok.Reads as fields-ok-reads
-use Rattle.sheet.proofs.layout.owns_ok.Reads as owns-ok-reads
-use Rattle.sheet.proofs.layout.place_ok.Reads as place-ok-reads
-use Rattle.sheet.proofs.record.row_at.Reads as row-at-reads
 
 row-at-requires : tie.Need-row-at-requires
 row-at-requires c κs = search needs

@@ -4,10 +4,6 @@ use Rattle.sheet.specs.Faults.{wordsOk}
 use borrow.Author.Needs.{needs}
 use Rattle.sheet.proofs.layout.trailer_ok.Statement.{statement}
 use Rattle.sheet.proofs.layout.trailer_ok.Tie as tie
-use Rattle.sheet.proofs.layout.trailer_ok.Reads as reads
-use Rattle.sheet.proofs.layout.trailer_ok.Lts as lts
-use Rattle.sheet.proofs.layout.trailer_fits.Reads as trailer-fits-reads
-use Rattle.sheet.proofs.record.wide.Reads as wide-reads
 
 returns : tie.Need-returns
 unfolding wordsOk

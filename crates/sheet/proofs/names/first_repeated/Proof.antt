@@ -1,7 +1,7 @@
 -- `first_repeated` meets its contract: the prints of the rows passed stand in the table, and what is left of the search gives what the whole gives. Assumes nothing.
 use native.Mathlib.Omega.{arith}
-use mathlib.Core.Path.{_≡_, refl, sym, ap, _∙_}
-use Prim.Native.Nat.{_+_, _-_, _≤_, _<_}
+use mathlib.Core.Path.{_≡_, refl, sym, _∙_}
+use Prim.Native.Nat.{_-_, _≤_}
 use native.Mathlib.Nat.{sub-zero}
 use lib.ListN.{length, length-set}
 use Rattle.sheet.specs.Lowest.{lowest}
@@ -14,12 +14,6 @@ use Rattle.sheet.proofs.Twins.{label-in-text, printed-none, printed-mor
 use borrow.Author.Needs.{needs}
 use Rattle.sheet.proofs.names.first_repeated.Statement.{statement}
 use Rattle.sheet.proofs.names.first_repeated.Tie as tie
-use Rattle.sheet.proofs.names.first_repeated.Reads as reads
-use Rattle.sheet.proofs.names.first_repeated.Lts as lts
-use Rattle.sheet.proofs.names.has_twin.Reads as has-twin-reads
-use Rattle.sheet.proofs.record.row_at.Reads as row-at-reads
-use Rattle.sheet.proofs.record.wide.Reads as wide-reads
-use Rattle.text.proofs.fingerprint.Reads as fingerprint-reads
 
 abbrev Inv-loop : tie.InvT-loop
 Inv-loop words text form n prints₀ j₀ prints j = (j ≤ n) × (lowest (repeated (docOf words text)) n ≡ left (repeated (docOf words text)) n j) × Printed (docOf words text) prints j × (length prints ≡ rows-max)

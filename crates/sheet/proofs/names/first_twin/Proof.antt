@@ -1,8 +1,8 @@
 -- `first_twin` meets its contract: rows whose prints differ are no twins, and what is left of the search gives what the whole gives. Assumes nothing.
 use native.Mathlib.Omega.{arith}
-use mathlib.Core.Path.{_≡_, refl, sym, ap, _∙_}
+use mathlib.Core.Path.{_≡_, refl, sym, _∙_}
 use mathlib.Core.Logic.{⊎-elim}
-use Prim.Native.Nat.{_+_, _-_, _≤_, _<_}
+use Prim.Native.Nat.{_+_, _-_}
 use Rattle.text.specs.Part.{sameBytes}
 use Rattle.sheet.specs.Record.{docOf}
 use Rattle.sheet.specs.Faults.{twin}
@@ -12,11 +12,6 @@ use Rattle.sheet.proofs.Twins.{label-in-text, same-names, prints-differ
 use borrow.Author.Needs.{needs}
 use Rattle.sheet.proofs.names.first_twin.Statement.{statement}
 use Rattle.sheet.proofs.names.first_twin.Tie as tie
-use Rattle.sheet.proofs.names.first_twin.Reads as reads
-use Rattle.sheet.proofs.names.first_twin.Lts as lts
-use Rattle.sheet.proofs.record.row_at.Reads as row-at-reads
-use Rattle.sheet.proofs.record.wide.Reads as wide-reads
-use Rattle.text.proofs.same_part.Reads as same-part-reads
 
 abbrev Inv-loop : tie.InvT-loop
 Inv-loop words text form prints first j name print k₀ k = twin (docOf words text) first j ≡ left (λ i. sameBytes (docOf words text .name i) (docOf words text .name j)) j k

@@ -1,6 +1,6 @@
 -- `has_twin` meets its contract: an earlier sibling is looked for under an object only. Assumes nothing.
 use native.Mathlib.Omega.{arith}
-use mathlib.Core.Path.{_≡_, refl, sym, ap, _∙_}
+use mathlib.Core.Path.{sym, ap, _∙_}
 use borrow.Author.Tests.{not-true, not-false}
 use Rattle.sheet.specs.declared.record.Row.{Row}
 use Rattle.sheet.specs.Kinds.{isObjectKind}
@@ -11,12 +11,6 @@ use Rattle.sheet.proofs.Twins.{not-repeated, repeated-is}
 use borrow.Author.Needs.{needs}
 use Rattle.sheet.proofs.names.has_twin.Statement.{statement}
 use Rattle.sheet.proofs.names.has_twin.Tie as tie
-use Rattle.sheet.proofs.names.has_twin.Reads as reads
-use Rattle.sheet.proofs.names.has_twin.Lts as lts
-use Rattle.sheet.proofs.kind.RowKind.is_object.Reads as is-object-reads
-use Rattle.sheet.proofs.kind.RowKind.of.Reads as of-reads
-use Rattle.sheet.proofs.names.first_twin.Reads as first-twin-reads
-use Rattle.sheet.proofs.record.row_at.Reads as row-at-reads
 
 row-at-requires : tie.Need-row-at-requires
 row-at-requires c κs = search needs

@@ -1,12 +1,9 @@
 -- `row_at` meets its contract: the row lies among the words. Assumes nothing.
 use native.Mathlib.Omega.{arith}
-use Rattle.sheet.proofs.Trailers.{form-few, row-inside, row-read}
+use Rattle.sheet.proofs.Trailers.{row-inside, row-read}
 use borrow.Author.Needs.{needs}
 use Rattle.sheet.proofs.record.row_at.Statement.{statement}
 use Rattle.sheet.proofs.record.row_at.Tie as tie
-use Rattle.sheet.proofs.record.row_at.Reads as reads
-use Rattle.sheet.proofs.record.row_at.Lts as lts
-use Rattle.sheet.proofs.record.wide.Reads as wide-reads
 
 wide-requires : tie.Need-wide-requires
 wide-requires c κs = search needs

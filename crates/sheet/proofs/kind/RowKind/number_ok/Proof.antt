@@ -2,9 +2,6 @@
 use borrow.Author.Needs.{needs}
 use Rattle.sheet.proofs.kind.RowKind.number_ok.Statement.{statement}
 use Rattle.sheet.proofs.kind.RowKind.number_ok.Tie as tie
-use Rattle.sheet.proofs.kind.RowKind.number_ok.Reads as reads
-use Rattle.sheet.proofs.kind.RowKind.number_ok.Lts as lts
-use Rattle.decimal.proofs.Decimal.of_word.Reads as of-word-reads
 
 of-word-requires : tie.Need-of-word-requires
 of-word-requires c κs = search needs

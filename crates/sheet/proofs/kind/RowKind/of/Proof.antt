@@ -3,8 +3,6 @@ use borrow.Author.Tests.{ne-eqb}
 use Rattle.sheet.specs.Kinds.{kindOf}
 use Rattle.sheet.proofs.kind.RowKind.of.Statement.{statement}
 use Rattle.sheet.proofs.kind.RowKind.of.Tie as tie
-use Rattle.sheet.proofs.kind.RowKind.of.Reads as reads
-use Rattle.sheet.proofs.kind.RowKind.of.Lts as lts
 
 returns : tie.Need-returns
 unfolding kindOf

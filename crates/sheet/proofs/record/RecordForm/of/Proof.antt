@@ -5,9 +5,6 @@ use Rattle.sheet.proofs.Trailers.{trailer-facts}
 use borrow.Author.Needs.{needs}
 use Rattle.sheet.proofs.record.RecordForm.of.Statement.{statement}
 use Rattle.sheet.proofs.record.RecordForm.of.Tie as tie
-use Rattle.sheet.proofs.record.RecordForm.of.Reads as reads
-use Rattle.sheet.proofs.record.RecordForm.of.Lts as lts
-use Rattle.sheet.proofs.record.wide.Reads as wide-reads
 
 sub-wide : tie.Need-sub-wide
 sub-wide c = omega (arith, trailer-facts (c .before .args .words .now) (c .before .pre) .long, trailer-facts (c .before .args .words .now) (c .before .pre) .room, trailer-facts (c .before .args .words .now) (c .before .pre) .back-is)

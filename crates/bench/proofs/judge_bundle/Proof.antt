@@ -1,0 +1,124 @@
+-- `judge_bundle` stays within the bundle: its lengths add up where its parts are taken. Assumes nothing.
+use native.Mathlib.Omega.{arith}
+use mathlib.Core.Path.{sym}
+use lib.Seq.{length-take-le}
+use borrow.Author.Needs.{needs}
+use Rattle.bench.proofs.judge_bundle.Statement.{statement}
+use Rattle.bench.proofs.judge_bundle.Tie as tie
+
+bad-bundle-requires : tie.Need-bad-bundle-requires
+bad-bundle-requires c κs = search needs
+
+returns : tie.Need-returns
+returns c = search needs
+
+bad-bundle-requires-2 : tie.Need-bad-bundle-requires-2
+bad-bundle-requires-2 c κs = search needs
+
+returns-2 : tie.Need-returns-2
+returns-2 c = search needs
+
+number-at-requires : tie.Need-number-at-requires
+number-at-requires c κs = search needs
+
+sub-number-at : tie.Need-sub-number-at
+sub-number-at c = search needs
+
+number-at-requires-2 : tie.Need-number-at-requires-2
+number-at-requires-2 c κs = search needs
+
+sub-number-at-2 : tie.Need-sub-number-at-2
+sub-number-at-2 c = search needs
+
+number-at-requires-3 : tie.Need-number-at-requires-3
+number-at-requires-3 c κs = search needs
+
+sub-number-at-3 : tie.Need-sub-number-at-3
+sub-number-at-3 c = search needs
+
+number-at-requires-4 : tie.Need-number-at-requires-4
+number-at-requires-4 c κs = search needs
+
+add-if3 : tie.Need-add-if3
+add-if3 c = search needs
+
+add-if3-2 : tie.Need-add-if3-2
+add-if3-2 c = search needs
+
+add-if3-3 : tie.Need-add-if3-3
+add-if3-3 c = search needs
+
+add-if3-4 : tie.Need-add-if3-4
+add-if3-4 c = search needs
+
+bad-bundle-requires-3 : tie.Need-bad-bundle-requires-3
+bad-bundle-requires-3 c κs = search needs
+
+returns-3 : tie.Need-returns-3
+returns-3 c = search needs
+
+bad-bundle-requires-4 : tie.Need-bad-bundle-requires-4
+bad-bundle-requires-4 c κs = search needs
+
+returns-4 : tie.Need-returns-4
+returns-4 c = search needs
+
+bad-bundle-requires-5 : tie.Need-bad-bundle-requires-5
+bad-bundle-requires-5 c κs = search needs
+
+returns-5 : tie.Need-returns-5
+returns-5 c = search needs
+
+slice-aggregate-judge-parts : tie.Need-slice-aggregate-judge-parts
+slice-aggregate-judge-parts c = sym (length-take-le _ _ (omega arith))
+
+add-judge-parts : tie.Need-add-judge-parts
+add-judge-parts c = search needs
+
+sub-judge-parts : tie.Need-sub-judge-parts
+sub-judge-parts c = search needs
+
+part-judge-parts-start : tie.Need-part-judge-parts-start
+part-judge-parts-start c = search needs
+
+part-judge-parts-end : tie.Need-part-judge-parts-end
+part-judge-parts-end c = search needs
+
+judge-parts-requires : tie.Need-judge-parts-requires
+judge-parts-requires c κs = rw (length-take-le (c .before .before .before .before .before .before .before .before .number-at .result) (c .before .before .before .before .before .before .before .before .before .before .before .before .args .bundle .now) (omega arith)) (omega arith)
+
+returns-6 : tie.Need-returns-6
+returns-6 c = search needs
+
+pub judge-bundle-spec : {M : Type 1} → statement M
+judge-bundle-spec =
+    tie.close
+    (tie.spec
+    bad-bundle-requires
+    returns
+    bad-bundle-requires-2
+    returns-2
+    number-at-requires
+    sub-number-at
+    number-at-requires-2
+    sub-number-at-2
+    number-at-requires-3
+    sub-number-at-3
+    number-at-requires-4
+    add-if3
+    add-if3-2
+    add-if3-3
+    add-if3-4
+    bad-bundle-requires-3
+    returns-3
+    bad-bundle-requires-4
+    returns-4
+    bad-bundle-requires-5
+    returns-5
+    slice-aggregate-judge-parts
+    add-judge-parts
+    sub-judge-parts
+    part-judge-parts-start
+    part-judge-parts-end
+    judge-parts-requires
+    returns-6)
