@@ -11,7 +11,7 @@ use native.Mathlib.Omega.{arith}
 use lib.ListN.{length}
 use Rattle.laws.proofs.Tests.{le-or-lt, decide}
 use Rattle.sheet.specs.declared.record.RecordForm.{RecordForm}
-use Rattle.sheet.specs.Lowest.{lowest}
+use Rattle.laws.specs.Lowest.{lowest}
 use Rattle.sheet.specs.Refusals.{Outcome, accepted, refused}
 use Rattle.sheet.specs.Record.{rowsWord, docOf}
 use Rattle.sheet.specs.Faults.{wordsOk, textOk, atFault, repeated, tooDeep, recordOutcome}

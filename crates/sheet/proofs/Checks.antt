@@ -7,18 +7,19 @@ use mathlib.Core.Bool.{true, false, _&&_}
 use mathlib.Core.List.{List}
 use mathlib.Core.Path.{_≡_, sym}
 use Prim.Native.Nat.{ℕ, _≤_, _<_}
+use native.Mathlib.Nat.{zero-add}
 use native.Mathlib.Omega.{arith}
 use lib.Dec.{eqb, leb}
 use lib.ListN.{length}
 use borrow.Author.Tests.{lt-ltb, le-ltb, eqb-true, not-false}
 use Rattle.laws.proofs.Tests.{left, right}
 use Rattle.sheet.specs.declared.record.RecordForm.{RecordForm}
-use Rattle.sheet.specs.Lowest.{lowest}
+use Rattle.laws.specs.Lowest.{lowest}
 use Rattle.sheet.specs.Refusals.{accepted, refused, firstLine}
 use Rattle.sheet.specs.Record.{rowsWord, textWord, docOf}
 use Rattle.sheet.specs.Faults.{text-max, wordsOk, textOk, rowOk, atFault, repeated, tooDeep, recordOutcome}
 use Rattle.sheet.specs.Accepted.{Formed, Laid}
-use Rattle.sheet.proofs.Searches.{clear-below}
+use Rattle.laws.proofs.Searches.{clear-below}
 use Rattle.sheet.proofs.Trailers.{form-rows}
 
 pub laid-out : (ws : List ℕ) (form : RecordForm) → Formed ws form → rowsWord ws ≤ lowest (atFault ws) (rowsWord ws) → Laid ws form
@@ -47,12 +48,12 @@ module _ (ws ts : List ℕ) where
 
     pub at-row : (place : ℕ) → place ≡ lowest (atFault ws) (rowsWord ws) → place < rowsWord ws → recordOutcome ws ts ≡ refused 2 place
     unfolding recordOutcome firstLine
-    at-row place e h = rw (good, ← e, lt-ltb place (rowsWord ws) h)
+    at-row place e h = rw (good, ← e, lt-ltb place (rowsWord ws) h, zero-add)
 
     module _ (no-fault : rowsWord ws ≤ lowest (atFault ws) (rowsWord ws)) where
       pub at-name : (place : ℕ) → place ≡ lowest (repeated (docOf ws ts)) (rowsWord ws) → place < rowsWord ws → recordOutcome ws ts ≡ refused 3 place
       unfolding recordOutcome firstLine
-      at-name place e h = rw (good, le-ltb (lowest (atFault ws) (rowsWord ws)) (rowsWord ws) no-fault, ← e, lt-ltb place (rowsWord ws) h)
+      at-name place e h = rw (good, le-ltb (lowest (atFault ws) (rowsWord ws)) (rowsWord ws) no-fault, ← e, lt-ltb place (rowsWord ws) h, zero-add)
 
       module _ (no-name : rowsWord ws ≤ lowest (repeated (docOf ws ts)) (rowsWord ws)) where
         pub at-level : (place : ℕ) → place ≡ lowest (tooDeep ws) (rowsWord ws) → place < rowsWord ws → recordOutcome ws ts ≡ refused 4 place
@@ -64,6 +65,7 @@ module _ (ws ts : List ℕ) where
               le-ltb (lowest (repeated (docOf ws ts)) (rowsWord ws)) (rowsWord ws) no-name,
               ← e,
               lt-ltb place (rowsWord ws) h,
+              zero-add,
             )
 
         pub no-line : rowsWord ws ≤ lowest (tooDeep ws) (rowsWord ws) → recordOutcome ws ts ≡ accepted (rowsWord ws)

@@ -1,4 +1,3 @@
-pub mod Searches
 pub mod Levels
 pub mod Trailers
 pub mod Strangers

@@ -13,14 +13,14 @@ use borrow.Author.Tests.{eqb-true, eqb-false, ltb-false, not-false}
 use Rattle.laws.proofs.Tests.{decide}
 use Rattle.text.specs.Part.{sameBytes}
 use Rattle.text.proofs.Bytes.{eq-same}
-use Rattle.sheet.specs.Lowest.{lowestFrom}
+use Rattle.laws.specs.Lowest.{lowestFrom}
 use Rattle.sheet.specs.Kinds.{kindOf, holdsChildren, isObjectKind}
 use Rattle.sheet.specs.Refusals.{accepted}
 use Rattle.sheet.specs.Doc.{Child, isObject, firstChild, childCount, level}
 use Rattle.sheet.specs.Record.{rowsWord, textWord, rowAt, ownerAt, valueBy, docOf}
 use Rattle.sheet.specs.Faults.{stranger, ownsOk, rowOk, atFault, twin, repeated, tooDeep, level-refused, recordOutcome}
 use Rattle.sheet.specs.Accepted.{WellFormed}
-use Rattle.sheet.proofs.Searches.{clear-below}
+use Rattle.laws.proofs.Searches.{clear-below}
 use Rattle.sheet.proofs.Levels.{level-root, level-under}
 use Rattle.sheet.proofs.Trailers.{trailer-facts}
 use Rattle.sheet.proofs.Rows.{row-facts, children-facts, place-facts}

@@ -13,7 +13,7 @@ use Rattle.text.specs.Part.{fits, part, fingerprintOf}
 use Rattle.sheet.specs.declared.record.RecordForm.{RecordForm}
 use Rattle.sheet.specs.declared.record.Children.{Children}
 use Rattle.sheet.specs.declared.layout.Pass.{Pass}
-use Rattle.sheet.specs.Lowest.{lowest}
+use Rattle.laws.specs.Lowest.{lowest}
 use Rattle.sheet.specs.Refusals.{accepted}
 use Rattle.sheet.specs.Doc.{Doc, number, string, firstChild, childCount, Child, isObject, level}
 use Rattle.sheet.specs.Record.{rows-max, rowsWord, textWord, formOf, docOf}

@@ -10,7 +10,7 @@ use Rattle.text.specs.Part.{fits, sameBytes}
 use Rattle.sheet.specs.declared.kind.RowKind.{RowKind}
 use Rattle.sheet.specs.declared.kind.RowKind.the-variants.{Null, False, True, Number, String, Array, Object}
 use Rattle.sheet.specs.declared.record.Row.{Row}
-use Rattle.sheet.specs.Lowest.{lowestFrom}
+use Rattle.laws.specs.Lowest.{lowestFrom}
 use Rattle.sheet.specs.Kinds.{isKind, kindOf, holdsChildren, numberOk}
 use Rattle.sheet.specs.Refusals.{Outcome, Line, lowestLine, firstLine}
 use Rattle.sheet.specs.Doc.{Doc, isObject, firstChild, level}
@@ -47,15 +47,19 @@ inRange first count i = leb first i && ltb i (first + count)
 abbrev pub childrenOk : ℕ → ℕ → ℕ → ℕ → Bool
 childrenOk n j first count = none first count || (ltb 0 count && (ltb j first && leb (first + count) n))
 
--- what a row of a kind may hold, over a text of `size` bytes
+-- what a row of kinds 0 to 4 may hold, over a text of `size` bytes
+abbrev pub scalarOk : RowKind → ℕ → ℕ → ℕ → Bool
+scalarOk Null size first count = none first count
+scalarOk False size first count = none first count
+scalarOk True size first count = none first count
+scalarOk Number size first count = numberOk first count
+scalarOk String size first count = fits size (record { start = first; length = count })
+scalarOk Array size first count = false
+scalarOk Object size first count = false
+
+-- what a row of any kind may hold
 abbrev pub contentOk : RowKind → ℕ → ℕ → ℕ → ℕ → ℕ → Bool
-contentOk Null size n j first count = none first count
-contentOk False size n j first count = none first count
-contentOk True size n j first count = none first count
-contentOk Number size n j first count = numberOk first count
-contentOk String size n j first count = fits size (record { start = first; length = count })
-contentOk Array size n j first count = childrenOk n j first count
-contentOk Object size n j first count = childrenOk n j first count
+contentOk kind size n j first count = cond (holdsChildren kind) (childrenOk n j first count) (scalarOk kind size first count)
 
 -- the label of a child of such an owner: a name within the text under an object, none under an array; nothing else has children
 abbrev pub labelOk : RowKind → ℕ → Range → Bool
@@ -126,9 +130,9 @@ tooDeep ws j = eqb (level (ownerAt ws) j) level-refused
 abbrev pub recordLines : List ℕ → List ℕ → List Line
 recordLines ws ts =
     record { number = 1; applies = not (wordsOk ws && textOk ws (length ts)); place = 0 }
-    ∷ lowestLine 2 (rowsWord ws) (atFault ws)
-    ∷ lowestLine 3 (rowsWord ws) (repeated (docOf ws ts))
-    ∷ lowestLine 4 (rowsWord ws) (tooDeep ws)
+    ∷ lowestLine 2 0 (rowsWord ws) (atFault ws)
+    ∷ lowestLine 3 0 (rowsWord ws) (repeated (docOf ws ts))
+    ∷ lowestLine 4 0 (rowsWord ws) (tooDeep ws)
     ∷ []
 
 -- what the record check gives

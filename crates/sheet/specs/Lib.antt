@@ -1,5 +1,4 @@
 -- In reading order.
-pub mod Lowest
 pub mod Kinds
 pub mod Refusals
 pub mod Doc

@@ -2,11 +2,11 @@
 -- Assumes nothing.
 use mathlib.Core.Bool.{Bool, cond}
 use mathlib.Core.List.{List, [], _∷_}
-use Prim.Native.Nat.{ℕ}
+use Prim.Native.Nat.{ℕ, _+_}
 use lib.Dec.{ltb}
-use Rattle.sheet.specs.Lowest.{lowest}
+use Rattle.laws.specs.Lowest.{lowest}
 use Rattle.sheet.specs.declared.refusal.Refusal.{Refusal}
-use Rattle.sheet.specs.declared.refusal.Refusal.the-variants.{RecordTrailer, RecordLayout, RepeatedName, TooDeep}
+use Rattle.sheet.specs.declared.refusal.Refusal.the-variants.{RecordTrailer, RecordLayout, RepeatedName, TooDeep, RuleTrailer, RuleLayout, RepeatedEntry, UnguardedLoop, LongChain}
 use Rattle.sheet.specs.declared.refusal.Checked.{Checked}
 use Rattle.sheet.specs.declared.refusal.Checked.the-variants.{Accepted, Refused}
 
@@ -16,8 +16,13 @@ refusalNumber RecordTrailer = 1
 refusalNumber RecordLayout = 2
 refusalNumber RepeatedName = 3
 refusalNumber TooDeep = 4
+refusalNumber RuleTrailer = 5
+refusalNumber RuleLayout = 6
+refusalNumber RepeatedEntry = 7
+refusalNumber UnguardedLoop = 8
+refusalNumber LongChain = 9
 
--- what a check gives: the number of rows, or a refusal's number and place
+-- what a check gives: the number of rows (of the record, or of the rules: the schemas), or a refusal's number and place
 pub data Outcome : Type 0 where
   accepted : ℕ → Outcome
   refused : ℕ → ℕ → Outcome
@@ -33,9 +38,9 @@ pub record Line : Type 0 where
   pub applies : Bool
   pub place : ℕ
 
--- a line that applies where one of n places passes the test, and gives the lowest
-abbrev pub lowestLine : ℕ → ℕ → (ℕ → Bool) → Line
-lowestLine number n test = record { number = number; applies = ltb (lowest test n) n; place = lowest test n }
+-- a line that applies where one of n things passes the test, and gives the lowest; places count the things `before` them first
+abbrev pub lowestLine : ℕ → ℕ → ℕ → (ℕ → Bool) → Line
+lowestLine number before n test = record { number = number; applies = ltb (lowest test n) n; place = before + lowest test n }
 
 -- the first line that applies, or else what acceptance gives
 unfoldable pub firstLine : List Line → ℕ → Outcome

@@ -5,7 +5,7 @@ ghost use mathlib.Core.Path.{_≡_};
 ghost use Prim.Native.Nat.{_+_, _≤_, _<_};
 ghost use lib.Dec.{eqb, ltb};
 ghost use Rattle.sheet.specs.Record.{textWord};
-ghost use Rattle.sheet.specs.Faults.{trailerFits, wordsOk, textOk, childrenOk, contentOk, fieldsOk, labelOk, placedUnder, placeOk, stranger, ownsOk, rowOk, level-refused};
+ghost use Rattle.sheet.specs.Faults.{trailerFits, wordsOk, textOk, childrenOk, scalarOk, contentOk, fieldsOk, labelOk, placedUnder, placeOk, stranger, ownsOk, rowOk, level-refused};
 ghost use Rattle.sheet.specs.Accepted.{Formed, Passed};
 use crate::kind::RowKind;
 use crate::record::RecordForm;
@@ -60,9 +60,10 @@ fn children_ok(n: u32, j: u32, first: u32, count: u32) -> bool
         | ((0 < count) & ((j < first) & (first as usize + count as usize <= n as usize)))
 }
 
-// Whether row j of n may hold this, over a text of `size` bytes.
-fn content_ok(kind: RowKind, size: usize, n: u32, j: u32, first: u32, count: u32) -> bool
-    ensures { λ r. ⌜ r ≡ contentOk kind size n j first count ⌝ }
+// Whether a row of this kind, which is none of array and object, may hold this, over a text of
+// `size` bytes.
+pub fn scalar_ok(kind: RowKind, size: usize, first: u32, count: u32) -> bool
+    ensures { λ r. ⌜ r ≡ scalarOk kind size first count ⌝ }
 {
     match kind {
         RowKind::Null => (first == 0) & (count == 0),
@@ -76,9 +77,19 @@ fn content_ok(kind: RowKind, size: usize, n: u32, j: u32, first: u32, count: u32
             };
             text::range_fits(size, range)
         }
-        RowKind::Array => children_ok(n, j, first, count),
-        RowKind::Object => children_ok(n, j, first, count),
+        RowKind::Array => false,
+        RowKind::Object => false,
     }
+}
+
+// Whether row j of n may hold this, over a text of `size` bytes.
+fn content_ok(kind: RowKind, size: usize, n: u32, j: u32, first: u32, count: u32) -> bool
+    ensures { λ r. ⌜ r ≡ contentOk kind size n j first count ⌝ }
+{
+    if kind.holds_children() {
+        return children_ok(n, j, first, count);
+    }
+    scalar_ok(kind, size, first, count)
 }
 
 // Whether the row's kind is known and its fields are what that kind may hold.

@@ -4,7 +4,7 @@
 ghost use mathlib.Core.Path.{_≡_};
 ghost use Prim.Native.Nat.{_+_, _<_};
 ghost use lib.ListN.{length};
-ghost use Rattle.sheet.specs.Lowest.{lowest};
+ghost use Rattle.laws.specs.Lowest.{lowest};
 ghost use Rattle.sheet.specs.Record.{rowsWord, textWord, docOf};
 ghost use Rattle.sheet.specs.Faults.{repeated, twin};
 ghost use Rattle.sheet.specs.Accepted.{Laid, Printed};

@@ -40,7 +40,7 @@ pub struct Children {
 }
 
 // A word as a number that can be an index.
-pub(crate) fn wide(word: u32) -> usize
+pub fn wide(word: u32) -> usize
     ensures { λ r. ⌜ r ≡ word ⌝ }
 {
     word as usize

@@ -8,9 +8,14 @@ pub enum Refusal {
     RecordLayout,
     RepeatedName,
     TooDeep,
+    RuleTrailer,
+    RuleLayout,
+    RepeatedEntry,
+    UnguardedLoop,
+    LongChain,
 }
 
-// What a check gives: the number of rows, or the refusal and its place.
+// What a check gives: the number of rows (of rules, the schemas), or the refusal and its place.
 pub enum Checked {
     Accepted(u32),
     Refused(Refusal, u32),
@@ -26,6 +31,11 @@ impl Refusal {
             Refusal::RecordLayout => 2,
             Refusal::RepeatedName => 3,
             Refusal::TooDeep => 4,
+            Refusal::RuleTrailer => 5,
+            Refusal::RuleLayout => 6,
+            Refusal::RepeatedEntry => 7,
+            Refusal::UnguardedLoop => 8,
+            Refusal::LongChain => 9,
         }
     }
 }

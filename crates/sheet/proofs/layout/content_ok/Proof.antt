@@ -1,81 +1,30 @@
--- `content_ok` meets its contract, kind by kind. Assumes nothing.
+-- `content_ok` meets its contract, for a kind that can have children and for one that cannot. Assumes nothing.
+use mathlib.Core.Path.{_≡_, refl, sym, ap, _∙_}
 use borrow.Author.Needs.{needs}
 use Rattle.sheet.proofs.layout.content_ok.Statement.{statement}
 use Rattle.sheet.proofs.layout.content_ok.Tie as tie
+use Rattle.sheet.proofs.layout.content_ok.Reads as reads
+use Rattle.sheet.proofs.layout.content_ok.Lts as lts
+use Rattle.sheet.proofs.kind.RowKind.holds_children.Reads as holds-children-reads
+use Rattle.sheet.proofs.layout.children_ok.Reads as children-ok-reads
+use Rattle.sheet.proofs.layout.scalar_ok.Reads as scalar-ok-reads
 
-enum-told : tie.Need-enum-told
-enum-told c = search needs
-
-enum-told-2 : tie.Need-enum-told-2
-enum-told-2 c = search needs
-
-enum-told-3 : tie.Need-enum-told-3
-enum-told-3 c = search needs
-
-enum-told-4 : tie.Need-enum-told-4
-enum-told-4 c = search needs
-
-number-ok-requires : tie.Need-number-ok-requires
-number-ok-requires c κs = search needs
-
-enum-told-5 : tie.Need-enum-told-5
-enum-told-5 c = search needs
-
-range-fits-requires : tie.Need-range-fits-requires
-range-fits-requires c κs = search needs
-
-enum-told-6 : tie.Need-enum-told-6
-enum-told-6 c = search needs
+holds-children-requires : tie.Need-holds-children-requires
+holds-children-requires c κs = search needs
 
 children-ok-requires : tie.Need-children-ok-requires
 children-ok-requires c κs = search needs
 
-enum-told-7 : tie.Need-enum-told-7
-enum-told-7 c = search needs
-
-children-ok-requires-2 : tie.Need-children-ok-requires-2
-children-ok-requires-2 c κs = search needs
-
 returns : tie.Need-returns
-returns c = rw (c .enum-told .given .1)
+returns c = rw (sym (c .before .before .holds-children .ensures) ∙ c .before .if1 .taken) (c .children-ok .ensures)
+
+scalar-ok-requires : tie.Need-scalar-ok-requires
+scalar-ok-requires c κs = search needs
 
 returns-2 : tie.Need-returns-2
-returns-2 c = rw (c .enum-told2 .given .1)
-
-returns-3 : tie.Need-returns-3
-returns-3 c = rw (c .enum-told3 .given .1)
-
-returns-4 : tie.Need-returns-4
-returns-4 c = rw (c .before .enum-told4 .given .1) (c .number-ok .ensures)
-
-returns-5 : tie.Need-returns-5
-returns-5 c = rw (c .before .enum-told5 .given .1) (c .range-fits .ensures)
-
-returns-6 : tie.Need-returns-6
-returns-6 c = rw (c .before .enum-told6 .given .1) (c .children-ok .ensures)
-
-returns-7 : tie.Need-returns-7
-returns-7 c = rw (c .before .enum-told7 .given .1) (c .children-ok2 .ensures)
+returns-2 c = rw (sym (c .before .before .holds-children .ensures) ∙ c .before .if1 .left) (c .scalar-ok .ensures)
 
 pub content-ok-spec : {M : Type 1} → statement M
 content-ok-spec =
     tie.close
-    (tie.spec
-    enum-told
-    enum-told-2
-    enum-told-3
-    enum-told-4
-    number-ok-requires
-    enum-told-5
-    range-fits-requires
-    enum-told-6
-    children-ok-requires
-    enum-told-7
-    children-ok-requires-2
-    returns
-    returns-2
-    returns-3
-    returns-4
-    returns-5
-    returns-6
-    returns-7)
+    (tie.spec holds-children-requires children-ok-requires returns scalar-ok-requires returns-2)

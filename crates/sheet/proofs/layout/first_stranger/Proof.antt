@@ -6,7 +6,7 @@ use mathlib.Core.Bool.{not}
 use lib.Dec.{eqb}
 use Rattle.sheet.specs.Record.{ownerAt}
 use Rattle.sheet.specs.Faults.{stranger}
-use Rattle.sheet.proofs.Searches.{left, begun, found, passed, ended}
+use Rattle.laws.proofs.Searches.{left, begun, found, passed, ended}
 use Rattle.sheet.proofs.Strangers.{stranger-here, none-here}
 use Rattle.sheet.proofs.Trailers.{form-few}
 use Rattle.sheet.proofs.layout.first_stranger.Statement.{statement}

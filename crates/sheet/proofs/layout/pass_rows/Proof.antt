@@ -6,11 +6,11 @@ use borrow.Author.Tests.{not-false}
 use Prim.Native.Nat.{_-_, _≤_}
 use native.Mathlib.Nat.{sub-zero}
 use Rattle.sheet.specs.declared.record.Row.{Row}
-use Rattle.sheet.specs.Lowest.{lowest}
+use Rattle.laws.specs.Lowest.{lowest}
 use Rattle.sheet.specs.Doc.{levels}
 use Rattle.sheet.specs.Record.{rows-max, rowsWord, ownerAt}
 use Rattle.sheet.specs.Faults.{atFault, tooDeep}
-use Rattle.sheet.proofs.Searches.{left, found, passed, ended, Seen, seen-none, seen-more, seen-end}
+use Rattle.laws.proofs.Searches.{left, found, passed, ended, Seen, seen-none, seen-more, seen-end}
 use Rattle.sheet.proofs.Levels.{filled, table-small, table-level, table-more}
 use Rattle.sheet.proofs.Trailers.{form-rows, form-few}
 use Rattle.sheet.proofs.Rows.{owner-inside}

@@ -4,11 +4,11 @@ use mathlib.Core.Path.{_≡_, refl, sym, _∙_}
 use Prim.Native.Nat.{_-_, _≤_}
 use native.Mathlib.Nat.{sub-zero}
 use lib.ListN.{length, length-set}
-use Rattle.sheet.specs.Lowest.{lowest}
+use Rattle.laws.specs.Lowest.{lowest}
 use Rattle.sheet.specs.Record.{rows-max, docOf}
 use Rattle.sheet.specs.Faults.{repeated}
 use Rattle.sheet.specs.Accepted.{Printed}
-use Rattle.sheet.proofs.Searches.{left, found, passed, ended}
+use Rattle.laws.proofs.Searches.{left, found, passed, ended}
 use Rattle.sheet.proofs.Trailers.{form-rows, form-few}
 use Rattle.sheet.proofs.Twins.{label-in-text, printed-none, printed-more}
 use borrow.Author.Needs.{needs}

@@ -6,7 +6,7 @@ use Prim.Native.Nat.{_+_, _-_}
 use Rattle.text.specs.Part.{sameBytes}
 use Rattle.sheet.specs.Record.{docOf}
 use Rattle.sheet.specs.Faults.{twin}
-use Rattle.sheet.proofs.Searches.{left, found, passed, ended}
+use Rattle.laws.proofs.Searches.{left, found, passed, ended}
 use Rattle.sheet.proofs.Trailers.{form-few}
 use Rattle.sheet.proofs.Twins.{label-in-text, same-names, prints-differ}
 use borrow.Author.Needs.{needs}

@@ -5,17 +5,20 @@
 --     Seen, seen-none, seen-more, seen-end    the first place seen so far, kept by a loop that goes on
 --     clear-below      the test holds nowhere before the place that was found
 --     holds-at         it holds at that place
+--     at-least, at-most-end    where that place lies
+--     search-on, search-ends   a search in two parts
+--     lowest-is                the place that is found, by what is true of it
 -- Assumes nothing.
 use mathlib.Core.Bool.{Bool, true, false, cond}
 use mathlib.Core.Logic.{⊎-elim}
-use mathlib.Core.Path.{_≡_, sym, _∙_}
+use mathlib.Core.Path.{_≡_, sym, ap, _∙_}
 use Prim.Native.Nat.{ℕ, zero, suc, _+_, _-_, _≤_, _<_}
-use native.Mathlib.Nat.{eq-or-lt-of-le, sub-zero}
+use native.Mathlib.Nat.{eq-or-lt-of-le, sub-zero, add-zero, zero-add}
 use native.Mathlib.Omega.{arith}
 use lib.Dec.{ltb}
 use borrow.Author.Tests.{lt-ltb, le-ltb}
 use Rattle.laws.proofs.Tests.{le-or-lt, decide}
-use Rattle.sheet.specs.Lowest.{lowestFrom, lowest}
+use Rattle.laws.specs.Lowest.{lowestFrom, lowest}
 
 -- of the numbers up to, not including, `end`
 abbrev pub left : (ℕ → Bool) → ℕ → ℕ → ℕ
@@ -63,6 +66,30 @@ clear-below test (suc many) from i low high before =
   where
     at-hit : test from ≡ true → ⊥
     at-hit t = let b : i < from = rw (hit test many from t) at before in omega arith
+
+pub at-least : (test : ℕ → Bool) (many from : ℕ) → from ≤ lowestFrom test many from
+unfolding lowestFrom
+at-least test zero from = omega arith
+at-least test (suc many) from =
+    ⊎-elim
+    (λ (t : test from ≡ true). rw (hit test many from t) (omega arith))
+    (λ (t : test from ≡ false). rw (miss test many from t) (omega (arith, at-least test many (from + 1))))
+    (decide (test from))
+
+pub holds-at : (test : ℕ → Bool) (many from : ℕ) → lowestFrom test many from < from + many → test (lowestFrom test many from) ≡ true
+unfolding lowestFrom
+holds-at test zero from h = absurd (nothing h)
+  where
+    nothing : from < from + 0 → ⊥
+    nothing l = omega arith
+holds-at test (suc many) from h =
+    ⊎-elim
+    (λ (t : test from ≡ true). rw (hit test many from t) t)
+    (λ (t : test from ≡ false).
+    let e = miss test many from t in
+    let inside : lowestFrom test many (from + 1) < (from + 1) + many = omega arith in
+    rw e (holds-at test many (from + 1) inside))
+    (decide (test from))
 
 pub at-most-end : (test : ℕ → Bool) (many from : ℕ) → lowestFrom test many from ≤ from + many
 unfolding lowestFrom
@@ -115,3 +142,44 @@ seen-end test n i seen h g s =
     (λ (l : n ≤ seen). let e : seen ≡ i = omega (arith, s .seen-within) in e ∙ sym ((rw (le-ltb seen n l) at (s .seen-is)) ∙ ended test n i h))
     (λ (l : seen < n). sym (rw (lt-ltb seen n l) at (s .seen-is)))
     (le-or-lt n seen)
+
+-- ---- a search in two parts, up to `mid` and from there on
+
+-- d numbers from a on at which the test fails are passed
+pub skipped : (test : ℕ → Bool) (end d a : ℕ) → a + d ≤ end → ((i : ℕ) → a ≤ i → i < a + d → test i ≡ false) → left test end a ≡ left test end (a + d)
+skipped test end zero a h none = rw add-zero
+skipped test end (suc d) a h none =
+    let e : (a + 1) + d ≡ a + suc d = omega arith in
+    passed test end a (omega arith) (none a (omega arith) (omega arith))
+    ∙ skipped test end d (a + 1) (omega arith) (λ i l g. none i (omega arith) (omega arith))
+    ∙ ap (λ (k : ℕ). left test end k) e
+
+module _ (test : ℕ → Bool) (end mid a : ℕ) (h : a ≤ mid) (g : mid ≤ end) where
+  -- nothing is found in the first part
+  pub search-on : mid ≤ left test mid a → left test end a ≡ left test end mid
+  search-on none =
+      let e : a + (mid - a) ≡ mid = omega arith in
+      skipped test end (mid - a) a (omega arith)
+      (λ i l k. clear-below test (mid - a) a i l k (omega arith))
+      ∙ ap (λ (k : ℕ). left test end k) e
+
+  -- something is, and ends the search
+  pub search-ends : left test mid a < mid → left test end a ≡ left test mid a
+  search-ends some =
+      let r = left test mid a in
+      let low = at-least test (mid - a) a in
+      let e : a + (r - a) ≡ r = omega arith in
+      skipped test end (r - a) a (omega arith)
+      (λ i l k. clear-below test (mid - a) a i l (omega arith) (omega arith))
+      ∙ ap (λ (k : ℕ). left test end k) e
+      ∙ found test end r (omega arith) (holds-at test (mid - a) a (omega arith))
+
+-- what is found is the only place before which the test fails everywhere, and at which it holds
+pub lowest-is : (test : ℕ → Bool) (n r : ℕ) → r ≤ n → ((i : ℕ) → i < r → test i ≡ false) → (r < n → test r ≡ true) → r ≡ lowest test n
+lowest-is test n r h before here =
+    let e : n - 0 ≡ n = omega arith in
+    let all : left test n 0 ≡ left test n r = skipped test n r 0 (omega arith) (λ i l k. before i (omega arith)) ∙ ap (λ (k : ℕ). left test n k) (zero-add r) in
+    sym (ap (λ (k : ℕ). lowestFrom test k 0) (sym e) ∙ all ∙ at-end)
+  where
+    at-end : left test n r ≡ r
+    at-end = ⊎-elim (λ (q : r ≡ n). ended test n r (omega arith)) (λ (l : r < n). found test n r l (here l)) (eq-or-lt-of-le h)
