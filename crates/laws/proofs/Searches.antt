@@ -6,12 +6,12 @@
 --     clear-below      the test holds nowhere before the place that was found
 --     holds-at         it holds at that place
 --     at-least, at-most-end    where that place lies
---     search-on, search-ends   a search in two parts
+--     search-on, search-ends, part-ends, part-passed   a search in two parts
 --     lowest-is                the place that is found, by what is true of it
 -- Assumes nothing.
 use mathlib.Core.Bool.{Bool, true, false, cond}
 use mathlib.Core.Logic.{⊎-elim}
-use mathlib.Core.Path.{_≡_, sym, ap, _∙_}
+use mathlib.Core.Path.{_≡_, refl, sym, ap, _∙_}
 use Prim.Native.Nat.{ℕ, zero, suc, _+_, _-_, _≤_, _<_}
 use native.Mathlib.Nat.{eq-or-lt-of-le, sub-zero, add-zero, zero-add}
 use native.Mathlib.Omega.{arith}
@@ -183,3 +183,25 @@ lowest-is test n r h before here =
   where
     at-end : left test n r ≡ r
     at-end = ⊎-elim (λ (q : r ≡ n). ended test n r (omega arith)) (λ (l : r < n). found test n r l (here l)) (eq-or-lt-of-le h)
+
+-- the search through the `many` numbers from a on gave r: it ends the search up to n, or that goes on after them
+module _ (test : ℕ → Bool) (n many a r : ℕ) (within : a + many ≤ n) (e : r ≡ lowestFrom test many a) where
+  part : r ≡ left test (a + many) a
+  part = e ∙ begun test many a
+
+  pub part-ends : r < a + many → left test n a ≡ r
+  part-ends some = search-ends test n (a + many) a (omega arith) within (omega (arith, part)) ∙ sym part
+
+  pub part-passed : a + many ≤ r → left test n a ≡ left test n (a + many)
+  part-passed none = search-on test n (a + many) a (omega arith) within (omega (arith, part))
+
+-- the search stops at i, or there is nothing left
+pub stops : (test : ℕ → Bool) (n i : ℕ) → (i < n → test i ≡ true) → left test n i ≡ i
+stops test n i here = ⊎-elim (λ (l : n ≤ i). ended test n i l) (λ (l : i < n). found test n i l (here l)) (le-or-lt n i)
+
+-- two tests that say the same of the numbers searched find the same
+pub alike : (s t : ℕ → Bool) (many from : ℕ) → ((i : ℕ) → from ≤ i → i < from + many → s i ≡ t i) → lowestFrom s many from ≡ lowestFrom t many from
+unfolding lowestFrom
+alike s t zero from same = refl
+alike s t (suc many) from same =
+    rw (same from (omega arith) (omega arith), alike s t many (from + 1) (λ i l g. same i (omega arith) (omega arith)))

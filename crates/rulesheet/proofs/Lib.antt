@@ -1,0 +1,6 @@
+pub mod Trailers
+pub mod Lines
+pub mod Schemas
+pub mod Runs
+pub mod Taking
+pub mod Reaching

@@ -1,0 +1,146 @@
+-- The unguarded steps of a clause, by its code's shape and its words; the text does not matter for them.
+--     targets-are        a clause's steps, by the row and the shape that were read
+--     same-next          the steps of a schema, over any text
+--     next-is            they are its clauses' steps in turn
+-- Assumes nothing.
+use mathlib.Core.Bool.{Bool, true, false, cond}
+use mathlib.Core.List.{List, [], _∷_, map}
+use mathlib.Core.Logic.{⊎-elim}
+use mathlib.Core.Path.{_≡_, refl, sym, ap, _∙_}
+use Prim.Native.Nat.{ℕ, zero, suc, _+_, _<_}
+use native.Mathlib.Nat.{add-zero}
+use native.Mathlib.Omega.{arith}
+use lib.Dec.{eqb}
+use lib.ListN.{length, getD, length-map}
+use Rattle.laws.proofs.Tests.{decide}
+use Rattle.rulesheet.specs.declared.code.Shape.{Shape}
+use Rattle.rulesheet.specs.declared.form.ClauseRow.{ClauseRow}
+use Rattle.rulesheet.specs.declared.form.EntryRow.{EntryRow}
+use Rattle.rulesheet.specs.Ruleset.{unguarded}
+use Rattle.rulesheet.specs.Codes.{Parts, Line, codes, unknown, pickLine, lineIn, shapeOf, meansOf}
+use Rattle.rulesheet.specs.Sheet.{clauseAt, entryAt, run, clauseOf, targetsOf}
+use Rattle.rulesheet.specs.Faults.{isList}
+
+-- ---- runs of numbers
+
+pub run-long : (many from : ℕ) → length (run many from) ≡ many
+unfolding run
+run-long zero from = refl
+run-long (suc many) from = ap suc (run-long many (from + 1))
+
+pub run-at : (many from i : ℕ) → i < many → getD (run many from) i 0 ≡ from + i
+unfolding run
+run-at zero from i h = absurd (nothing h)
+  where
+    nothing : i < 0 → ⊥
+    nothing l = omega arith
+run-at (suc many) from zero h = sym (add-zero from)
+run-at (suc many) from (suc i) h = run-at many (from + 1) i (omega arith) ∙ omega arith
+
+-- what stands at a place of a list that was mapped
+map-at : {A B : Type 0} (f : A → B) (xs : List A) (i : ℕ) (d : A) (e : B) → i < length xs → getD (map f xs) i e ≡ f (getD xs i d)
+map-at f [] i d e h = absurd (nothing h)
+  where
+    nothing : i < 0 → ⊥
+    nothing l = omega arith
+map-at f (x ∷ xs) zero d e h = refl
+map-at f (x ∷ xs) (suc i) d e h = map-at f xs i d e (omega arith)
+
+-- ---- a fact about every line of the table
+
+data Every (P : Line → Type 0) : List Line → Type 0 where
+  done : Every P []
+  and : {line : Line} {lines : List Line} → P line → Every P lines → Every P (line ∷ lines)
+
+in-table : (P : Line → Type 0) (lines : List Line) (code : ℕ) → P unknown → Every P lines → P (lineIn lines code)
+unfolding lineIn
+in-table P [] code u done = u
+in-table P (line ∷ lines) code u (and p ps) = pick (eqb code (line .code)) (in-table P lines code u ps)
+  where
+    pick : (b : Bool) → P (lineIn lines code) → P (pickLine b line (lineIn lines code))
+    pick true q = p
+    pick false q = q
+
+-- the steps of a clause of this shape
+abbrev pub byShape : Shape → Parts → List ℕ
+byShape shape p = cond (shape .unguarded) (cond (isList (shape .fields)) (map (λ (e : EntryRow). e .first) (p .entries)) (p .first ∷ [])) []
+
+Shaped : Line → Type 0
+Shaped line = (p : Parts) → unguarded (line .means p) ≡ byShape (line .shape) p
+
+table-shaped : Every Shaped codes
+unfolding Shaped
+table-shaped = and (λ p. refl) (and (λ p. refl) (and (λ p. refl) (and (λ p. refl) (and (λ p. refl) (and (λ p. refl) (and (λ p. refl) (and (λ p. refl) (and (λ p. refl) (and (λ p. refl) (and (λ p. refl) (and (λ p. refl) (and (λ p. refl) (and (λ p. refl) (and (λ p. refl) (and (λ p. refl) (and (λ p. refl) (and (λ p. refl) (and (λ p. refl) (and (λ p. refl) (and (λ p. refl) (and (λ p. refl) (and (λ p. refl) (and (λ p. refl) (and (λ p. refl) (and (λ p. refl) done)))))))))))))))))))))))))
+
+pub shaped : (code : ℕ) (p : Parts) → unguarded (meansOf code p) ≡ byShape (shapeOf code) p
+unfolding Shaped
+shaped code = in-table Shaped codes code (λ p. refl) table-shaped
+
+-- ---- a clause's steps
+
+abbrev partsAt : List ℕ → List ℕ → ℕ → Parts
+partsAt ws ts k =
+    record {
+      text = ts;
+      first = clauseAt ws k .first;
+      count = clauseAt ws k .count;
+      entries = map (entryAt ws) (run (clauseAt ws k .count) (clauseAt ws k .first));
+    }
+
+pub steps-over : (ws ts : List ℕ) (k : ℕ) → unguarded (clauseOf ws ts k) ≡ targetsOf ws k
+unfolding clauseOf targetsOf
+steps-over ws ts k = shaped (clauseAt ws k .code) (partsAt ws ts k) ∙ sym (shaped (clauseAt ws k .code) (partsAt ws [] k))
+
+pub targets-are : (ws : List ℕ) (k : ℕ) → targetsOf ws k ≡ byShape (shapeOf (clauseAt ws k .code)) (partsAt ws [] k)
+unfolding clauseOf targetsOf
+targets-are ws k = shaped (clauseAt ws k .code) (partsAt ws [] k)
+
+-- the schemas of the clause's entries
+abbrev listed : List ℕ → ClauseRow → List ℕ
+listed ws row = map (λ (e : EntryRow). e .first) (map (entryAt ws) (run (row .count) (row .first)))
+
+module _ (ws : List ℕ) (k : ℕ) (row : ClauseRow) (shape : Shape) (read : row ≡ clauseAt ws k) (known : shape ≡ shapeOf (row .code)) where
+  by-row : targetsOf ws k ≡ cond (shape .unguarded) (cond (isList (shape .fields)) (listed ws row) (row .first ∷ [])) []
+  by-row = targets-are ws k ∙ rw (known, read)
+
+  is-none : shape .unguarded ≡ false → targetsOf ws k ≡ []
+  is-none g = by-row ∙ rw g
+
+  is-list : shape .unguarded ≡ true → isList (shape .fields) ≡ true → targetsOf ws k ≡ listed ws row
+  is-list g l = by-row ∙ rw (g, l)
+
+  is-one : shape .unguarded ≡ true → isList (shape .fields) ≡ false → targetsOf ws k ≡ row .first ∷ []
+  is-one g l = by-row ∙ rw (g, l)
+
+  pub no-steps : shape .unguarded ≡ false → length (targetsOf ws k) ≡ 0
+  no-steps g = ap length (is-none g)
+
+  pub list-steps : shape .unguarded ≡ true → isList (shape .fields) ≡ true → length (targetsOf ws k) ≡ row .count
+  list-steps g l = ap length (is-list g l) ∙ simp (length-map, run-long)
+
+  pub one-step : shape .unguarded ≡ true → isList (shape .fields) ≡ false → length (targetsOf ws k) ≡ 1
+  one-step g l = ap length (is-one g l)
+
+  -- a clause with a step is unguarded
+  pub has-step : (i : ℕ) → i < length (targetsOf ws k) → shape .unguarded ≡ true
+  has-step i h =
+      ⊎-elim (λ (g : shape .unguarded ≡ true). g) (λ (g : shape .unguarded ≡ false). absurd (omega (arith, no-steps g))) (decide (shape .unguarded))
+
+  listed-at : (i : ℕ) → i < row .count → getD (listed ws row) i 0 ≡ entryAt ws (row .first + i) .first
+  listed-at i h =
+      let none : EntryRow = record { first = 0; second = 0; third = 0 } in
+      let inside : i < length (run (row .count) (row .first)) = omega (arith, run-long (row .count) (row .first)) in
+      map-at (λ (e : EntryRow). e .first) (map (entryAt ws) (run (row .count) (row .first))) i none 0 (simp length-map inside)
+      ∙ ap (λ (e : EntryRow). e .first) (map-at (entryAt ws) (run (row .count) (row .first)) i 0 none inside)
+      ∙ ap (λ (x : ℕ). entryAt ws x .first) (run-at (row .count) (row .first) i h)
+
+  pub list-step : (i : ℕ) → i < length (targetsOf ws k) → isList (shape .fields) ≡ true → entryAt ws (row .first + i) .first ≡ getD (targetsOf ws k) i 0
+  list-step i h l =
+      let g = has-step i h in
+      sym (ap (λ (t : List ℕ). getD t i 0) (is-list g l) ∙ listed-at i (omega (arith, list-steps g l)))
+
+  pub other-step : (i : ℕ) → i < length (targetsOf ws k) → isList (shape .fields) ≡ false → row .first ≡ getD (targetsOf ws k) i 0
+  other-step i h l =
+      let g = has-step i h in
+      let z : i ≡ 0 = omega (arith, one-step g l) in
+      sym (ap (λ (t : List ℕ). getD t i 0) (is-one g l) ∙ rw z)

@@ -1,0 +1,125 @@
+// What belongs to a code: its fields. Nothing else in the code knows a code's number but the reader
+// of clauses; `specs/Codes.antt` has 01's table.
+ghost use mathlib.Core.Path.{_≡_};
+ghost use Rattle.rulesheet.specs.Codes.{guardedShape, inPlaceShape, shapeOf};
+ghost use Rattle.rulesheet.specs.Faults.{isList, isNamed};
+
+// What a clause's first and count are, or what the entries are that they name.
+pub enum Fields {
+    Unknown,
+    Bare,
+    Types,
+    Number,
+    Positive,
+    Limit,
+    Schema,
+    Values,
+    Names,
+    Schemas,
+    Members,
+}
+
+// A code's fields, how many entries it has at least, and whether it applies its schemas to the row
+// itself.
+pub struct Shape {
+    pub fields: Fields,
+    pub least: u32,
+    pub unguarded: bool,
+}
+
+impl Shape {
+    // The shape of a code, `Fields::Unknown` where there is no such code.
+    pub fn of(code: u32) -> Shape
+        ensures { λ r. ⌜ r ≡ shapeOf code ⌝ }
+    {
+        match code {
+            1 => Shape::guarded(Fields::Bare, 0),
+            2 => Shape::guarded(Fields::Types, 0),
+            3 => Shape::guarded(Fields::Values, 1),
+            10 => Shape::guarded(Fields::Number, 0),
+            11 => Shape::guarded(Fields::Number, 0),
+            12 => Shape::guarded(Fields::Number, 0),
+            13 => Shape::guarded(Fields::Number, 0),
+            14 => Shape::guarded(Fields::Positive, 0),
+            20 => Shape::guarded(Fields::Limit, 0),
+            21 => Shape::guarded(Fields::Limit, 0),
+            22 => Shape::guarded(Fields::Limit, 0),
+            23 => Shape::guarded(Fields::Limit, 0),
+            24 => Shape::guarded(Fields::Limit, 0),
+            25 => Shape::guarded(Fields::Limit, 0),
+            26 => Shape::guarded(Fields::Names, 0),
+            30 => Shape::in_place(Fields::Schemas, 1),
+            31 => Shape::in_place(Fields::Schemas, 1),
+            32 => Shape::in_place(Fields::Schemas, 1),
+            33 => Shape::in_place(Fields::Schema, 0),
+            34 => Shape::in_place(Fields::Schema, 0),
+            40 => Shape::guarded(Fields::Members, 0),
+            42 => Shape::guarded(Fields::Schema, 0),
+            43 => Shape::guarded(Fields::Schemas, 1),
+            44 => Shape::guarded(Fields::Schema, 0),
+            60 => Shape::guarded(Fields::Schema, 0),
+            61 => Shape::guarded(Fields::Schema, 0),
+            _ => Shape::guarded(Fields::Unknown, 0),
+        }
+    }
+
+    fn guarded(fields: Fields, least: u32) -> Shape
+        ensures { λ r. ⌜ r ≡ guardedShape fields least ⌝ }
+    {
+        Shape {
+            fields: fields,
+            least: least,
+            unguarded: false,
+        }
+    }
+
+    fn in_place(fields: Fields, least: u32) -> Shape
+        ensures { λ r. ⌜ r ≡ inPlaceShape fields least ⌝ }
+    {
+        Shape {
+            fields: fields,
+            least: least,
+            unguarded: true,
+        }
+    }
+}
+
+impl Fields {
+    // Whether the fields are a list of entries.
+    pub fn is_list(self) -> bool
+        ensures { λ r. ⌜ r ≡ isList self ⌝ }
+    {
+        match self {
+            Fields::Unknown => false,
+            Fields::Bare => false,
+            Fields::Types => false,
+            Fields::Number => false,
+            Fields::Positive => false,
+            Fields::Limit => false,
+            Fields::Schema => false,
+            Fields::Values => true,
+            Fields::Names => true,
+            Fields::Schemas => true,
+            Fields::Members => true,
+        }
+    }
+
+    // Whether they are a list of things with names, each of which may stand once only.
+    pub fn is_named(self) -> bool
+        ensures { λ r. ⌜ r ≡ isNamed self ⌝ }
+    {
+        match self {
+            Fields::Unknown => false,
+            Fields::Bare => false,
+            Fields::Types => false,
+            Fields::Number => false,
+            Fields::Positive => false,
+            Fields::Limit => false,
+            Fields::Schema => false,
+            Fields::Values => false,
+            Fields::Names => true,
+            Fields::Schemas => false,
+            Fields::Members => true,
+        }
+    }
+}
