@@ -4,3 +4,4 @@ pub mod Schemas
 pub mod Runs
 pub mod Taking
 pub mod Reaching
+pub mod Repeating

@@ -96,6 +96,9 @@ module _ (ws : List ℕ) (form : RuleForm) (formed : RulesFormed ws form) where
   pub entry-inside : (x : ℕ) → x < form .e → form .entries + entry-words * x + entry-words ≤ length ws
   entry-inside x h = let t = facts in omega (arith, form-e, entries-start, t .back-is, t .room)
 
+  pub entries-end : form .entries + entry-words * entriesWord ws ≤ length ws
+  entries-end = let t = facts in omega (arith, entries-start, t .back-is, t .room)
+
   abbrev pub schemaFrom : ℕ → SchemaRow
   schemaFrom at = record { first = getD ws at 0; count = getD ws (at + 1) 0 }
 

@@ -5,9 +5,10 @@ use mathlib.Core.List.{List}
 use Prim.Native.Nat.{ℕ, zero, suc, _+_, _-_, _*_}
 use lib.Dec.{eqb, leb, ltb}
 use lib.ListN.{length}
-use Rattle.laws.specs.Lowest.{lowest, lowestFrom}
+use Rattle.laws.specs.Lowest.{lowest}
 use Rattle.decimal.specs.Value.{scale-max}
-use Rattle.text.specs.Part.{fits, sameBytes}
+use Rattle.text.specs.Part.{fits}
+use Rattle.names.specs.Names.{repeatsBy}
 use Rattle.sheet.specs.Kinds.{isKind, kindOf, number-max, numberOk}
 use Rattle.sheet.specs.Faults.{none, inRange, scalarOk, text-max}
 use Rattle.rulesheet.specs.declared.code.Fields.{Fields}
@@ -167,9 +168,7 @@ isNamed Members = true
 
 -- ---- 7: a name that an earlier entry of the clause has
 
--- the lowest entry from `first` on, and before entry x, that has entry x's name, or where these entries end
-abbrev pub twin : List ℕ → List ℕ → ℕ → ℕ → ℕ
-twin ws ts first x = lowestFrom (λ y. sameBytes (entryName ts (entryAt ws y)) (entryName ts (entryAt ws x))) (x - first) first
-
 unfoldable pub repeated : List ℕ → List ℕ → ℕ → Bool
-repeated ws ts x = isNamed (fieldsAt ws (listOver ws x)) && ltb (twin ws ts (clauseAt ws (listOver ws x) .first) x) x
+repeated ws ts x =
+    let first = clauseAt ws (listOver ws x) .first in
+    isNamed (fieldsAt ws (listOver ws x)) && repeatsBy (λ i. entryName ts (entryAt ws (first + i))) (x - first)

@@ -5,4 +5,5 @@
 pub mod code;
 pub mod form;
 pub mod layout;
+pub mod repeats;
 pub mod steps;

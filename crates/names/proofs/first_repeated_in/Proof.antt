@@ -7,7 +7,7 @@ use lib.ListN.{length, length-set}
 use borrow.Author.Tests.{lt-ltb, le-ltb}
 use Rattle.names.specs.Names.{repeatsAt}
 use Rattle.names.specs.Prints.{Printed}
-use Rattle.names.proofs.Passing.{Passing, begin, here, further, nowhere}
+use Rattle.laws.proofs.Passing.{Passing, begin, here, further, nowhere}
 use Rattle.names.proofs.Printing.{printed-none, printed-more}
 use Rattle.names.proofs.Repeats.{repeats-is}
 use borrow.Author.Needs.{needs}

@@ -5,7 +5,7 @@ use mathlib.Core.Path.{sym, _∙_}
 use Prim.Native.Nat.{_-_}
 use native.Mathlib.Omega.{arith}
 use Rattle.names.specs.Names.{nameAt, sameAs}
-use Rattle.names.proofs.Passing.{Passing, begin, here, further, nowhere}
+use Rattle.laws.proofs.Passing.{Passing, begin, here, further, nowhere}
 use Rattle.names.proofs.Printing.{prints-differ}
 use borrow.Author.Needs.{needs}
 use Rattle.names.proofs.first_same.Statement.{statement}

@@ -1,0 +1,140 @@
+-- The names of a list clause's entries, as names that lie among the words.
+--     names-lie          they lie as the search for a repeated name asks
+--     found-named        that search gives the lowest repeated entry of the clause
+--     found-unnamed      entries that have no names repeat none
+--     all-taken          the lists take all the entries
+-- Assumes nothing.
+use mathlib.Core.Bool.{true, false, _&&_}
+use mathlib.Core.List.{List}
+use mathlib.Core.Path.{_≡_, sym, ap, _∙_}
+use mathlib.Core.Logic.{⊎-elim}
+use Prim.Native.Nat.{ℕ, _+_, _-_, _*_, _≤_, _<_}
+use native.Mathlib.Nat.{add-zero}
+use native.Mathlib.Omega.{arith}
+use lib.Dec.{eqb, ltb}
+use lib.ListN.{length}
+use Rattle.laws.specs.Lowest.{lowest, lowestFrom}
+use Rattle.laws.proofs.Tests.{le-or-lt, left}
+use Rattle.laws.proofs.Searches.{alike, shifted, none-found}
+use Rattle.text.specs.declared.Range.{Range}
+use Rattle.text.specs.Part.{fits, part}
+use Rattle.names.specs.declared.Names.{Names}
+use Rattle.names.specs.Names.{rangeAt, nameAt, repeatsBy, repeatsAt, Lying}
+use Rattle.names.proofs.Repeats.{repeats-agree}
+use Rattle.rulesheet.specs.declared.code.Fields.{Fields}
+use Rattle.rulesheet.specs.declared.code.Fields.the-variants.{Unknown, Bare, Types, Number, Positive, Limit, Schema, Values, Names as NamesOf, Schemas, Members}
+use Rattle.rulesheet.specs.declared.form.EntryRow.{EntryRow}
+use Rattle.rulesheet.specs.declared.form.RuleForm.{RuleForm}
+use Rattle.rulesheet.specs.Codes.{entryName}
+use Rattle.rulesheet.specs.Sheet.{entry-words, schemasWord, clausesWord, entriesWord, textWord, formOf, clauseAt, entryAt}
+use Rattle.rulesheet.specs.Faults.{isList, isNamed, fieldsAt, entryOk, listStart, repeated}
+use Rattle.rulesheet.specs.Read.{RulesLaid}
+use Rattle.rulesheet.proofs.Trailers.{facts, form-c, form-e, entry-inside}
+use Rattle.rulesheet.proofs.Taking.{list-facts, list-over, entry-taken, entry-untaken, lists-within}
+
+-- where an entry's name stands
+abbrev pub entryRange : EntryRow → Range
+entryRange e = record { start = e .first; length = e .second }
+
+-- an entry with a name has it within the text
+named-fits : (fields : Fields) (size m : ℕ) (e : EntryRow) → isNamed fields ≡ true → entryOk fields size m e ≡ true → fits size (entryRange e) ≡ true
+named-fits Unknown size m e n t = cc
+named-fits Bare size m e n t = cc
+named-fits Types size m e n t = cc
+named-fits Number size m e n t = cc
+named-fits Positive size m e n t = cc
+named-fits Limit size m e n t = cc
+named-fits Schema size m e n t = cc
+named-fits Values size m e n t = cc
+named-fits NamesOf size m e n t = left (fits size (entryRange e)) (eqb (e .third) 0) t
+named-fits Schemas size m e n t = cc
+named-fits Members size m e n t = left (fits size (entryRange e)) (ltb (e .third) m) t
+
+module _ (ws ts : List ℕ) (form : RuleForm) (laid : RulesLaid ws form) where
+  clause-below : (k : ℕ) → k < form .c → k < clausesWord ws
+  clause-below k h = omega (arith, form-c ws form (laid .clauses-laid .schemas-laid .formed))
+
+  -- no entry is left over
+  pub all-taken : listStart ws (clausesWord ws) ≡ entriesWord ws
+  all-taken =
+      let e = form-e ws form (laid .clauses-laid .schemas-laid .formed) in
+      let low = lists-within ws form (laid .clauses-laid) (clausesWord ws) (omega arith) in
+      ⊎-elim (λ (l : entriesWord ws ≤ listStart ws (clausesWord ws)). omega arith)
+      (λ (l : listStart ws (clausesWord ws) < entriesWord ws). absurd (left-over l))
+      (le-or-lt (entriesWord ws) (listStart ws (clausesWord ws)))
+    where
+      left-over : listStart ws (clausesWord ws) < entriesWord ws → ⊥
+      left-over l =
+          let e = form-e ws form (laid .clauses-laid .schemas-laid .formed) in
+          let bad = entry-untaken ws form (laid .clauses-laid) (listStart ws (clausesWord ws)) (omega arith) in
+          let z : _≡_ {A = ℕ} 0 1 = cc (laid .entries-fine (listStart ws (clausesWord ws)) (omega arith)) in
+          omega arith
+
+  -- the search through clause k, whose entries start at `first`
+  module _ (k : ℕ) (h : k < form .c) (list : isList (fieldsAt ws k) ≡ true) where
+    below : k < clausesWord ws
+    below = clause-below k h
+
+    pub ends-within : clauseAt ws k .first + clauseAt ws k .count ≤ entriesWord ws
+    ends-within = list-facts ws k (laid .clauses-laid .clauses-fine k h) list .list-within
+
+    pub repeated-at : (i : ℕ) → i < clauseAt ws k .count
+        → repeated ws ts (clauseAt ws k .first + i)
+        ≡ (isNamed (fieldsAt ws k) && repeatsBy (λ j. entryName ts (entryAt ws (clauseAt ws k .first + j))) i)
+    unfolding repeated
+    repeated-at i l =
+        let e : (clauseAt ws k .first + i) - clauseAt ws k .first ≡ i = omega arith in
+        rw (list-over ws form (laid .clauses-laid) k (clauseAt ws k .first + i) below list (omega arith) (omega arith), e)
+
+    pub found-unnamed : isNamed (fieldsAt ws k) ≡ false
+        → clauseAt ws k .first + clauseAt ws k .count ≡ lowestFrom (repeated ws ts) (clauseAt ws k .count) (clauseAt ws k .first)
+    found-unnamed none =
+        sym (none-found (repeated ws ts) (clauseAt ws k .count) (clauseAt ws k .first) no-name)
+      where
+        no-name : (x : ℕ) → clauseAt ws k .first ≤ x → x < clauseAt ws k .first + clauseAt ws k .count → repeated ws ts x ≡ false
+        no-name x low high =
+            let e : clauseAt ws k .first + (x - clauseAt ws k .first) ≡ x = omega arith in
+            ap (λ (y : ℕ). repeated ws ts y) (sym e) ∙ repeated-at (x - clauseAt ws k .first) (omega arith) ∙ rw none
+
+    -- the clause's names, among the words
+    module _ (names : Names) (at-base : names .base ≡ form .entries + entry-words * clauseAt ws k .first) (by : names .stride ≡ entry-words) (all : names .count ≡ clauseAt ws k .count) where
+      pub range-is : (i : ℕ) → rangeAt ws names i ≡ entryRange (entryAt ws (clauseAt ws k .first + i))
+      unfolding entryAt
+      range-is i =
+          let s = ap (λ (f : RuleForm). f .entries) (laid .clauses-laid .schemas-laid .formed .same-form) in
+          let e : form .entries + entry-words * clauseAt ws k .first + entry-words * i ≡ formOf ws .entries + entry-words * (clauseAt ws k .first + i) + 0 = omega arith in
+          let g : form .entries + entry-words * clauseAt ws k .first + entry-words * i + 1 ≡ formOf ws .entries + entry-words * (clauseAt ws k .first + i) + 1 = omega arith in
+          rw (at-base, by, g, e)
+
+      name-is : (i : ℕ) → nameAt ws ts names i ≡ entryName ts (entryAt ws (clauseAt ws k .first + i))
+      name-is i = ap (part ts) (range-is i)
+
+      pub names-lie : length ts ≡ textWord ws → isNamed (fieldsAt ws k) ≡ true → Lying ws ts names
+      names-lie text named =
+          let formed = laid .clauses-laid .schemas-laid .formed in
+          record {
+            inside =
+                λ (i : ℕ) (l : i < names .count).
+                rw (at-base, by)
+                (omega (arith, entry-inside ws form formed (clauseAt ws k .first + i) (omega (arith, form-e ws form formed, ends-within))));
+            fitting =
+                λ (i : ℕ) (l : i < names .count).
+                let x = clauseAt ws k .first + i in
+                let ok = entry-taken ws form (laid .clauses-laid) k x below list (omega arith) (omega arith) in
+                rw (text, range-is i)
+                (named-fits (fieldsAt ws k) (textWord ws) (schemasWord ws) (entryAt ws x) named
+                (sym ok ∙ laid .entries-fine x (omega (arith, form-e ws form formed, ends-within))));
+            few = omega (arith, facts ws form formed .few-entries, ends-within);
+          }
+
+      pub found-named : (r : ℕ) → isNamed (fieldsAt ws k) ≡ true → r ≡ lowest (repeatsAt ws ts names) (names .count)
+          → clauseAt ws k .first + r ≡ lowestFrom (repeated ws ts) (clauseAt ws k .count) (clauseAt ws k .first)
+      found-named r named e =
+          ap (λ (n : ℕ). clauseAt ws k .first + n) (e ∙ rw all (alike (repeatsAt ws ts names) (λ i. repeated ws ts (clauseAt ws k .first + i)) (clauseAt ws k .count) 0 agree))
+          ∙ sym (shifted (repeated ws ts) (clauseAt ws k .count) (clauseAt ws k .first) 0)
+          ∙ ap (λ (a : ℕ). lowestFrom (repeated ws ts) (clauseAt ws k .count) a) (add-zero (clauseAt ws k .first))
+        where
+          agree : (i : ℕ) → 0 ≤ i → i < 0 + clauseAt ws k .count → repeatsAt ws ts names i ≡ repeated ws ts (clauseAt ws k .first + i)
+          agree i low high =
+              repeats-agree (nameAt ws ts names) (λ j. entryName ts (entryAt ws (clauseAt ws k .first + j))) i (λ j l. name-is j)
+              ∙ sym (repeated-at i (omega arith) ∙ rw named)
