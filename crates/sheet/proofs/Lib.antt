@@ -3,7 +3,8 @@ pub mod Trailers
 pub mod Strangers
 pub mod Rows
 pub mod Values
-pub mod Twins
+pub mod Owners
+pub mod Siblings
 pub mod Checks
 pub mod Acceptance
 pub mod Shape

@@ -64,6 +64,11 @@ module _ (ws : List ℕ) (form : RecordForm) (formed : Formed ws form) where
       let t = trailer-facts ws (formed .trailer) in
       omega (arith, form-rows, form-start, t .long, t .back-is, t .room)
 
+  pub rows-end : form .start + row-words * form .rows + trailer-words ≤ length ws
+  rows-end =
+      let t = trailer-facts ws (formed .trailer) in
+      omega (arith, form-rows, form-start, t .long, t .back-is, t .room)
+
   -- the six words from `at` on, by name
   abbrev pub rowFrom : ℕ → Row
   rowFrom at =

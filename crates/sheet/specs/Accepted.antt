@@ -1,15 +1,14 @@
 -- What the checks give to those who read a sheet after them. Each is a premise of the readers, or a conclusion about the record that they read.
 -- Assumes nothing.
-use mathlib.Core.Bool.{true}
+use mathlib.Core.Bool.{true, false}
 use mathlib.Core.List.{List}
 use mathlib.Core.Path.{_≡_}
 use Prim.Native.Nat.{ℕ, _+_, _≤_, _<_}
 use lib.IntN.{ℤ}
-use lib.ListN.{getD}
 use Rattle.decimal.specs.declared.Decimal.{Decimal}
 use Rattle.decimal.specs.Value.{value, Plain}
 use Rattle.text.specs.declared.Range.{Range}
-use Rattle.text.specs.Part.{fits, part, fingerprintOf}
+use Rattle.text.specs.Part.{fits, part}
 use Rattle.sheet.specs.declared.record.RecordForm.{RecordForm}
 use Rattle.sheet.specs.declared.record.Children.{Children}
 use Rattle.sheet.specs.declared.layout.Pass.{Pass}
@@ -17,7 +16,7 @@ use Rattle.laws.specs.Lowest.{lowest}
 use Rattle.sheet.specs.Refusals.{accepted}
 use Rattle.sheet.specs.Doc.{Doc, number, string, firstChild, childCount, Child, isObject, level}
 use Rattle.sheet.specs.Record.{rows-max, rowsWord, textWord, formOf, docOf}
-use Rattle.sheet.specs.Faults.{wordsOk, rowOk, atFault, tooDeep, level-refused, recordOutcome}
+use Rattle.sheet.specs.Faults.{wordsOk, rowOk, atFault, repeated, tooDeep, level-refused, recordOutcome}
 
 -- the form is that of these words, and their trailer is in order
 pub record Formed (ws : List ℕ) (form : RecordForm) : Type 0 where
@@ -39,9 +38,11 @@ pub record Passed (ws : List ℕ) (pass : Pass) : Type 0 where
   pub fault-is : pass .fault ≡ lowest (atFault ws) (rowsWord ws)
   pub deep-is : rowsWord ws ≤ pass .fault → pass .deep ≡ lowest (tooDeep ws) (rowsWord ws)
 
--- the first n prints are the fingerprints of the rows' names
-pub record Printed (d : Doc) (prints : List ℕ) (n : ℕ) : Type 0 where
-  pub print : (k : ℕ) → k < n → getD prints k 0 ≡ fingerprintOf (d .name k)
+-- r is the lower of `least` and the lowest child of row o whose name an earlier one has
+pub record Lowered (d : Doc) (o least r : ℕ) : Type 0 where
+  pub lower : r ≤ least
+  pub clear : (j : ℕ) → Child d o j → j < r → repeated d j ≡ false
+  pub found-one : r < least → repeated d r ≡ true
 
 -- ---- what the readers give of row j, whatever the text
 

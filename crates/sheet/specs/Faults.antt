@@ -6,7 +6,8 @@ use Prim.Native.Nat.{ℕ, _+_, _-_, _*_}
 use lib.Dec.{eqb, leb, ltb}
 use lib.ListN.{length}
 use Rattle.text.specs.declared.Range.{Range}
-use Rattle.text.specs.Part.{fits, sameBytes}
+use Rattle.text.specs.Part.{fits}
+use Rattle.names.specs.Names.{repeatsBy}
 use Rattle.sheet.specs.declared.kind.RowKind.{RowKind}
 use Rattle.sheet.specs.declared.kind.RowKind.the-variants.{Null, False, True, Number, String, Array, Object}
 use Rattle.sheet.specs.declared.record.Row.{Row}
@@ -108,13 +109,11 @@ atFault ws j = not (rowOk ws j)
 
 -- ---- 3: a name that an earlier sibling has
 
--- the lowest row from `first` on, and before row j, that has row j's name, or where these rows end
-abbrev pub twin : Doc → ℕ → ℕ → ℕ
-twin d first j = lowestFrom (λ k. sameBytes (d .name k) (d .name j)) (j - first) first
-
 -- an earlier child of the same object has row j's name
 unfoldable pub repeated : Doc → ℕ → Bool
-repeated d j = let siblings = d .value (d .owner j) in isObject siblings && ltb (twin d (firstChild siblings) j) j
+repeated d j =
+    let siblings = d .value (d .owner j) in
+    isObject siblings && repeatsBy (λ i. d .name (firstChild siblings + i)) (j - firstChild siblings)
 
 -- ---- 4: a row too deep
 

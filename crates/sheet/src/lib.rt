@@ -5,9 +5,9 @@
 // `Accepted`.
 pub mod kind;
 pub mod layout;
-pub mod names;
 pub mod record;
 pub mod refusal;
+pub mod repeats;
 
 ghost use mathlib.Core.Path.{_≡_};
 ghost use Rattle.sheet.specs.Refusals.{outcomeOf};
@@ -31,7 +31,7 @@ pub fn check_record(words: &[u32], text: &[u8]) -> Checked
     if fault < rows {
         return Checked::Refused(Refusal::RecordLayout, fault);
     }
-    let again = names::first_repeated(words, text, form);
+    let again = repeats::first_repeated(words, text, form);
     if again < rows {
         return Checked::Refused(Refusal::RepeatedName, again);
     }

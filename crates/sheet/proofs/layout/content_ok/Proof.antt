@@ -1,13 +1,8 @@
 -- `content_ok` meets its contract, for a kind that can have children and for one that cannot. Assumes nothing.
-use mathlib.Core.Path.{_≡_, refl, sym, ap, _∙_}
+use mathlib.Core.Path.{sym, _∙_}
 use borrow.Author.Needs.{needs}
 use Rattle.sheet.proofs.layout.content_ok.Statement.{statement}
 use Rattle.sheet.proofs.layout.content_ok.Tie as tie
-use Rattle.sheet.proofs.layout.content_ok.Reads as reads
-use Rattle.sheet.proofs.layout.content_ok.Lts as lts
-use Rattle.sheet.proofs.kind.RowKind.holds_children.Reads as holds-children-reads
-use Rattle.sheet.proofs.layout.children_ok.Reads as children-ok-reads
-use Rattle.sheet.proofs.layout.scalar_ok.Reads as scalar-ok-reads
 
 holds-children-requires : tie.Need-holds-children-requires
 holds-children-requires c κs = search needs

@@ -2,10 +2,6 @@
 use borrow.Author.Needs.{needs}
 use Rattle.sheet.proofs.layout.scalar_ok.Statement.{statement}
 use Rattle.sheet.proofs.layout.scalar_ok.Tie as tie
-use Rattle.sheet.proofs.layout.scalar_ok.Reads as reads
-use Rattle.sheet.proofs.layout.scalar_ok.Lts as lts
-use Rattle.sheet.proofs.kind.RowKind.number_ok.Reads as number-ok-reads
-use Rattle.text.proofs.range_fits.Reads as range-fits-reads
 
 enum-told : tie.Need-enum-told
 enum-told c = search needs
