@@ -3,9 +3,9 @@
 --     at-trailer, at-row, at-name, at-level    the four refusals
 --     no-line                                  acceptance
 -- Assumes nothing.
-use mathlib.Core.Bool.{true, false, _&&_}
-use mathlib.Core.List.{List}
-use mathlib.Core.Path.{_≡_, sym}
+use mathlib.Core.Bool.{true, false, not, _&&_}
+use mathlib.Core.List.{List, [], _∷_}
+use mathlib.Core.Path.{_≡_, sym, ap, _∙_}
 use Prim.Native.Nat.{ℕ, _≤_, _<_}
 use native.Mathlib.Nat.{zero-add}
 use native.Mathlib.Omega.{arith}
@@ -15,11 +15,12 @@ use borrow.Author.Tests.{lt-ltb, le-ltb, eqb-true, not-false}
 use Rattle.laws.proofs.Tests.{left, right}
 use Rattle.sheet.specs.declared.record.RecordForm.{RecordForm}
 use Rattle.laws.specs.Lowest.{lowest}
-use Rattle.sheet.specs.Refusals.{accepted, refused, firstLine}
+use Rattle.sheet.specs.Refusals.{accepted, refused, Line, lowestLine, firstLine}
 use Rattle.sheet.specs.Record.{rowsWord, textWord, docOf}
 use Rattle.sheet.specs.Faults.{text-max, wordsOk, textOk, rowOk, atFault, repeated, tooDeep, recordOutcome}
 use Rattle.sheet.specs.Accepted.{Formed, Laid}
 use Rattle.laws.proofs.Searches.{clear-below}
+use Rattle.sheet.proofs.Tables.{test-passed, test-given, line-passed, line-given}
 use Rattle.sheet.proofs.Trailers.{form-rows}
 
 pub laid-out : (ws : List ℕ) (form : RecordForm) → Formed ws form → rowsWord ws ≤ lowest (atFault ws) (rowsWord ws) → Laid ws form
@@ -32,10 +33,20 @@ laid-out ws form formed none =
           not-false (rowOk ws j) (clear-below (atFault ws) (rowsWord ws) 0 j (omega arith) (omega arith) (omega arith));
     }
 
+-- the table's lines 2 to 4
+abbrev rowLine : List ℕ → Line
+rowLine ws = lowestLine 2 0 (rowsWord ws) (atFault ws)
+
+abbrev nameLine : List ℕ → List ℕ → Line
+nameLine ws ts = lowestLine 3 0 (rowsWord ws) (repeated (docOf ws ts))
+
+abbrev levelLine : List ℕ → Line
+levelLine ws = lowestLine 4 0 (rowsWord ws) (tooDeep ws)
+
 module _ (ws ts : List ℕ) where
   pub at-trailer : (wordsOk ws && textOk ws (length ts)) ≡ false → recordOutcome ws ts ≡ refused 1 0
-  unfolding recordOutcome firstLine
-  at-trailer bad = rw bad
+  unfolding recordOutcome
+  at-trailer bad = test-given _ _ (rowsWord ws) (ap not bad)
 
   module _ (good : (wordsOk ws && textOk ws (length ts)) ≡ true) where
     pub words-in-order : wordsOk ws ≡ true
@@ -46,34 +57,27 @@ module _ (ws ts : List ℕ) where
         sym (eqb-true (textWord ws) (length ts)
         (left (eqb (textWord ws) (length ts)) (leb (length ts) text-max) (right (wordsOk ws) (textOk ws (length ts)) good)))
 
+    past-trailer : recordOutcome ws ts ≡ firstLine (rowLine ws ∷ nameLine ws ts ∷ levelLine ws ∷ []) (rowsWord ws)
+    unfolding recordOutcome
+    past-trailer = test-passed _ _ (rowsWord ws) (ap not good)
+
     pub at-row : (place : ℕ) → place ≡ lowest (atFault ws) (rowsWord ws) → place < rowsWord ws → recordOutcome ws ts ≡ refused 2 place
-    unfolding recordOutcome firstLine
-    at-row place e h = rw (good, ← e, lt-ltb place (rowsWord ws) h, zero-add)
+    at-row place e h = past-trailer ∙ line-given 2 0 (rowsWord ws) (atFault ws) _ (rowsWord ws) place e h ∙ ap (refused 2) (zero-add place)
 
     module _ (no-fault : rowsWord ws ≤ lowest (atFault ws) (rowsWord ws)) where
+      past-rows : recordOutcome ws ts ≡ firstLine (nameLine ws ts ∷ levelLine ws ∷ []) (rowsWord ws)
+      past-rows = past-trailer ∙ line-passed 2 0 (rowsWord ws) (atFault ws) _ (rowsWord ws) no-fault
+
       pub at-name : (place : ℕ) → place ≡ lowest (repeated (docOf ws ts)) (rowsWord ws) → place < rowsWord ws → recordOutcome ws ts ≡ refused 3 place
-      unfolding recordOutcome firstLine
-      at-name place e h = rw (good, le-ltb (lowest (atFault ws) (rowsWord ws)) (rowsWord ws) no-fault, ← e, lt-ltb place (rowsWord ws) h, zero-add)
+      at-name place e h = past-rows ∙ line-given 3 0 (rowsWord ws) (repeated (docOf ws ts)) _ (rowsWord ws) place e h ∙ ap (refused 3) (zero-add place)
 
       module _ (no-name : rowsWord ws ≤ lowest (repeated (docOf ws ts)) (rowsWord ws)) where
+        past-names : recordOutcome ws ts ≡ firstLine (levelLine ws ∷ []) (rowsWord ws)
+        past-names = past-rows ∙ line-passed 3 0 (rowsWord ws) (repeated (docOf ws ts)) _ (rowsWord ws) no-name
+
         pub at-level : (place : ℕ) → place ≡ lowest (tooDeep ws) (rowsWord ws) → place < rowsWord ws → recordOutcome ws ts ≡ refused 4 place
-        unfolding recordOutcome firstLine
-        at-level place e h =
-            rw (
-              good,
-              le-ltb (lowest (atFault ws) (rowsWord ws)) (rowsWord ws) no-fault,
-              le-ltb (lowest (repeated (docOf ws ts)) (rowsWord ws)) (rowsWord ws) no-name,
-              ← e,
-              lt-ltb place (rowsWord ws) h,
-              zero-add,
-            )
+        at-level place e h = past-names ∙ line-given 4 0 (rowsWord ws) (tooDeep ws) [] (rowsWord ws) place e h ∙ ap (refused 4) (zero-add place)
 
         pub no-line : rowsWord ws ≤ lowest (tooDeep ws) (rowsWord ws) → recordOutcome ws ts ≡ accepted (rowsWord ws)
-        unfolding recordOutcome firstLine
-        no-line no-level =
-            rw (
-              good,
-              le-ltb (lowest (atFault ws) (rowsWord ws)) (rowsWord ws) no-fault,
-              le-ltb (lowest (repeated (docOf ws ts)) (rowsWord ws)) (rowsWord ws) no-name,
-              le-ltb (lowest (tooDeep ws) (rowsWord ws)) (rowsWord ws) no-level,
-            )
+        unfolding firstLine
+        no-line no-level = past-names ∙ line-passed 4 0 (rowsWord ws) (tooDeep ws) [] (rowsWord ws) no-level

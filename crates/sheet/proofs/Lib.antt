@@ -5,6 +5,7 @@ pub mod Rows
 pub mod Values
 pub mod Owners
 pub mod Siblings
+pub mod Tables
 pub mod Checks
 pub mod Acceptance
 pub mod Shape
