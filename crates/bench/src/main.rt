@@ -40,23 +40,66 @@ fn judge_bundle(bundle: &[u8]) {
     if c % 4 != 0 {
         return bad_bundle();
     }
-    judge_parts(&bundle[..a], &bundle[a..a + b]);
+    let rules = a + b;
+    let rule_text = rules + c;
+    let end = rule_text + d;
+    judge_parts(
+        &bundle[..a],
+        &bundle[a..rules],
+        &bundle[rules..rule_text],
+        &bundle[rule_text..end],
+    );
 }
 
 fn bad_bundle() {
     io::write_all(STDOUT_FILENO, b"bad bundle\n");
 }
 
-// Writes what the check of the record sheet gives.
-fn judge_parts(record: &[u8], record_text: &[u8])
-    requires { ⌜ length (now «record») ≤ 65536 ⌝ }
+// Writes what the checks of the two sheets give.
+fn judge_parts(record: &[u8], record_text: &[u8], rules: &[u8], rule_text: &[u8])
+    requires { ⌜ (length (now «record») ≤ 65536) × (length (now rules) ≤ 65536) ⌝ }
+{
+    let rows = checked_record(record, record_text);
+    if rows == 0 {
+        return;
+    }
+    let schemas = checked_rules(rules, rule_text);
+    if schemas == 0 {
+        return;
+    }
+    io::write_all(STDOUT_FILENO, b"rows ");
+    io::print_decimal(STDOUT_FILENO, rows);
+    say_number(b" schemas ", schemas);
+}
+
+// The number of rows, or 0 where the sheet is refused, which is then written.
+fn checked_record(bytes: &[u8], text: &[u8]) -> u64
+    requires { ⌜ length (now bytes) ≤ 65536 ⌝ }
 {
     let mut space = [0u32; BUNDLE_MAX / 4];
-    let count = record.len() / 4;
-    read_words(record, &mut space, count);
-    match sheet::check_record(&space[..count], record_text) {
-        Checked::Accepted(rows) => say_number(b"rows ", rows as u64),
-        Checked::Refused(refusal, place) => say_refused(refusal.number() as u64, place as u64),
+    let count = bytes.len() / 4;
+    read_words(bytes, &mut space, count);
+    accepted(sheet::check_record(&space[..count], text))
+}
+
+// The number of schemas, likewise.
+fn checked_rules(bytes: &[u8], text: &[u8]) -> u64
+    requires { ⌜ length (now bytes) ≤ 65536 ⌝ }
+{
+    let mut space = [0u32; BUNDLE_MAX / 4];
+    let count = bytes.len() / 4;
+    read_words(bytes, &mut space, count);
+    accepted(rules::check_rules(&space[..count], text))
+}
+
+// The number that a check accepted, or 0 after the line that says what it refused.
+fn accepted(answer: Checked) -> u64 {
+    match answer {
+        Checked::Accepted(number) => number as u64,
+        Checked::Refused(refusal, place) => {
+            say_refused(refusal.number() as u64, place as u64);
+            0
+        }
     }
 }
 

@@ -11,7 +11,7 @@ use native.Mathlib.Nat.{zero-add}
 use native.Mathlib.Omega.{arith}
 use lib.Dec.{eqb, leb}
 use lib.ListN.{length}
-use borrow.Author.Tests.{lt-ltb, le-ltb, eqb-true, not-false}
+use borrow.Author.Tests.{eqb-true, not-false}
 use Rattle.laws.proofs.Tests.{left, right}
 use Rattle.sheet.specs.declared.record.RecordForm.{RecordForm}
 use Rattle.laws.specs.Lowest.{lowest}

@@ -14,7 +14,7 @@ use Rattle.sheet.specs.declared.refusal.Refusal.{Refusal}
 use Rattle.sheet.specs.declared.refusal.Refusal.the-variants.{RecordTrailer, RecordLayout, RepeatedName, TooDeep, RuleTrailer, RuleLayout, RepeatedEntry, UnguardedLoop, LongChain}
 use Rattle.sheet.specs.declared.refusal.Checked.{Checked}
 use Rattle.sheet.specs.declared.refusal.Checked.the-variants.{Accepted, Refused}
-use Rattle.sheet.specs.Refusals.{refusalNumber, accepted, refused, outcomeOf, Line, lowestLine, firstLine}
+use Rattle.sheet.specs.Refusals.{refusalNumber, refused, outcomeOf, Line, lowestLine, firstLine}
 
 module _ (line : Line) (lines : List Line) (rows : ℕ) where
   pub test-passed : line .applies ≡ false → firstLine (line ∷ lines) rows ≡ firstLine lines rows

@@ -1,7 +1,10 @@
 -- `judge_bundle` stays within the bundle: its lengths add up where its parts are taken. Assumes nothing.
 use native.Mathlib.Omega.{arith}
 use mathlib.Core.Path.{sym}
+use native.Mathlib.Nat.{min-le-right}
+use lib.ListN.{length, length-take, length-drop}
 use lib.Seq.{length-take-le}
+use Prim.Native.Nat.{_+_, _-_}
 use borrow.Author.Needs.{needs}
 use Rattle.bench.proofs.judge_bundle.Statement.{statement}
 use Rattle.bench.proofs.judge_bundle.Tie as tie
@@ -69,11 +72,17 @@ bad-bundle-requires-5 c κs = search needs
 returns-5 : tie.Need-returns-5
 returns-5 c = search needs
 
+add-rules : tie.Need-add-rules
+add-rules c = search needs
+
+add-rule-text : tie.Need-add-rule-text
+add-rule-text c = search needs
+
+add-end : tie.Need-add-end
+add-end c = search needs
+
 slice-aggregate-judge-parts : tie.Need-slice-aggregate-judge-parts
 slice-aggregate-judge-parts c = sym (length-take-le _ _ (omega arith))
-
-add-judge-parts : tie.Need-add-judge-parts
-add-judge-parts c = search needs
 
 sub-judge-parts : tie.Need-sub-judge-parts
 sub-judge-parts c = search needs
@@ -84,8 +93,26 @@ part-judge-parts-start c = search needs
 part-judge-parts-end : tie.Need-part-judge-parts-end
 part-judge-parts-end c = search needs
 
+sub-judge-parts-2 : tie.Need-sub-judge-parts-2
+sub-judge-parts-2 c = search needs
+
+part-judge-parts-start-2 : tie.Need-part-judge-parts-start-2
+part-judge-parts-start-2 c = search needs
+
+part-judge-parts-end-2 : tie.Need-part-judge-parts-end-2
+part-judge-parts-end-2 c = search needs
+
+sub-judge-parts-3 : tie.Need-sub-judge-parts-3
+sub-judge-parts-3 c = search needs
+
+part-judge-parts-start-3 : tie.Need-part-judge-parts-start-3
+part-judge-parts-start-3 c = search needs
+
+part-judge-parts-end-3 : tie.Need-part-judge-parts-end-3
+part-judge-parts-end-3 c = search needs
+
 judge-parts-requires : tie.Need-judge-parts-requires
-judge-parts-requires c κs = rw (length-take-le (c .before .before .before .before .before .before .before .before .number-at .result) (c .before .before .before .before .before .before .before .before .before .before .before .before .args .bundle .now) (omega arith)) (omega arith)
+judge-parts-requires c κs = (rw (length-take-le (c .before .before .before .before .before .before .before .before .before .before .number-at .result) (c .before .before .before .before .before .before .before .before .before .before .before .before .before .before .args .bundle .now) (omega arith)) (omega arith), simp (length-take, length-drop) (omega (arith, min-le-right ((c .before .before .before .before .before .before .before .before .before .before .number-at .result + c .before .before .before .before .before .before .before .before .before .number-at2 .result + c .before .before .before .before .before .before .before .before .number-at3 .result) - (c .before .before .before .before .before .before .before .before .before .before .number-at .result + c .before .before .before .before .before .before .before .before .before .number-at2 .result)) (length (c .before .before .before .before .before .before .before .before .before .before .before .before .before .before .args .bundle .now) - (c .before .before .before .before .before .before .before .before .before .before .number-at .result + c .before .before .before .before .before .before .before .before .before .number-at2 .result)))))
 
 returns-6 : tie.Need-returns-6
 returns-6 c = search needs
@@ -115,10 +142,18 @@ judge-bundle-spec =
     returns-4
     bad-bundle-requires-5
     returns-5
+    add-rules
+    add-rule-text
+    add-end
     slice-aggregate-judge-parts
-    add-judge-parts
     sub-judge-parts
     part-judge-parts-start
     part-judge-parts-end
+    sub-judge-parts-2
+    part-judge-parts-start-2
+    part-judge-parts-end-2
+    sub-judge-parts-3
+    part-judge-parts-start-3
+    part-judge-parts-end-3
     judge-parts-requires
     returns-6)

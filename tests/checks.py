@@ -1,5 +1,5 @@
 #!/usr/bin/env python3
-"""The record check of the proved program against the second program, on the fixed cases at both sides of each limit and on random ones.
+"""The checks of the proved program against the second program, on the fixed cases at both sides of each limit and on random ones.
 
 Ends with 'N passed, M failed'. COUNT and SEED may be given."""
 import os
@@ -12,21 +12,26 @@ import sheets
 BENCH = os.path.join(os.path.dirname(os.path.abspath(__file__)), '..', 'target', 'bin', 'bench')
 
 
-def expected(words, text):
-    answer = second.check_record(words, text)
-    return 'rows %d\n' % answer[1] if answer[0] == 'accepted' else 'refused %d %d\n' % answer[1:]
+def expected(words, text, rules, rule_text):
+    record = second.check_record(words, text)
+    if record[0] == 'refused':
+        return 'refused %d %d\n' % record[1:]
+    rule = second.check_rules(rules, rule_text)
+    if rule[0] == 'refused':
+        return 'refused %d %d\n' % rule[1:]
+    return 'rows %d schemas %d\n' % (record[1], rule[1])
 
 
 def main():
-    count = int(sys.argv[1]) if len(sys.argv) > 1 else 3000
+    count = int(sys.argv[1]) if len(sys.argv) > 1 else 6000
     seed = int(sys.argv[2]) if len(sys.argv) > 2 else 1
     passed = failed = 0
-    for label, words, text, rules, rule_text in list(sheets.limits()) + list(sheets.cases(seed, count, 'record')):
+    for label, words, text, rules, rule_text in list(sheets.limits()) + list(sheets.cases(seed, count)):
         bundle = second.bundle(words, text, rules, rule_text)
         if len(bundle) > 65536:
             continue
         got = subprocess.run([BENCH], input=bundle, capture_output=True).stdout.decode()
-        want = expected(words, text)
+        want = expected(words, text, rules, rule_text)
         if got == want:
             passed += 1
         else:

@@ -1,0 +1,9 @@
+pub mod Lists
+pub mod Paths
+pub mod Agreement
+pub mod Targets
+pub mod Steps
+pub mod Rounds
+pub mod Worklists
+pub mod Grounds
+pub mod Samples

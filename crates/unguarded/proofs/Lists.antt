@@ -1,0 +1,83 @@
+-- Membership and tests of lists.
+--     at-in, in-at               the number at a place of a list is in it, and one that is in it stands at a place
+--     take-more                  the first i + 1 numbers
+--     any-in, any-out            some number in the list passes a test
+--     any-append                 some number of two lists does
+--     none-first, none-more, none-end     none of the first i numbers does
+--     any-same                   two tests that say the same
+-- Assumes nothing.
+use mathlib.Core.Bool.{Bool, true, false, _||_, or-true, or-assoc, true≢false, false≢true}
+use mathlib.Core.List.{List, [], _∷_, _++_, List·Memᴰ as In, List·Memᴰ·head as at-head, List·Memᴰ·tail as in-tail}
+use mathlib.Core.Logic.{⊎-elim}
+use mathlib.Core.Path.{_≡_, refl, sym, _∙_}
+use Prim.Native.Nat.{ℕ, zero, suc, _+_, _≤_, _<_}
+use native.Mathlib.Numerals.{add-one}
+use native.Mathlib.Omega.{arith}
+use lib.ListN.{length, getD, take}
+use lib.Seq.{take-all, take-suc}
+use Rattle.laws.proofs.Tests.{either}
+use Rattle.unguarded.specs.Graph.{any}
+
+-- ---- tests
+
+pub is-false : (b : Bool) → (b ≡ true → ⊥) → b ≡ false
+is-false true h = absurd (h refl)
+is-false false h = refl
+
+pub not-both : (b : Bool) → b ≡ true → b ≡ false → ⊥
+not-both b p q = true≢false (sym p ∙ q)
+
+-- ---- places in a list
+
+pub at-in : (xs : List ℕ) (i : ℕ) → i < length xs → In (getD xs i 0) xs
+at-in [] i h = absurd (nothing h)
+  where
+    nothing : i < 0 → ⊥
+    nothing l = omega arith
+at-in (x ∷ xs) zero h = at-head refl
+at-in (x ∷ xs) (suc i) h = in-tail (at-in xs i (omega arith))
+
+pub in-at : {x : ℕ} {xs : List ℕ} → In x xs → (i : ℕ) × ((i < length xs) × (getD xs i 0 ≡ x))
+in-at (at-head e) = (0, (omega arith, sym e))
+in-at (in-tail m) = let r = in-at m in (suc (r .0), (omega (arith, r .1 .0), r .1 .1))
+
+pub take-more : (xs : List ℕ) (i : ℕ) → i < length xs → take (i + 1) xs ≡ take i xs ++ (getD xs i 0 ∷ [])
+take-more xs i h = rw (add-one, take-suc xs i 0 h)
+
+-- ---- some number passes
+
+module _ (test : ℕ → Bool) where
+  pub any-in : {x : ℕ} {xs : List ℕ} → In x xs → test x ≡ true → any test xs ≡ true
+  unfolding any
+  any-in (at-head e) t = rw (← e, t)
+  any-in (in-tail m) t = rw (any-in m t, or-true)
+
+  pub any-out : (xs : List ℕ) → any test xs ≡ true → (x : ℕ) × (In x xs × (test x ≡ true))
+  unfolding any
+  any-out [] t = absurd (false≢true t)
+  any-out (x ∷ xs) t =
+      ⊎-elim (λ h. (x, (at-head refl, h))) (λ h. let r = any-out xs h in (r .0, (in-tail (r .1 .0), r .1 .1))) (either (test x) (any test xs) t)
+
+  pub any-append : (xs ys : List ℕ) → any test (xs ++ ys) ≡ (any test xs || any test ys)
+  unfolding any
+  any-append [] ys = refl
+  any-append (x ∷ xs) ys = rw (any-append xs ys, or-assoc)
+
+  -- ---- none of the first i does
+
+  pub none-first : (xs : List ℕ) → any test (take 0 xs) ≡ false
+  unfolding any
+  none-first xs = refl
+
+  pub none-more : (xs : List ℕ) (i : ℕ) → i < length xs → any test (take i xs) ≡ false → test (getD xs i 0) ≡ false → any test (take (i + 1) xs) ≡ false
+  unfolding any
+  none-more xs i h e t = rw (take-more xs i h, any-append, e, t)
+
+  pub none-end : (xs : List ℕ) (i : ℕ) → length xs ≤ i → any test (take i xs) ≡ false → any test xs ≡ false
+  none-end xs i h e = rw (take-all i xs h) at e
+
+-- two tests that say the same of the numbers in the list
+pub any-same : (p q : ℕ → Bool) (xs : List ℕ) → ((x : ℕ) → In x xs → p x ≡ q x) → any p xs ≡ any q xs
+unfolding any
+any-same p q [] h = refl
+any-same p q (x ∷ xs) h = rw (h x (at-head refl), any-same p q xs (λ y m. h y (in-tail m)))

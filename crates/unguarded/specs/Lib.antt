@@ -1,0 +1,4 @@
+pub mod Graph
+pub mod Places
+pub mod Rounds
+pub mod Worklist
