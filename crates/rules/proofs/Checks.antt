@@ -29,7 +29,7 @@ use Rattle.unguarded.proofs.Steps.{same-next}
 use Rattle.rules.specs.Check.{rulesOutcome}
 
 -- what a search through all of n things did not find is nowhere
-nowhere : (test : ℕ → Bool) (n : ℕ) → n ≤ lowest test n → (i : ℕ) → i < n → test i ≡ false
+pub nowhere : (test : ℕ → Bool) (n : ℕ) → n ≤ lowest test n → (i : ℕ) → i < n → test i ≡ false
 nowhere test n none i h = clear-below test n 0 i (omega arith) (omega arith) (omega arith)
 
 module _ (ws : List ℕ) (form : RuleForm) (formed : RulesFormed ws form) where

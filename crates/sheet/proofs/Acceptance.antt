@@ -28,13 +28,13 @@ pub record AcceptedFacts (ws ts : List ℕ) (n : ℕ) : Type 0 where
   pub count-is : n ≡ rowsWord ws
 
 -- an answer that is accepted is no refusal
-clash : {A : Type 0} (o : Outcome) (n k p : ℕ) → o ≡ accepted n → o ≡ refused k p → A
+pub clash : {A : Type 0} (o : Outcome) (n k p : ℕ) → o ≡ accepted n → o ≡ refused k p → A
 clash o n k p a r = absurd (never a r)
   where
     never : o ≡ accepted n → o ≡ refused k p → ⊥
     never x y = let z : _≡_ {A = ℕ} 0 1 = cc in omega arith
 
-same-count : (o : Outcome) (n m : ℕ) → o ≡ accepted n → o ≡ accepted m → n ≡ m
+pub same-count : (o : Outcome) (n m : ℕ) → o ≡ accepted n → o ≡ accepted m → n ≡ m
 same-count o n m p q = cc
 
 module _ (ws ts : List ℕ) (n : ℕ) (ok : recordOutcome ws ts ≡ accepted n) where
