@@ -22,16 +22,24 @@ def expected(words, text, rules, rule_text):
     return 'rows %d schemas %d\n' % (record[1], rule[1])
 
 
+def cases(seed, count):
+    """Yields (label, bundle, what the program must say): sheets first, then bundles that are bad as a whole, or refused."""
+    for label, words, text, rules, rule_text in list(sheets.limits()) + list(sheets.cases(seed, count)):
+        bundle = second.bundle(words, text, rules, rule_text)
+        if len(bundle) <= 65536:
+            yield label, bundle, expected(words, text, rules, rule_text)
+    for label, bundle in sheets.bundles(seed, count // 8):
+        want = second.bench(bundle).decode()
+        if want.startswith(('bad', 'refused')):
+            yield label, bundle, want
+
+
 def main():
     count = int(sys.argv[1]) if len(sys.argv) > 1 else 6000
     seed = int(sys.argv[2]) if len(sys.argv) > 2 else 1
     passed = failed = 0
-    for label, words, text, rules, rule_text in list(sheets.limits()) + list(sheets.cases(seed, count)):
-        bundle = second.bundle(words, text, rules, rule_text)
-        if len(bundle) > 65536:
-            continue
+    for label, bundle, want in cases(seed, count):
         got = subprocess.run([BENCH], input=bundle, capture_output=True).stdout.decode()
-        want = expected(words, text, rules, rule_text)
         if got == want:
             passed += 1
         else:

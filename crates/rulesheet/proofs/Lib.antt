@@ -5,3 +5,5 @@ pub mod Runs
 pub mod Taking
 pub mod Reaching
 pub mod Repeating
+pub mod Naming
+pub mod Meanings

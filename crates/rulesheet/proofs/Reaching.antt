@@ -48,11 +48,11 @@ map-at f (x ∷ xs) (suc i) d e h = map-at f xs i d e (omega arith)
 
 -- ---- a fact about every line of the table
 
-data Every (P : Line → Type 0) : List Line → Type 0 where
+pub data Every (P : Line → Type 0) : List Line → Type 0 where
   done : Every P []
   and : {line : Line} {lines : List Line} → P line → Every P lines → Every P (line ∷ lines)
 
-in-table : (P : Line → Type 0) (lines : List Line) (code : ℕ) → P unknown → Every P lines → P (lineIn lines code)
+pub in-table : (P : Line → Type 0) (lines : List Line) (code : ℕ) → P unknown → Every P lines → P (lineIn lines code)
 unfolding lineIn
 in-table P [] code u done = u
 in-table P (line ∷ lines) code u (and p ps) = pick (eqb code (line .code)) (in-table P lines code u ps)
@@ -78,7 +78,7 @@ shaped code = in-table Shaped codes code (λ p. refl) table-shaped
 
 -- ---- a clause's steps
 
-abbrev partsAt : List ℕ → List ℕ → ℕ → Parts
+abbrev pub partsAt : List ℕ → List ℕ → ℕ → Parts
 partsAt ws ts k =
     record {
       text = ts;

@@ -16,7 +16,6 @@ use lib.ListN.{length}
 use Rattle.laws.specs.Lowest.{lowest, lowestFrom}
 use Rattle.laws.proofs.Tests.{le-or-lt, left}
 use Rattle.laws.proofs.Searches.{alike, shifted, none-found}
-use Rattle.text.specs.declared.Range.{Range}
 use Rattle.text.specs.Part.{fits, part}
 use Rattle.names.specs.declared.Names.{Names}
 use Rattle.names.specs.Names.{rangeAt, nameAt, repeatsBy, repeatsAt, Lying}
@@ -29,12 +28,9 @@ use Rattle.rulesheet.specs.Codes.{entryName}
 use Rattle.rulesheet.specs.Sheet.{entry-words, schemasWord, clausesWord, entriesWord, textWord, formOf, clauseAt, entryAt}
 use Rattle.rulesheet.specs.Faults.{isList, isNamed, fieldsAt, entryOk, listStart, repeated}
 use Rattle.rulesheet.specs.Read.{RulesLaid}
+use Rattle.rulesheet.specs.Clauses.{entryRange}
 use Rattle.rulesheet.proofs.Trailers.{facts, form-c, form-e, entry-inside}
 use Rattle.rulesheet.proofs.Taking.{list-facts, list-over, entry-taken, entry-untaken, lists-within}
-
--- where an entry's name stands
-abbrev pub entryRange : EntryRow → Range
-entryRange e = record { start = e .first; length = e .second }
 
 -- an entry with a name has it within the text
 named-fits : (fields : Fields) (size m : ℕ) (e : EntryRow) → isNamed fields ≡ true → entryOk fields size m e ≡ true → fits size (entryRange e) ≡ true

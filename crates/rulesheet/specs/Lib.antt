@@ -4,3 +4,4 @@ pub mod Codes
 pub mod Sheet
 pub mod Faults
 pub mod Read
+pub mod Clauses

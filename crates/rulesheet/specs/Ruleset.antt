@@ -1,7 +1,7 @@
 -- Rules as the rules of judgement see them: of each schema its clauses, each code a constructor that bears its keyword's name. That sheets are words
 -- is forgotten here.
 -- Assumes nothing.
-use mathlib.Core.List.{List, [], _∷_, _++_}
+use mathlib.Core.List.{List, [], _∷_, _++_, map}
 use Prim.Native.Nat.{ℕ}
 use lib.IntN.{ℤ}
 use Rattle.sheet.specs.Doc.{Value}
@@ -53,6 +53,35 @@ unguarded (prefixItems schemas) = []
 unguarded (items schema) = []
 unguarded (unevaluatedProperties schema) = []
 unguarded (unevaluatedItems schema) = []
+
+-- all the schemas that a clause names
+abbrev pub named : Clause → List ℕ
+named never = []
+named (type mask) = []
+named (enum values) = []
+named (minimum z) = []
+named (maximum z) = []
+named (exclusiveMinimum z) = []
+named (exclusiveMaximum z) = []
+named (multipleOf z) = []
+named (minLength n) = []
+named (maxLength n) = []
+named (minItems n) = []
+named (maxItems n) = []
+named (minProperties n) = []
+named (maxProperties n) = []
+named (required names) = []
+named (allOf schemas) = schemas
+named (anyOf schemas) = schemas
+named (oneOf schemas) = schemas
+named (notOf schema) = schema ∷ []
+named (ref schema) = schema ∷ []
+named (properties members) = map (λ m. m .1) members
+named (additionalProperties schema) = schema ∷ []
+named (prefixItems schemas) = schemas
+named (items schema) = schema ∷ []
+named (unevaluatedProperties schema) = schema ∷ []
+named (unevaluatedItems schema) = schema ∷ []
 
 -- the schemas that the clauses reach unguarded in one step
 unfoldable pub steps : List Clause → List ℕ

@@ -1,0 +1,15 @@
+-- `member_schema` meets its contract. Assumes nothing.
+use mathlib.Core.Path.{ap}
+use Rattle.rulesheet.specs.declared.form.EntryRow.{EntryRow}
+use borrow.Author.Needs.{needs}
+use Rattle.rulesheet.proofs.clause.member_schema.Statement.{statement}
+use Rattle.rulesheet.proofs.clause.member_schema.Tie as tie
+
+entry-of-requires : tie.Need-entry-of-requires
+entry-of-requires c κs = search needs
+
+returns : tie.Need-returns
+returns c = ap (λ (e : EntryRow). e .third) (c .entry-of .ensures)
+
+pub member-schema-spec : {M : Type 1} → statement M
+member-schema-spec = tie.close (tie.spec entry-of-requires returns)

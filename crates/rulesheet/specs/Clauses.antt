@@ -1,0 +1,118 @@
+-- What the code's clauses stand for: each variant the clause of the rules that its keyword names, over the sheet's words and text; and what the tests
+-- of the sheet say of it.
+-- Assumes nothing.
+use mathlib.Core.Bool.{true}
+use mathlib.Core.List.{List, map}
+use mathlib.Core.Path.{_≡_}
+use Prim.Native.Nat.{ℕ, _+_, _≤_, _<_}
+use Rattle.decimal.specs.declared.Decimal.{Decimal}
+use Rattle.decimal.specs.Value.{value, Plain}
+use Rattle.text.specs.declared.Range.{Range}
+use Rattle.sheet.specs.declared.record.RuleRow.{RuleRow}
+use Rattle.rulesheet.specs.declared.code.Fields.{Fields}
+use Rattle.rulesheet.specs.declared.code.Fields.the-variants.{Values, Names, Schemas, Members}
+use Rattle.rulesheet.specs.declared.form.RuleForm.{RuleForm}
+use Rattle.rulesheet.specs.declared.form.EntryRow.{EntryRow}
+use Rattle.rulesheet.specs.declared.clause.Entries.{Entries}
+use Rattle.rulesheet.specs.declared.clause.Clause.{Clause}
+use Rattle.rulesheet.specs.declared.clause.Clause.the-variants.{Never, Types, Enum, Minimum, Maximum, ExclusiveMinimum, ExclusiveMaximum, MultipleOf}
+use Rattle.rulesheet.specs.declared.clause.Clause.the-variants.{MinLength, MaxLength, MinItems, MaxItems, MinProperties, MaxProperties, Required}
+use Rattle.rulesheet.specs.declared.clause.Clause.the-variants.{AllOf, AnyOf, OneOf, Not, Ref, Properties, AdditionalProperties, PrefixItems, Items}
+use Rattle.rulesheet.specs.declared.clause.Clause.the-variants.{UnevaluatedProperties, UnevaluatedItems}
+use Rattle.rulesheet.specs.Ruleset as R
+use Rattle.rulesheet.specs.Codes.{entryValue, entryName}
+use Rattle.rulesheet.specs.Sheet.{schemasWord, textWord, entryAt, run}
+use Rattle.rulesheet.specs.Faults.{entryOk}
+use Rattle.rulesheet.specs.Read.{ClausesLaid, RulesLaid}
+
+-- the entries of a list, read from the words
+abbrev pub entriesOf : List ℕ → Entries → List EntryRow
+entriesOf ws es = map (entryAt ws) (run (es .count) (es .first))
+
+abbrev pub clauseMeans : List ℕ → List ℕ → Clause → R.Clause
+clauseMeans ws ts Never = R.never
+clauseMeans ws ts (Types mask) = R.type mask
+clauseMeans ws ts (Enum es) = R.enum (map (entryValue ts) (entriesOf ws es))
+clauseMeans ws ts (Minimum d) = R.minimum (value d)
+clauseMeans ws ts (Maximum d) = R.maximum (value d)
+clauseMeans ws ts (ExclusiveMinimum d) = R.exclusiveMinimum (value d)
+clauseMeans ws ts (ExclusiveMaximum d) = R.exclusiveMaximum (value d)
+clauseMeans ws ts (MultipleOf d) = R.multipleOf (value d)
+clauseMeans ws ts (MinLength n) = R.minLength n
+clauseMeans ws ts (MaxLength n) = R.maxLength n
+clauseMeans ws ts (MinItems n) = R.minItems n
+clauseMeans ws ts (MaxItems n) = R.maxItems n
+clauseMeans ws ts (MinProperties n) = R.minProperties n
+clauseMeans ws ts (MaxProperties n) = R.maxProperties n
+clauseMeans ws ts (Required es) = R.required (map (entryName ts) (entriesOf ws es))
+clauseMeans ws ts (AllOf es) = R.allOf (map (λ (e : EntryRow). e .first) (entriesOf ws es))
+clauseMeans ws ts (AnyOf es) = R.anyOf (map (λ (e : EntryRow). e .first) (entriesOf ws es))
+clauseMeans ws ts (OneOf es) = R.oneOf (map (λ (e : EntryRow). e .first) (entriesOf ws es))
+clauseMeans ws ts (Not row) = R.notOf (row .0)
+clauseMeans ws ts (Ref row) = R.ref (row .0)
+clauseMeans ws ts (Properties es) = R.properties (map (λ (e : EntryRow). (entryName ts e, e .third)) (entriesOf ws es))
+clauseMeans ws ts (AdditionalProperties row) = R.additionalProperties (row .0)
+clauseMeans ws ts (PrefixItems es) = R.prefixItems (map (λ (e : EntryRow). e .first) (entriesOf ws es))
+clauseMeans ws ts (Items row) = R.items (row .0)
+clauseMeans ws ts (UnevaluatedProperties row) = R.unevaluatedProperties (row .0)
+clauseMeans ws ts (UnevaluatedItems row) = R.unevaluatedItems (row .0)
+
+-- ---- what the tests of the sheet say of a clause
+
+-- what a clause holds: a number, a schema, a list whose entries have these fields, or nothing that has bounds
+pub data Held : Type 0 where
+  bare : Held
+  number : Decimal → Held
+  schema : RuleRow → Held
+  list : Fields → Entries → Held
+
+abbrev pub held : Clause → Held
+held Never = bare
+held (Types mask) = bare
+held (Enum es) = list Values es
+held (Minimum d) = number d
+held (Maximum d) = number d
+held (ExclusiveMinimum d) = number d
+held (ExclusiveMaximum d) = number d
+held (MultipleOf d) = number d
+held (MinLength n) = bare
+held (MaxLength n) = bare
+held (MinItems n) = bare
+held (MaxItems n) = bare
+held (MinProperties n) = bare
+held (MaxProperties n) = bare
+held (Required es) = list Names es
+held (AllOf es) = list Schemas es
+held (AnyOf es) = list Schemas es
+held (OneOf es) = list Schemas es
+held (Not row) = schema row
+held (Ref row) = schema row
+held (Properties es) = list Members es
+held (AdditionalProperties row) = schema row
+held (PrefixItems es) = list Schemas es
+held (Items row) = schema row
+held (UnevaluatedProperties row) = schema row
+held (UnevaluatedItems row) = schema row
+
+-- a number is within the limits of exact arithmetic, a schema is one of the sheet, a list ends within the entries
+abbrev pub Bounded : RuleForm → Held → Type 0
+Bounded form bare = Unit
+Bounded form (number d) = Plain d
+Bounded form (schema row) = row .0 < form .m
+Bounded form (list fields es) = es .first + es .count ≤ form .e
+
+-- every entry of a list has what its fields ask
+abbrev pub Listed : List ℕ → Held → Type 0
+Listed ws bare = Unit
+Listed ws (number d) = Unit
+Listed ws (schema row) = Unit
+Listed ws (list fields es) = (i : ℕ) → i < es .count → entryOk fields (textWord ws) (schemasWord ws) (entryAt ws (es .first + i)) ≡ true
+
+-- what is known of a clause if no clause breaks the layout, and if no entry does either
+pub record Tested (ws : List ℕ) (form : RuleForm) (clause : Clause) : Type 0 where
+  pub bounded : ClausesLaid ws form → Bounded form (held clause)
+  pub listed : RulesLaid ws form → Listed ws (held clause)
+
+-- an entry's name as a range of the rule text: its bytes are the `entryName`
+abbrev pub entryRange : EntryRow → Range
+entryRange e = record { start = e .first; length = e .second }
