@@ -1,7 +1,7 @@
 -- The unguarded steps of a clause, by its code's shape and its words; the text does not matter for them.
 --     targets-are        a clause's steps, by the row and the shape that were read
---     same-next          the steps of a schema, over any text
---     next-is            they are its clauses' steps in turn
+--     steps-over         they are the same over any text
+--     item-is            item i of a clause's list is made of its i-th entry
 -- Assumes nothing.
 use mathlib.Core.Bool.{Bool, true, false, cond}
 use mathlib.Core.List.{List, [], _∷_, map}
@@ -45,6 +45,16 @@ map-at f [] i d e h = absurd (nothing h)
     nothing l = omega arith
 map-at f (x ∷ xs) zero d e h = refl
 map-at f (x ∷ xs) (suc i) d e h = map-at f xs i d e (omega arith)
+
+-- item i of a list that is made of entries is made of the entry at `first + i`
+pub item-is : {B : Type 0} (ws : List ℕ) (make : EntryRow → B) (many first i : ℕ) (d : B) → i < many
+    → getD (map make (map (entryAt ws) (run many first))) i d ≡ make (entryAt ws (first + i))
+item-is ws make many first i d h =
+    let none : EntryRow = record { first = 0; second = 0; third = 0 } in
+    let inside : i < length (run many first) = omega (arith, run-long many first) in
+    map-at make (map (entryAt ws) (run many first)) i none d (simp length-map inside)
+    ∙ ap make (map-at (entryAt ws) (run many first) i 0 none inside)
+    ∙ ap (λ (x : ℕ). make (entryAt ws x)) (run-at many first i h)
 
 -- ---- a fact about every line of the table
 
@@ -126,18 +136,10 @@ module _ (ws : List ℕ) (k : ℕ) (row : ClauseRow) (shape : Shape) (read : row
   has-step i h =
       ⊎-elim (λ (g : shape .unguarded ≡ true). g) (λ (g : shape .unguarded ≡ false). absurd (omega (arith, no-steps g))) (decide (shape .unguarded))
 
-  listed-at : (i : ℕ) → i < row .count → getD (listed ws row) i 0 ≡ entryAt ws (row .first + i) .first
-  listed-at i h =
-      let none : EntryRow = record { first = 0; second = 0; third = 0 } in
-      let inside : i < length (run (row .count) (row .first)) = omega (arith, run-long (row .count) (row .first)) in
-      map-at (λ (e : EntryRow). e .first) (map (entryAt ws) (run (row .count) (row .first))) i none 0 (simp length-map inside)
-      ∙ ap (λ (e : EntryRow). e .first) (map-at (entryAt ws) (run (row .count) (row .first)) i 0 none inside)
-      ∙ ap (λ (x : ℕ). entryAt ws x .first) (run-at (row .count) (row .first) i h)
-
   pub list-step : (i : ℕ) → i < length (targetsOf ws k) → isList (shape .fields) ≡ true → entryAt ws (row .first + i) .first ≡ getD (targetsOf ws k) i 0
   list-step i h l =
       let g = has-step i h in
-      sym (ap (λ (t : List ℕ). getD t i 0) (is-list g l) ∙ listed-at i (omega (arith, list-steps g l)))
+      sym (ap (λ (t : List ℕ). getD t i 0) (is-list g l) ∙ item-is ws (λ (e : EntryRow). e .first) (row .count) (row .first) i 0 (omega (arith, list-steps g l)))
 
   pub other-step : (i : ℕ) → i < length (targetsOf ws k) → isList (shape .fields) ≡ false → row .first ≡ getD (targetsOf ws k) i 0
   other-step i h l =

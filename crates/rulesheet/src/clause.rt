@@ -96,8 +96,8 @@ pub fn clause_of(words: &[u32], form: RuleForm, k: u32) -> Clause
     }
 }
 
-// The words of the list's entry i.
-fn entry_of(words: &[u32], form: RuleForm, list: Entries, i: u32) -> EntryRow
+// Entry i of a list, its words by name: of an enum a value's kind, first and count.
+pub fn entry_of(words: &[u32], form: RuleForm, list: Entries, i: u32) -> EntryRow
     requires { ⌜ RulesFormed (now words) form × (list .first + list .count ≤ form .e) × (i < list .count) ⌝ }
     ensures { λ r. ⌜ r ≡ entryAt (now (words .entry)) (list .first + i) ⌝ }
 {
