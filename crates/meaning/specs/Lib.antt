@@ -1,0 +1,6 @@
+-- In reading order.
+pub mod Lists
+pub mod Tests
+pub mod Rules
+pub mod Derivation
+pub mod Settling
