@@ -10,8 +10,10 @@ use lib.Signed.{leZ, ltZ}
 use Rattle.decimal.specs.Value.{isMultiple}
 use Rattle.text.specs.Part.{sameBytes}
 use Rattle.sheet.specs.Doc.{Value, Doc}
-use Rattle.rulesheet.specs.Ruleset as R
-use Rattle.rulesheet.specs.Ruleset.{Clause, Ruleset}
+use Rattle.rulesheet.specs.Ruleset.{Test, never, type, enum, minimum, maximum, exclusiveMinimum, exclusiveMaximum, multipleOf}
+use Rattle.rulesheet.specs.Ruleset.{minLength, maxLength, minItems, maxItems, minProperties, maxProperties, required}
+use Rattle.rulesheet.specs.Ruleset.{Mode, allOf, anyOf, oneOf, notOf, ref, Reach, properties, additionalProperties, prefixItems, items}
+use Rattle.rulesheet.specs.Ruleset.{unevaluatedProperties, unevaluatedItems, Clause, asserts, inPlace, takes, Ruleset}
 use Rattle.meaning.specs.Lists.{all, any, count, elem, keep, concatMap}
 use Rattle.meaning.specs.Tests.{number?, bytes?, elements?, members?, given, rows, atLeast, atMost, typed, equal}
 
@@ -68,70 +70,7 @@ unfoldable pub each : List Pair → (List Result → Judgement) → Judgement
 each [] k = k []
 each (p ∷ ps) k = apply p (λ r. each ps (λ rs. k (r ∷ rs)))
 
--- ---- what a clause asks of a row: a test of its value, schemas on the row itself with a way to join their verdicts,
--- or schemas on some of its children, which it marks
-
-pub data Asks : Type 0 where
-  tests : Bool → Asks
-  joins : (List Bool → Bool) → List ℕ → Asks
-  takes : List Pair → Asks
-
--- the names of the earlier `properties`, and how many children the earlier `prefixItems` speaks of
-unfoldable pub namesOf : Clause → List (List ℕ)
-namesOf R.never = []
-namesOf (R.type mask) = []
-namesOf (R.enum values) = []
-namesOf (R.minimum z) = []
-namesOf (R.maximum z) = []
-namesOf (R.exclusiveMinimum z) = []
-namesOf (R.exclusiveMaximum z) = []
-namesOf (R.multipleOf z) = []
-namesOf (R.minLength n) = []
-namesOf (R.maxLength n) = []
-namesOf (R.minItems n) = []
-namesOf (R.maxItems n) = []
-namesOf (R.minProperties n) = []
-namesOf (R.maxProperties n) = []
-namesOf (R.required names) = []
-namesOf (R.allOf schemas) = []
-namesOf (R.anyOf schemas) = []
-namesOf (R.oneOf schemas) = []
-namesOf (R.notOf schema) = []
-namesOf (R.ref schema) = []
-namesOf (R.properties members) = map (λ m. m .0) members
-namesOf (R.additionalProperties schema) = []
-namesOf (R.prefixItems schemas) = []
-namesOf (R.items schema) = []
-namesOf (R.unevaluatedProperties schema) = []
-namesOf (R.unevaluatedItems schema) = []
-
-unfoldable pub prefixOf : Clause → List ℕ
-prefixOf R.never = []
-prefixOf (R.type mask) = []
-prefixOf (R.enum values) = []
-prefixOf (R.minimum z) = []
-prefixOf (R.maximum z) = []
-prefixOf (R.exclusiveMinimum z) = []
-prefixOf (R.exclusiveMaximum z) = []
-prefixOf (R.multipleOf z) = []
-prefixOf (R.minLength n) = []
-prefixOf (R.maxLength n) = []
-prefixOf (R.minItems n) = []
-prefixOf (R.maxItems n) = []
-prefixOf (R.minProperties n) = []
-prefixOf (R.maxProperties n) = []
-prefixOf (R.required names) = []
-prefixOf (R.allOf schemas) = []
-prefixOf (R.anyOf schemas) = []
-prefixOf (R.oneOf schemas) = []
-prefixOf (R.notOf schema) = []
-prefixOf (R.ref schema) = []
-prefixOf (R.properties members) = []
-prefixOf (R.additionalProperties schema) = []
-prefixOf (R.prefixItems schemas) = schemas
-prefixOf (R.items schema) = []
-prefixOf (R.unevaluatedProperties schema) = []
-prefixOf (R.unevaluatedItems schema) = []
+-- ---- what a clause says of a row
 
 -- exactly one
 unfoldable pub one? : List Bool → Bool
@@ -140,19 +79,53 @@ one? bs = eqb (count bs) 1
 unfoldable pub none? : List Bool → Bool
 none? bs = not (any bs)
 
--- each schema on the row j
-unfoldable pub under : ℕ → List ℕ → List Pair
-under j ss = map (λ s. record { row = j; rule = s }) ss
+-- the verdicts of schemas on the row itself, joined
+unfoldable pub joined : Mode → List Bool → Bool
+joined allOf bs = all bs
+joined anyOf bs = any bs
+joined oneOf bs = one? bs
+joined notOf bs = none? bs
+joined ref bs = all bs
+
+-- the names of an earlier `properties`
+unfoldable pub namesOf : Clause → List (List ℕ)
+namesOf (asserts t) = []
+namesOf (inPlace m ss) = []
+namesOf (takes (properties es)) = map (λ e. e .0) es
+namesOf (takes (additionalProperties s)) = []
+namesOf (takes (prefixItems ss)) = []
+namesOf (takes (items s)) = []
+namesOf (takes (unevaluatedProperties s)) = []
+namesOf (takes (unevaluatedItems s)) = []
+
+-- the schemas of an earlier `prefixItems`
+unfoldable pub prefixOf : Clause → List ℕ
+prefixOf (asserts t) = []
+prefixOf (inPlace m ss) = []
+prefixOf (takes (properties es)) = []
+prefixOf (takes (additionalProperties s)) = []
+prefixOf (takes (prefixItems ss)) = ss
+prefixOf (takes (items s)) = []
+prefixOf (takes (unevaluatedProperties s)) = []
+prefixOf (takes (unevaluatedItems s)) = []
+
+-- every pair that a pair p applies is made here: schema s on row k
+unfoldable pub to : Pair → ℕ → ℕ → Pair
+to p k s = record { row = k; rule = s }
+
+-- each schema on the row itself
+unfoldable pub here : Pair → List ℕ → List Pair
+here p ss = map (λ s. to p (p .row) s) ss
 
 -- the schema s on each row
-unfoldable pub on : ℕ → List ℕ → List Pair
-on s ks = map (λ k. record { row = k; rule = s }) ks
+unfoldable pub under : Pair → ℕ → List ℕ → List Pair
+under p s ks = map (λ k. to p k s) ks
 
 -- schemas on rows by place
-unfoldable pub across : List ℕ → List ℕ → List Pair
-across [] ss = []
-across (k ∷ ks) [] = []
-across (k ∷ ks) (s ∷ ss) = record { row = k; rule = s } ∷ across ks ss
+unfoldable pub across : Pair → List ℕ → List ℕ → List Pair
+across p [] ss = []
+across p (k ∷ ks) [] = []
+across p (k ∷ ks) (s ∷ ss) = to p k s ∷ across p ks ss
 
 module _ (D : Doc) where
   unfoldable pub called : List ℕ → ℕ → Bool
@@ -164,64 +137,64 @@ module _ (D : Doc) where
   unfoldable pub elementsOf : ℕ → List ℕ
   elementsOf j = rows (elements? (D .value j))
 
-  unfoldable pub requires : List (List ℕ) → List ℕ → Bool
-  requires names ks = all (map (λ n. any (map (λ k. called n k) ks)) names)
+  -- each name is the name of one of the rows
+  unfoldable pub present : List (List ℕ) → List ℕ → Bool
+  present names ks = all (map (λ n. any (map (λ k. called n k) ks)) names)
 
-  -- of row j, after the clauses `before` of the same schema, which mark κ
-  unfoldable pub asks : ℕ → List Clause → Marks → Clause → Asks
-  asks j before κ R.never = tests false
-  asks j before κ (R.type mask) = tests (typed mask (D .value j))
-  asks j before κ (R.enum vs) = tests (any (map (λ v. equal (D .value j) v) vs))
-  asks j before κ (R.minimum z) = tests (given (number? (D .value j)) (λ y. leZ z y))
-  asks j before κ (R.maximum z) = tests (given (number? (D .value j)) (λ y. leZ y z))
-  asks j before κ (R.exclusiveMinimum z) = tests (given (number? (D .value j)) (λ y. ltZ z y))
-  asks j before κ (R.exclusiveMaximum z) = tests (given (number? (D .value j)) (λ y. ltZ y z))
-  asks j before κ (R.multipleOf z) = tests (given (number? (D .value j)) (λ y. isMultiple y z))
-  asks j before κ (R.minLength k) = tests (atLeast k (bytes? (D .value j)))
-  asks j before κ (R.maxLength k) = tests (atMost k (bytes? (D .value j)))
-  asks j before κ (R.minItems k) = tests (atLeast k (elements? (D .value j)))
-  asks j before κ (R.maxItems k) = tests (atMost k (elements? (D .value j)))
-  asks j before κ (R.minProperties k) = tests (atLeast k (members? (D .value j)))
-  asks j before κ (R.maxProperties k) = tests (atMost k (members? (D .value j)))
-  asks j before κ (R.required names) = tests (given (members? (D .value j)) (requires names))
-  asks j before κ (R.allOf ss) = joins all ss
-  asks j before κ (R.anyOf ss) = joins any ss
-  asks j before κ (R.oneOf ss) = joins one? ss
-  asks j before κ (R.notOf s) = joins none? (s ∷ [])
-  asks j before κ (R.ref s) = joins all (s ∷ [])
-  asks j before κ (R.properties es) = takes (concatMap (λ e. on (e .1) (keep (called (e .0)) (membersOf j))) es)
-  asks j before κ (R.additionalProperties s) =
-      takes (on s (keep (λ k. none? (map (λ n. called n k) (concatMap namesOf before))) (membersOf j)))
-  asks j before κ (R.prefixItems ss) = takes (across (elementsOf j) ss)
-  asks j before κ (R.items s) = takes (on s (drop (length (concatMap prefixOf before)) (elementsOf j)))
-  asks j before κ (R.unevaluatedProperties s) = takes (on s (keep (λ k. not (κ k)) (membersOf j)))
-  asks j before κ (R.unevaluatedItems s) = takes (on s (keep (λ k. not (κ k)) (elementsOf j)))
+  unfoldable pub passes : ℕ → Test → Bool
+  passes j never = false
+  passes j (type mask) = typed mask (D .value j)
+  passes j (enum vs) = any (map (λ v. equal (D .value j) v) vs)
+  passes j (minimum z) = given (number? (D .value j)) (λ y. leZ z y)
+  passes j (maximum z) = given (number? (D .value j)) (λ y. leZ y z)
+  passes j (exclusiveMinimum z) = given (number? (D .value j)) (λ y. ltZ z y)
+  passes j (exclusiveMaximum z) = given (number? (D .value j)) (λ y. ltZ y z)
+  passes j (multipleOf z) = given (number? (D .value j)) (λ y. isMultiple y z)
+  passes j (minLength k) = atLeast k (bytes? (D .value j))
+  passes j (maxLength k) = atMost k (bytes? (D .value j))
+  passes j (minItems k) = atLeast k (elements? (D .value j))
+  passes j (maxItems k) = atMost k (elements? (D .value j))
+  passes j (minProperties k) = atLeast k (members? (D .value j))
+  passes j (maxProperties k) = atMost k (members? (D .value j))
+  passes j (required names) = given (members? (D .value j)) (present names)
 
--- ---- the rules
+  -- the children that a clause takes, with their schemas, after the clauses `before` of the same schema, which mark κ
+  unfoldable pub taken : Pair → List Clause → Marks → Reach → List Pair
+  taken p before κ (properties es) = concatMap (λ e. under p (e .1) (keep (called (e .0)) (membersOf (p .row)))) es
+  taken p before κ (additionalProperties s) =
+      under p s (keep (λ k. none? (map (λ n. called n k) (concatMap namesOf before))) (membersOf (p .row)))
+  taken p before κ (prefixItems ss) = across p (elementsOf (p .row)) ss
+  taken p before κ (items s) = under p s (drop (length (concatMap prefixOf before)) (elementsOf (p .row)))
+  taken p before κ (unevaluatedProperties s) = under p s (keep (λ k. not (κ k)) (membersOf (p .row)))
+  taken p before κ (unevaluatedItems s) = under p s (keep (λ k. not (κ k)) (elementsOf (p .row)))
 
--- J : K
-unfoldable pub clause : ℕ → Asks → Judgement
-clause j (tests b) = found (record { holds = b; marks = nothing })
-clause j (joins join ss) =
-    each (under j ss) (λ rs. found (record { holds = join (verdicts rs); marks = unions rs }))
-clause j (takes ps) = each ps (λ rs. found (record { holds = all (verdicts rs); marks = these (map (λ q. q .row) ps) }))
+  -- ---- the rules
+
+  -- J : K, after the clauses `before` of the same schema, which mark κ
+  unfoldable pub clause : Pair → List Clause → Marks → Clause → Judgement
+  clause p before κ (asserts t) = found (record { holds = passes (p .row) t; marks = nothing })
+  clause p before κ (inPlace m ss) =
+      each (here p ss) (λ rs. found (record { holds = joined m (verdicts rs); marks = unions rs }))
+  clause p before κ (takes c) =
+      let ps = taken p before κ c in
+      each ps (λ rs. found (record { holds = all (verdicts rs); marks = these (map (λ q. q .row) ps) }))
+
+  -- J : K₁ … Kₙ, after the clauses `before`, which have the result r
+  unfoldable pub clauses : Pair → List Clause → Result → List Clause → Judgement
+  clauses p before r [] = found r
+  clauses p before r (c ∷ cs) =
+      andThen (clause p before (r .marks) c)
+      (λ q. clauses p (before ++ c ∷ []) (record { holds = r .holds && q .holds; marks = r .marks ∪ q .marks }) cs)
 
 -- levels left × 33 + the longest unguarded chain is less than this for every pair of accepted sheets
 unfoldable pub depth : ℕ
 depth = 33 * 33
 
 module _ (D : Doc) (R : Ruleset) where
-  -- J : K₁ … Kₙ, after the clauses `before`, which have the result r
-  unfoldable pub clauses : ℕ → List Clause → Result → List Clause → Judgement
-  clauses j before r [] = found r
-  clauses j before r (c ∷ cs) =
-      andThen (clause j (asks D j before (r .marks) c))
-      (λ q. clauses j (before ++ c ∷ []) (record { holds = r .holds && q .holds; marks = r .marks ∪ q .marks }) cs)
-
   -- J : S; a schema that fails has no marks
   unfoldable pub judgement : Pair → Judgement
   judgement p =
-      andThen (clauses (p .row) [] (record { holds = true; marks = nothing }) (R .clauses (p .rule)))
+      andThen (clauses D p [] (record { holds = true; marks = nothing }) (R .clauses (p .rule)))
       (λ r. found (record { holds = r .holds; marks = λ k. r .holds && r .marks k }))
 
   -- the derivation of a pair, at most f pairs deep
@@ -239,5 +212,5 @@ module _ (D : Doc) (R : Ruleset) where
 
 -- opens this module to a computation
 unfoldable pub rules-computes : Unit {0}
-unfolding nothing _∪_ these unions verdicts answer applied andThen each namesOf prefixOf one? none? under on across called membersOf elementsOf requires asks clause depth clauses judgement derive truth applies
+unfolding nothing _∪_ these unions verdicts answer applied andThen each one? none? joined namesOf prefixOf to here under across called membersOf elementsOf present passes taken clause clauses depth judgement derive truth applies
 rules-computes = tt

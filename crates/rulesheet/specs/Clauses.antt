@@ -2,7 +2,7 @@
 -- of the sheet say of it.
 -- Assumes nothing.
 use mathlib.Core.Bool.{true}
-use mathlib.Core.List.{List, map}
+use mathlib.Core.List.{List, [], _∷_, map}
 use mathlib.Core.Path.{_≡_}
 use Prim.Native.Nat.{ℕ, _+_, _≤_, _<_}
 use Rattle.decimal.specs.declared.Decimal.{Decimal}
@@ -30,32 +30,32 @@ abbrev pub entriesOf : List ℕ → Entries → List EntryRow
 entriesOf ws es = map (entryAt ws) (run (es .count) (es .first))
 
 abbrev pub clauseMeans : List ℕ → List ℕ → Clause → R.Clause
-clauseMeans ws ts Never = R.never
-clauseMeans ws ts (Types mask) = R.type mask
-clauseMeans ws ts (Enum es) = R.enum (map (entryValue ts) (entriesOf ws es))
-clauseMeans ws ts (Minimum d) = R.minimum (value d)
-clauseMeans ws ts (Maximum d) = R.maximum (value d)
-clauseMeans ws ts (ExclusiveMinimum d) = R.exclusiveMinimum (value d)
-clauseMeans ws ts (ExclusiveMaximum d) = R.exclusiveMaximum (value d)
-clauseMeans ws ts (MultipleOf d) = R.multipleOf (value d)
-clauseMeans ws ts (MinLength n) = R.minLength n
-clauseMeans ws ts (MaxLength n) = R.maxLength n
-clauseMeans ws ts (MinItems n) = R.minItems n
-clauseMeans ws ts (MaxItems n) = R.maxItems n
-clauseMeans ws ts (MinProperties n) = R.minProperties n
-clauseMeans ws ts (MaxProperties n) = R.maxProperties n
-clauseMeans ws ts (Required es) = R.required (map (entryName ts) (entriesOf ws es))
-clauseMeans ws ts (AllOf es) = R.allOf (map (λ (e : EntryRow). e .first) (entriesOf ws es))
-clauseMeans ws ts (AnyOf es) = R.anyOf (map (λ (e : EntryRow). e .first) (entriesOf ws es))
-clauseMeans ws ts (OneOf es) = R.oneOf (map (λ (e : EntryRow). e .first) (entriesOf ws es))
-clauseMeans ws ts (Not row) = R.notOf (row .0)
-clauseMeans ws ts (Ref row) = R.ref (row .0)
-clauseMeans ws ts (Properties es) = R.properties (map (λ (e : EntryRow). (entryName ts e, e .third)) (entriesOf ws es))
-clauseMeans ws ts (AdditionalProperties row) = R.additionalProperties (row .0)
-clauseMeans ws ts (PrefixItems es) = R.prefixItems (map (λ (e : EntryRow). e .first) (entriesOf ws es))
-clauseMeans ws ts (Items row) = R.items (row .0)
-clauseMeans ws ts (UnevaluatedProperties row) = R.unevaluatedProperties (row .0)
-clauseMeans ws ts (UnevaluatedItems row) = R.unevaluatedItems (row .0)
+clauseMeans ws ts Never = R.asserts R.never
+clauseMeans ws ts (Types mask) = R.asserts (R.type mask)
+clauseMeans ws ts (Enum es) = R.asserts (R.enum (map (entryValue ts) (entriesOf ws es)))
+clauseMeans ws ts (Minimum d) = R.asserts (R.minimum (value d))
+clauseMeans ws ts (Maximum d) = R.asserts (R.maximum (value d))
+clauseMeans ws ts (ExclusiveMinimum d) = R.asserts (R.exclusiveMinimum (value d))
+clauseMeans ws ts (ExclusiveMaximum d) = R.asserts (R.exclusiveMaximum (value d))
+clauseMeans ws ts (MultipleOf d) = R.asserts (R.multipleOf (value d))
+clauseMeans ws ts (MinLength n) = R.asserts (R.minLength n)
+clauseMeans ws ts (MaxLength n) = R.asserts (R.maxLength n)
+clauseMeans ws ts (MinItems n) = R.asserts (R.minItems n)
+clauseMeans ws ts (MaxItems n) = R.asserts (R.maxItems n)
+clauseMeans ws ts (MinProperties n) = R.asserts (R.minProperties n)
+clauseMeans ws ts (MaxProperties n) = R.asserts (R.maxProperties n)
+clauseMeans ws ts (Required es) = R.asserts (R.required (map (entryName ts) (entriesOf ws es)))
+clauseMeans ws ts (AllOf es) = R.inPlace R.allOf (map (λ (e : EntryRow). e .first) (entriesOf ws es))
+clauseMeans ws ts (AnyOf es) = R.inPlace R.anyOf (map (λ (e : EntryRow). e .first) (entriesOf ws es))
+clauseMeans ws ts (OneOf es) = R.inPlace R.oneOf (map (λ (e : EntryRow). e .first) (entriesOf ws es))
+clauseMeans ws ts (Not row) = R.inPlace R.notOf (row .0 ∷ [])
+clauseMeans ws ts (Ref row) = R.inPlace R.ref (row .0 ∷ [])
+clauseMeans ws ts (Properties es) = R.takes (R.properties (map (λ (e : EntryRow). (entryName ts e, e .third)) (entriesOf ws es)))
+clauseMeans ws ts (AdditionalProperties row) = R.takes (R.additionalProperties (row .0))
+clauseMeans ws ts (PrefixItems es) = R.takes (R.prefixItems (map (λ (e : EntryRow). e .first) (entriesOf ws es)))
+clauseMeans ws ts (Items row) = R.takes (R.items (row .0))
+clauseMeans ws ts (UnevaluatedProperties row) = R.takes (R.unevaluatedProperties (row .0))
+clauseMeans ws ts (UnevaluatedItems row) = R.takes (R.unevaluatedItems (row .0))
 
 -- ---- what the tests of the sheet say of a clause
 

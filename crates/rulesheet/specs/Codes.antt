@@ -15,9 +15,10 @@ use Rattle.rulesheet.specs.declared.code.Fields.{Fields}
 use Rattle.rulesheet.specs.declared.code.Fields.the-variants.{Unknown, Bare, Types, Number, Positive, Limit, Schema, Values, Names, Schemas, Members}
 use Rattle.rulesheet.specs.declared.code.Shape.{Shape}
 use Rattle.rulesheet.specs.declared.form.EntryRow.{EntryRow}
-use Rattle.rulesheet.specs.Ruleset.{Clause, never, type, enum, minimum, maximum, exclusiveMinimum, exclusiveMaximum, multipleOf}
-use Rattle.rulesheet.specs.Ruleset.{minLength, maxLength, minItems, maxItems, minProperties, maxProperties, required, allOf, anyOf, oneOf, notOf, ref}
-use Rattle.rulesheet.specs.Ruleset.{properties, additionalProperties, prefixItems, items, unevaluatedProperties, unevaluatedItems}
+use Rattle.rulesheet.specs.Ruleset.{Test, never, type, enum, minimum, maximum, exclusiveMinimum, exclusiveMaximum, multipleOf}
+use Rattle.rulesheet.specs.Ruleset.{minLength, maxLength, minItems, maxItems, minProperties, maxProperties, required}
+use Rattle.rulesheet.specs.Ruleset.{Mode, allOf, anyOf, oneOf, notOf, ref, Reach, properties, additionalProperties, prefixItems, items}
+use Rattle.rulesheet.specs.Ruleset.{unevaluatedProperties, unevaluatedItems, Clause, asserts, inPlace, takes}
 
 -- what a clause is made of: the rule text, its first and count, and its entries, if it is a list clause
 pub record Parts : Type 0 where
@@ -51,6 +52,10 @@ namesOf p = map (entryName (p .text)) (p .entries)
 abbrev schemasOf : Parts → List ℕ
 schemasOf p = map (λ e. e .first) (p .entries)
 
+-- the schema of a clause that is no list
+abbrev schemaOf : Parts → List ℕ
+schemaOf p = p .first ∷ []
+
 abbrev membersOf : Parts → List (List ℕ × ℕ)
 membersOf p = map (λ e. (entryName (p .text) e, e .third)) (p .entries)
 
@@ -64,45 +69,48 @@ guardedShape fields least = record { fields = fields; least = least; unguarded =
 abbrev pub inPlaceShape : Fields → ℕ → Shape
 inPlaceShape fields least = record { fields = fields; least = least; unguarded = true }
 
-abbrev guarded : ℕ → Fields → ℕ → (Parts → Clause) → Line
-guarded code fields least means = record { code = code; shape = guardedShape fields least; means = means }
+abbrev asserting : ℕ → Fields → ℕ → (Parts → Test) → Line
+asserting code fields least test = record { code = code; shape = guardedShape fields least; means = λ p. asserts (test p) }
 
-abbrev inPlace : ℕ → Fields → ℕ → (Parts → Clause) → Line
-inPlace code fields least means = record { code = code; shape = inPlaceShape fields least; means = means }
+abbrev joining : ℕ → Fields → ℕ → Mode → (Parts → List ℕ) → Line
+joining code fields least mode schemas = record { code = code; shape = inPlaceShape fields least; means = λ p. inPlace mode (schemas p) }
+
+abbrev taking : ℕ → Fields → ℕ → (Parts → Reach) → Line
+taking code fields least reach = record { code = code; shape = guardedShape fields least; means = λ p. takes (reach p) }
 
 abbrev pub codes : List Line
 codes =
-    guarded 1 Bare 0 (λ p. never)
-    ∷ guarded 2 Types 0 (λ p. type (p .first))
-    ∷ guarded 3 Values 1 (λ p. enum (valuesOf p))
-    ∷ guarded 10 Number 0 (λ p. minimum (numberOf p))
-    ∷ guarded 11 Number 0 (λ p. maximum (numberOf p))
-    ∷ guarded 12 Number 0 (λ p. exclusiveMinimum (numberOf p))
-    ∷ guarded 13 Number 0 (λ p. exclusiveMaximum (numberOf p))
-    ∷ guarded 14 Positive 0 (λ p. multipleOf (numberOf p))
-    ∷ guarded 20 Limit 0 (λ p. minLength (p .first))
-    ∷ guarded 21 Limit 0 (λ p. maxLength (p .first))
-    ∷ guarded 22 Limit 0 (λ p. minItems (p .first))
-    ∷ guarded 23 Limit 0 (λ p. maxItems (p .first))
-    ∷ guarded 24 Limit 0 (λ p. minProperties (p .first))
-    ∷ guarded 25 Limit 0 (λ p. maxProperties (p .first))
-    ∷ guarded 26 Names 0 (λ p. required (namesOf p))
-    ∷ inPlace 30 Schemas 1 (λ p. allOf (schemasOf p))
-    ∷ inPlace 31 Schemas 1 (λ p. anyOf (schemasOf p))
-    ∷ inPlace 32 Schemas 1 (λ p. oneOf (schemasOf p))
-    ∷ inPlace 33 Schema 0 (λ p. notOf (p .first))
-    ∷ inPlace 34 Schema 0 (λ p. ref (p .first))
-    ∷ guarded 40 Members 0 (λ p. properties (membersOf p))
-    ∷ guarded 42 Schema 0 (λ p. additionalProperties (p .first))
-    ∷ guarded 43 Schemas 1 (λ p. prefixItems (schemasOf p))
-    ∷ guarded 44 Schema 0 (λ p. items (p .first))
-    ∷ guarded 60 Schema 0 (λ p. unevaluatedProperties (p .first))
-    ∷ guarded 61 Schema 0 (λ p. unevaluatedItems (p .first))
+    asserting 1 Bare 0 (λ p. never)
+    ∷ asserting 2 Types 0 (λ p. type (p .first))
+    ∷ asserting 3 Values 1 (λ p. enum (valuesOf p))
+    ∷ asserting 10 Number 0 (λ p. minimum (numberOf p))
+    ∷ asserting 11 Number 0 (λ p. maximum (numberOf p))
+    ∷ asserting 12 Number 0 (λ p. exclusiveMinimum (numberOf p))
+    ∷ asserting 13 Number 0 (λ p. exclusiveMaximum (numberOf p))
+    ∷ asserting 14 Positive 0 (λ p. multipleOf (numberOf p))
+    ∷ asserting 20 Limit 0 (λ p. minLength (p .first))
+    ∷ asserting 21 Limit 0 (λ p. maxLength (p .first))
+    ∷ asserting 22 Limit 0 (λ p. minItems (p .first))
+    ∷ asserting 23 Limit 0 (λ p. maxItems (p .first))
+    ∷ asserting 24 Limit 0 (λ p. minProperties (p .first))
+    ∷ asserting 25 Limit 0 (λ p. maxProperties (p .first))
+    ∷ asserting 26 Names 0 (λ p. required (namesOf p))
+    ∷ joining 30 Schemas 1 allOf schemasOf
+    ∷ joining 31 Schemas 1 anyOf schemasOf
+    ∷ joining 32 Schemas 1 oneOf schemasOf
+    ∷ joining 33 Schema 0 notOf schemaOf
+    ∷ joining 34 Schema 0 ref schemaOf
+    ∷ taking 40 Members 0 (λ p. properties (membersOf p))
+    ∷ taking 42 Schema 0 (λ p. additionalProperties (p .first))
+    ∷ taking 43 Schemas 1 (λ p. prefixItems (schemasOf p))
+    ∷ taking 44 Schema 0 (λ p. items (p .first))
+    ∷ taking 60 Schema 0 (λ p. unevaluatedProperties (p .first))
+    ∷ taking 61 Schema 0 (λ p. unevaluatedItems (p .first))
     ∷ []
 
 -- an unknown code has no fields that are in order, and no sheet with it is accepted
 abbrev pub unknown : Line
-unknown = guarded 0 Unknown 0 (λ p. never)
+unknown = asserting 0 Unknown 0 (λ p. never)
 
 abbrev pub pickLine : Bool → Line → Line → Line
 pickLine true a b = a

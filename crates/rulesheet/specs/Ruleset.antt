@@ -1,5 +1,5 @@
--- Rules as the rules of judgement see them: of each schema its clauses, each code a constructor that bears its keyword's name. That sheets are words
--- is forgotten here.
+-- Rules as the rules of judgement see them: of each schema its clauses, each code a constructor that bears its keyword's name: of a
+-- test, of a way to join schemas on the row itself, or of a reach among its children. That sheets are words is forgotten here.
 -- Assumes nothing.
 use mathlib.Core.List.{List, [], _∷_, _++_, map}
 use Prim.Native.Nat.{ℕ}
@@ -7,81 +7,56 @@ use lib.IntN.{ℤ}
 use Rattle.sheet.specs.Doc.{Value}
 
 -- numbers are how many billionths they are, names and strings their bytes, schemas their numbers
+
+-- a test of the row's value alone
+pub data Test : Type 0 where
+  never : Test
+  type : ℕ → Test
+  enum : List Value → Test
+  minimum maximum exclusiveMinimum exclusiveMaximum multipleOf : ℤ → Test
+  minLength maxLength minItems maxItems minProperties maxProperties : ℕ → Test
+  required : List (List ℕ) → Test
+
+-- how the results of schemas on the row itself are joined
+pub data Mode : Type 0 where
+  allOf anyOf oneOf notOf ref : Mode
+
+-- which children of the row are taken, with which schemas
+pub data Reach : Type 0 where
+  properties : List (List ℕ × ℕ) → Reach
+  additionalProperties : ℕ → Reach
+  prefixItems : List ℕ → Reach
+  items : ℕ → Reach
+  unevaluatedProperties unevaluatedItems : ℕ → Reach
+
 pub data Clause : Type 0 where
-  never : Clause
-  type : ℕ → Clause
-  enum : List Value → Clause
-  minimum maximum exclusiveMinimum exclusiveMaximum multipleOf : ℤ → Clause
-  minLength maxLength minItems maxItems minProperties maxProperties : ℕ → Clause
-  required : List (List ℕ) → Clause
-  allOf anyOf oneOf : List ℕ → Clause
-  notOf ref : ℕ → Clause
-  properties : List (List ℕ × ℕ) → Clause
-  additionalProperties : ℕ → Clause
-  prefixItems : List ℕ → Clause
-  items : ℕ → Clause
-  unevaluatedProperties unevaluatedItems : ℕ → Clause
+  asserts : Test → Clause
+  inPlace : Mode → List ℕ → Clause
+  takes : Reach → Clause
 
 pub record Ruleset : Type 0 where
   pub clauses : ℕ → List Clause
 
 -- the schemas that a clause applies to the row itself: its unguarded steps
 abbrev pub unguarded : Clause → List ℕ
-unguarded never = []
-unguarded (type mask) = []
-unguarded (enum values) = []
-unguarded (minimum z) = []
-unguarded (maximum z) = []
-unguarded (exclusiveMinimum z) = []
-unguarded (exclusiveMaximum z) = []
-unguarded (multipleOf z) = []
-unguarded (minLength n) = []
-unguarded (maxLength n) = []
-unguarded (minItems n) = []
-unguarded (maxItems n) = []
-unguarded (minProperties n) = []
-unguarded (maxProperties n) = []
-unguarded (required names) = []
-unguarded (allOf schemas) = schemas
-unguarded (anyOf schemas) = schemas
-unguarded (oneOf schemas) = schemas
-unguarded (notOf schema) = schema ∷ []
-unguarded (ref schema) = schema ∷ []
-unguarded (properties members) = []
-unguarded (additionalProperties schema) = []
-unguarded (prefixItems schemas) = []
-unguarded (items schema) = []
-unguarded (unevaluatedProperties schema) = []
-unguarded (unevaluatedItems schema) = []
+unguarded (asserts test) = []
+unguarded (inPlace mode schemas) = schemas
+unguarded (takes reach) = []
+
+-- those that it applies to children
+abbrev pub guarded : Reach → List ℕ
+guarded (properties members) = map (λ m. m .1) members
+guarded (additionalProperties schema) = schema ∷ []
+guarded (prefixItems schemas) = schemas
+guarded (items schema) = schema ∷ []
+guarded (unevaluatedProperties schema) = schema ∷ []
+guarded (unevaluatedItems schema) = schema ∷ []
 
 -- all the schemas that a clause names
 abbrev pub named : Clause → List ℕ
-named never = []
-named (type mask) = []
-named (enum values) = []
-named (minimum z) = []
-named (maximum z) = []
-named (exclusiveMinimum z) = []
-named (exclusiveMaximum z) = []
-named (multipleOf z) = []
-named (minLength n) = []
-named (maxLength n) = []
-named (minItems n) = []
-named (maxItems n) = []
-named (minProperties n) = []
-named (maxProperties n) = []
-named (required names) = []
-named (allOf schemas) = schemas
-named (anyOf schemas) = schemas
-named (oneOf schemas) = schemas
-named (notOf schema) = schema ∷ []
-named (ref schema) = schema ∷ []
-named (properties members) = map (λ m. m .1) members
-named (additionalProperties schema) = schema ∷ []
-named (prefixItems schemas) = schemas
-named (items schema) = schema ∷ []
-named (unevaluatedProperties schema) = schema ∷ []
-named (unevaluatedItems schema) = schema ∷ []
+named (asserts test) = []
+named (inPlace mode schemas) = schemas
+named (takes reach) = guarded reach
 
 -- the schemas that the clauses reach unguarded in one step
 unfoldable pub steps : List Clause → List ℕ

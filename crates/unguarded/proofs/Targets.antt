@@ -5,41 +5,16 @@ use mathlib.Core.List.{List, [], List·Memᴰ as In, List·Memᴰ·not-nil}
 use Prim.Native.Nat.{ℕ, _<_}
 use lib.ListN.{length, getD}
 use Rattle.rulesheet.specs.declared.form.RuleForm.{RuleForm}
-use Rattle.rulesheet.specs.Ruleset.{Clause, never, type, enum, minimum, maximum, exclusiveMinimum, exclusiveMaximum, multipleOf, minLength, maxLength}
-use Rattle.rulesheet.specs.Ruleset.{minItems, maxItems, minProperties, maxProperties, required, allOf, anyOf, oneOf, notOf, ref, properties}
-use Rattle.rulesheet.specs.Ruleset.{additionalProperties, prefixItems, items, unevaluatedProperties, unevaluatedItems, unguarded, named}
+use Rattle.rulesheet.specs.Ruleset.{Clause, asserts, inPlace, takes, unguarded, named}
 use Rattle.rulesheet.specs.Sheet.{schemasWord, clausesWord, clauseOf, targetsOf}
 use Rattle.rulesheet.specs.Read.{RulesLaid}
 use Rattle.rulesheet.proofs.Naming.{clause-inside}
 use Rattle.unguarded.proofs.Lists.{at-in}
 
 steps-named : (clause : Clause) (t : ℕ) → In t (unguarded clause) → In t (named clause)
-steps-named never t i = absurd (List·Memᴰ·not-nil i)
-steps-named (type mask) t i = absurd (List·Memᴰ·not-nil i)
-steps-named (enum values) t i = absurd (List·Memᴰ·not-nil i)
-steps-named (minimum z) t i = absurd (List·Memᴰ·not-nil i)
-steps-named (maximum z) t i = absurd (List·Memᴰ·not-nil i)
-steps-named (exclusiveMinimum z) t i = absurd (List·Memᴰ·not-nil i)
-steps-named (exclusiveMaximum z) t i = absurd (List·Memᴰ·not-nil i)
-steps-named (multipleOf z) t i = absurd (List·Memᴰ·not-nil i)
-steps-named (minLength n) t i = absurd (List·Memᴰ·not-nil i)
-steps-named (maxLength n) t i = absurd (List·Memᴰ·not-nil i)
-steps-named (minItems n) t i = absurd (List·Memᴰ·not-nil i)
-steps-named (maxItems n) t i = absurd (List·Memᴰ·not-nil i)
-steps-named (minProperties n) t i = absurd (List·Memᴰ·not-nil i)
-steps-named (maxProperties n) t i = absurd (List·Memᴰ·not-nil i)
-steps-named (required names) t i = absurd (List·Memᴰ·not-nil i)
-steps-named (allOf schemas) t i = i
-steps-named (anyOf schemas) t i = i
-steps-named (oneOf schemas) t i = i
-steps-named (notOf schema) t i = i
-steps-named (ref schema) t i = i
-steps-named (properties members) t i = absurd (List·Memᴰ·not-nil i)
-steps-named (additionalProperties schema) t i = absurd (List·Memᴰ·not-nil i)
-steps-named (prefixItems schemas) t i = absurd (List·Memᴰ·not-nil i)
-steps-named (items schema) t i = absurd (List·Memᴰ·not-nil i)
-steps-named (unevaluatedProperties schema) t i = absurd (List·Memᴰ·not-nil i)
-steps-named (unevaluatedItems schema) t i = absurd (List·Memᴰ·not-nil i)
+steps-named (asserts test) t i = absurd (List·Memᴰ·not-nil i)
+steps-named (inPlace mode schemas) t i = i
+steps-named (takes reach) t i = absurd (List·Memᴰ·not-nil i)
 
 module _ (ws : List ℕ) (form : RuleForm) (laid : RulesLaid ws form) (k : ℕ) (h : k < clausesWord ws) where
   pub target-inside : {t : ℕ} → In t (targetsOf ws k) → t < schemasWord ws

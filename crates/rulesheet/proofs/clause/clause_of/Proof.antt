@@ -1,6 +1,6 @@
 -- `clause_of` meets its contract: arm by arm the table's line, and past the arms no code of the table. Assumes nothing.
 use mathlib.Core.Path.{refl, sym, ap, _∙_}
-use Rattle.rulesheet.specs.Ruleset.{minimum, maximum, exclusiveMinimum, exclusiveMaximum, multipleOf}
+use Rattle.rulesheet.specs.Ruleset.{asserts, minimum, maximum, exclusiveMinimum, exclusiveMaximum, multipleOf}
 use Rattle.rulesheet.specs.Codes.{Line, lineIn}
 use Rattle.rulesheet.proofs.Lines.{line-past, line-none}
 use Rattle.rulesheet.proofs.Meanings.{partsBy, means-by, number-plain, positive-plain, schema-inside, list-inside, entries-fine-in}
@@ -40,23 +40,23 @@ returns-3 c = (means-by (c .before .before .before .args .words .now) (c .before
 
 returns-4 : tie.Need-returns-4
 unfolding lineIn
-returns-4 c = ((λ ts. ap minimum (c .of-word .ensures .means) ∙ means-by (c .before .before .before .before .args .words .now) (c .before .before .before .before .args .k) (c .before .before .clause-at .result) (c .before .before .clause-at .ensures) 10 (c .before .match .keys4) ts), record { bounded = number-plain (c .before .before .before .before .args .words .now) (c .before .before .before .before .args .k) (c .before .before .clause-at .result) (c .before .before .clause-at .ensures) (c .before .before .before .before .args .form) (c .before .before .before .before .pre .1) 10 (c .before .match .keys4) (c .of-word .result) (c .of-word .ensures) refl; listed = λ laid. tt })
+returns-4 c = ((λ ts. ap (λ z. asserts (minimum z)) (c .of-word .ensures .means) ∙ means-by (c .before .before .before .before .args .words .now) (c .before .before .before .before .args .k) (c .before .before .clause-at .result) (c .before .before .clause-at .ensures) 10 (c .before .match .keys4) ts), record { bounded = number-plain (c .before .before .before .before .args .words .now) (c .before .before .before .before .args .k) (c .before .before .clause-at .result) (c .before .before .clause-at .ensures) (c .before .before .before .before .args .form) (c .before .before .before .before .pre .1) 10 (c .before .match .keys4) (c .of-word .result) (c .of-word .ensures) refl; listed = λ laid. tt })
 
 returns-5 : tie.Need-returns-5
 unfolding lineIn
-returns-5 c = ((λ ts. ap maximum (c .of-word2 .ensures .means) ∙ means-by (c .before .before .before .before .args .words .now) (c .before .before .before .before .args .k) (c .before .before .clause-at .result) (c .before .before .clause-at .ensures) 11 (c .before .match .keys5) ts), record { bounded = number-plain (c .before .before .before .before .args .words .now) (c .before .before .before .before .args .k) (c .before .before .clause-at .result) (c .before .before .clause-at .ensures) (c .before .before .before .before .args .form) (c .before .before .before .before .pre .1) 11 (c .before .match .keys5) (c .of-word2 .result) (c .of-word2 .ensures) refl; listed = λ laid. tt })
+returns-5 c = ((λ ts. ap (λ z. asserts (maximum z)) (c .of-word2 .ensures .means) ∙ means-by (c .before .before .before .before .args .words .now) (c .before .before .before .before .args .k) (c .before .before .clause-at .result) (c .before .before .clause-at .ensures) 11 (c .before .match .keys5) ts), record { bounded = number-plain (c .before .before .before .before .args .words .now) (c .before .before .before .before .args .k) (c .before .before .clause-at .result) (c .before .before .clause-at .ensures) (c .before .before .before .before .args .form) (c .before .before .before .before .pre .1) 11 (c .before .match .keys5) (c .of-word2 .result) (c .of-word2 .ensures) refl; listed = λ laid. tt })
 
 returns-6 : tie.Need-returns-6
 unfolding lineIn
-returns-6 c = ((λ ts. ap exclusiveMinimum (c .of-word3 .ensures .means) ∙ means-by (c .before .before .before .before .args .words .now) (c .before .before .before .before .args .k) (c .before .before .clause-at .result) (c .before .before .clause-at .ensures) 12 (c .before .match .keys6) ts), record { bounded = number-plain (c .before .before .before .before .args .words .now) (c .before .before .before .before .args .k) (c .before .before .clause-at .result) (c .before .before .clause-at .ensures) (c .before .before .before .before .args .form) (c .before .before .before .before .pre .1) 12 (c .before .match .keys6) (c .of-word3 .result) (c .of-word3 .ensures) refl; listed = λ laid. tt })
+returns-6 c = ((λ ts. ap (λ z. asserts (exclusiveMinimum z)) (c .of-word3 .ensures .means) ∙ means-by (c .before .before .before .before .args .words .now) (c .before .before .before .before .args .k) (c .before .before .clause-at .result) (c .before .before .clause-at .ensures) 12 (c .before .match .keys6) ts), record { bounded = number-plain (c .before .before .before .before .args .words .now) (c .before .before .before .before .args .k) (c .before .before .clause-at .result) (c .before .before .clause-at .ensures) (c .before .before .before .before .args .form) (c .before .before .before .before .pre .1) 12 (c .before .match .keys6) (c .of-word3 .result) (c .of-word3 .ensures) refl; listed = λ laid. tt })
 
 returns-7 : tie.Need-returns-7
 unfolding lineIn
-returns-7 c = ((λ ts. ap exclusiveMaximum (c .of-word4 .ensures .means) ∙ means-by (c .before .before .before .before .args .words .now) (c .before .before .before .before .args .k) (c .before .before .clause-at .result) (c .before .before .clause-at .ensures) 13 (c .before .match .keys7) ts), record { bounded = number-plain (c .before .before .before .before .args .words .now) (c .before .before .before .before .args .k) (c .before .before .clause-at .result) (c .before .before .clause-at .ensures) (c .before .before .before .before .args .form) (c .before .before .before .before .pre .1) 13 (c .before .match .keys7) (c .of-word4 .result) (c .of-word4 .ensures) refl; listed = λ laid. tt })
+returns-7 c = ((λ ts. ap (λ z. asserts (exclusiveMaximum z)) (c .of-word4 .ensures .means) ∙ means-by (c .before .before .before .before .args .words .now) (c .before .before .before .before .args .k) (c .before .before .clause-at .result) (c .before .before .clause-at .ensures) 13 (c .before .match .keys7) ts), record { bounded = number-plain (c .before .before .before .before .args .words .now) (c .before .before .before .before .args .k) (c .before .before .clause-at .result) (c .before .before .clause-at .ensures) (c .before .before .before .before .args .form) (c .before .before .before .before .pre .1) 13 (c .before .match .keys7) (c .of-word4 .result) (c .of-word4 .ensures) refl; listed = λ laid. tt })
 
 returns-8 : tie.Need-returns-8
 unfolding lineIn
-returns-8 c = ((λ ts. ap multipleOf (c .of-word5 .ensures .means) ∙ means-by (c .before .before .before .before .args .words .now) (c .before .before .before .before .args .k) (c .before .before .clause-at .result) (c .before .before .clause-at .ensures) 14 (c .before .match .keys8) ts), record { bounded = positive-plain (c .before .before .before .before .args .words .now) (c .before .before .before .before .args .k) (c .before .before .clause-at .result) (c .before .before .clause-at .ensures) (c .before .before .before .before .args .form) (c .before .before .before .before .pre .1) 14 (c .before .match .keys8) (c .of-word5 .result) (c .of-word5 .ensures) refl; listed = λ laid. tt })
+returns-8 c = ((λ ts. ap (λ z. asserts (multipleOf z)) (c .of-word5 .ensures .means) ∙ means-by (c .before .before .before .before .args .words .now) (c .before .before .before .before .args .k) (c .before .before .clause-at .result) (c .before .before .clause-at .ensures) 14 (c .before .match .keys8) ts), record { bounded = positive-plain (c .before .before .before .before .args .words .now) (c .before .before .before .before .args .k) (c .before .before .clause-at .result) (c .before .before .clause-at .ensures) (c .before .before .before .before .args .form) (c .before .before .before .before .pre .1) 14 (c .before .match .keys8) (c .of-word5 .result) (c .of-word5 .ensures) refl; listed = λ laid. tt })
 
 returns-9 : tie.Need-returns-9
 unfolding lineIn
