@@ -10,6 +10,8 @@ use lib.Signed.{leZ, ltZ}
 use Rattle.decimal.specs.Value.{isMultiple}
 use Rattle.text.specs.Part.{sameBytes}
 use Rattle.sheet.specs.Doc.{Value, Doc}
+use Rattle.sheet.specs.Faults.{level-refused}
+use Rattle.unguarded.specs.Graph.{chain-steps}
 use Rattle.rulesheet.specs.Ruleset.{Test, never, type, enum, minimum, maximum, exclusiveMinimum, exclusiveMaximum, multipleOf}
 use Rattle.rulesheet.specs.Ruleset.{minLength, maxLength, minItems, maxItems, minProperties, maxProperties, required}
 use Rattle.rulesheet.specs.Ruleset.{Mode, allOf, anyOf, oneOf, notOf, ref, Reach, properties, additionalProperties, prefixItems, items}
@@ -186,9 +188,9 @@ module _ (D : Doc) where
       andThen (clause p before (r .marks) c)
       (λ q. clauses p (before ++ c ∷ []) (record { holds = r .holds && q .holds; marks = r .marks ∪ q .marks }) cs)
 
--- levels left × 33 + the longest unguarded chain is less than this for every pair of accepted sheets
+-- levels × schemas of a chain: every pair of accepted sheets ranks below it (`rank` in Fit)
 unfoldable pub depth : ℕ
-depth = 33 * 33
+depth = level-refused * suc chain-steps
 
 module _ (D : Doc) (R : Ruleset) where
   -- J : S; a schema that fails has no marks
