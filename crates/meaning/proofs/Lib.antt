@@ -4,4 +4,6 @@ pub mod Steps
 pub mod Derivations
 pub mod Truth
 pub mod Marks
+pub mod Distinct
+pub mod Settled
 pub mod Samples

@@ -2,6 +2,8 @@
 pub mod Lists
 pub mod Tests
 pub mod Rules
-pub mod Fit
 pub mod Derivation
 pub mod Settling
+pub mod Answer
+pub mod Fit
+pub mod Once
