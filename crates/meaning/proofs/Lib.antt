@@ -1,3 +1,4 @@
+pub mod Samples
 pub mod Lists
 pub mod Judgements
 pub mod Steps
@@ -6,4 +7,4 @@ pub mod Truth
 pub mod Marks
 pub mod Distinct
 pub mod Settled
-pub mod Samples
+pub mod Answers

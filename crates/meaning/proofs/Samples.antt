@@ -1,61 +1,55 @@
--- The samples of 01 that are judged.
+-- The samples of 01, and some of ours, as whole calls: with the areas, in which cells hold 9 and list words 77 before the call, one place more than asked
+-- where nothing else is said.
+--     samples       the twelve of 01
+--     further       not, marks of other schemas, items without and with prefixItems, marks passed on by a clause that fails, short areas
 -- Assumes nothing.
 use Prim.Native.Nat.{ℕ}
 use mathlib.Core.Path.{_≡_, refl}
-use mathlib.Core.Bool.{Bool, true, false}
-use mathlib.Core.List.{List, [], _∷_, _++_, map}
+use mathlib.Core.List.{List, [], _∷_, map}
+use lib.ListN.{replicate}
+use Rattle.laws.specs.Lowest.{lowestFrom}
 use Rattle.text.specs.Part
 use Rattle.decimal.specs.Value
+use Rattle.names.specs.Names.{repeatsBy}
 use Rattle.sheet.specs.Kinds.{kindOf}
+use Rattle.sheet.specs.Doc.{levels, level}
 use Rattle.sheet.specs.Record as D
+use Rattle.sheet.specs.Faults as F
+use Rattle.rulesheet.specs.Ruleset as R
 use Rattle.rulesheet.specs.Codes.{lineIn}
 use Rattle.rulesheet.specs.Sheet as S
+use Rattle.rulesheet.specs.Faults as C
+use Rattle.unguarded.specs.Graph.{any, chain, via, onLoop}
 use Rattle.meaning.specs.Lists
 use Rattle.meaning.specs.Tests
 use Rattle.meaning.specs.Rules
-use Rattle.meaning.specs.Rules.{truth}
 use Rattle.meaning.specs.Settling
-use Rattle.meaning.specs.Settling.{list, cells, marked, root}
-
--- what a judgement leaves: the verdict, the list, the cells, and how many children of the root are marked
-pub record Left : Type 0 where
-  pub valid : Bool
-  pub list : List ℕ
-  pub cells : List ℕ
-  pub marked : ℕ
-
-unfoldable pub left : List ℕ → List ℕ → List ℕ → List ℕ → Left
-left ws ts rs us =
-    let d = D.docOf ws ts in
-    let r = S.rulesOf rs us in
-    record {
-      valid = (truth d r root) .holds;
-      list = list d r (D.rowsWord ws) (S.schemasWord rs);
-      cells = cells d r (D.rowsWord ws) (S.schemasWord rs);
-      marked = marked d r (D.rowsWord ws) (S.schemasWord rs);
-    }
+use Rattle.meaning.specs.Answer
+use Rattle.meaning.specs.Answer.{valid, invalid, refuses, Left, judge}
 
 pub record Sample : Type 0 where
   pub words : List ℕ
   pub text : List ℕ
   pub ruleWords : List ℕ
   pub ruleText : List ℕ
+  pub cells : ℕ
+  pub list : ℕ
   pub leaves : Left
 
 abbrev A-rules : List ℕ
 A-rules = 0 ∷ 2 ∷ 2 ∷ 1 ∷ 3 ∷ 1 ∷ 40 ∷ 0 ∷ 1 ∷ 60 ∷ 2 ∷ 0 ∷ 2 ∷ 4 ∷ 0 ∷ 1 ∷ 0 ∷ 0 ∷ 0 ∷ 1 ∷ 1 ∷ 3 ∷ 4 ∷ 1 ∷ 21 ∷ 1 ∷ 2 ∷ []
 
-abbrev p-text : List ℕ
-p-text = 112 ∷ []
-
+-- {"p":7}
 abbrev s1 : Sample
 s1 =
     record {
       words = 6 ∷ 1 ∷ 1 ∷ 0 ∷ 0 ∷ 0 ∷ 3 ∷ 7 ∷ 0 ∷ 0 ∷ 0 ∷ 1 ∷ 2 ∷ 12 ∷ 1 ∷ 1 ∷ [];
-      text = p-text;
+      text = 112 ∷ [];
       ruleWords = A-rules;
-      ruleText = p-text;
-      leaves = (record { valid = true; list = 4 ∷ 0 ∷ []; cells = 1 ∷ 0 ∷ 0 ∷ 4 ∷ 1 ∷ 0 ∷ []; marked = 1 });
+      ruleText = 112 ∷ [];
+      cells = 7;
+      list = 7;
+      leaves = record { answer = valid 2 1; cells = 1 ∷ 0 ∷ 0 ∷ 4 ∷ 1 ∷ 0 ∷ 9 ∷ []; list = 4 ∷ 0 ∷ 77 ∷ 77 ∷ 77 ∷ 77 ∷ 77 ∷ [] };
     }
 
 -- {"p":7,"q":8}
@@ -65,8 +59,10 @@ s2 =
       words = 6 ∷ 1 ∷ 2 ∷ 0 ∷ 0 ∷ 0 ∷ 3 ∷ 7 ∷ 0 ∷ 0 ∷ 0 ∷ 1 ∷ 3 ∷ 8 ∷ 0 ∷ 0 ∷ 1 ∷ 1 ∷ 3 ∷ 18 ∷ 2 ∷ 1 ∷ [];
       text = 112 ∷ 113 ∷ [];
       ruleWords = A-rules;
-      ruleText = p-text;
-      leaves = (record { valid = false; list = 4 ∷ 8 ∷ 0 ∷ []; cells = 2 ∷ 0 ∷ 0 ∷ 0 ∷ 1 ∷ 0 ∷ 0 ∷ 0 ∷ 2 ∷ []; marked = 0 });
+      ruleText = 112 ∷ [];
+      cells = 10;
+      list = 10;
+      leaves = record { answer = invalid 3 0; cells = 2 ∷ 0 ∷ 0 ∷ 0 ∷ 1 ∷ 0 ∷ 0 ∷ 0 ∷ 2 ∷ 9 ∷ []; list = 4 ∷ 8 ∷ 0 ∷ 77 ∷ 77 ∷ 77 ∷ 77 ∷ 77 ∷ 77 ∷ 77 ∷ [] };
     }
 
 -- {}
@@ -76,8 +72,10 @@ s3 =
       words = 6 ∷ 0 ∷ 0 ∷ 0 ∷ 0 ∷ 0 ∷ 1 ∷ 6 ∷ 0 ∷ 1 ∷ [];
       text = [];
       ruleWords = A-rules;
-      ruleText = p-text;
-      leaves = (record { valid = true; list = 0 ∷ []; cells = 1 ∷ 0 ∷ 0 ∷ []; marked = 0 });
+      ruleText = 112 ∷ [];
+      cells = 4;
+      list = 4;
+      leaves = record { answer = valid 1 0; cells = 1 ∷ 0 ∷ 0 ∷ 9 ∷ []; list = 0 ∷ 77 ∷ 77 ∷ 77 ∷ [] };
     }
 
 -- the number 7
@@ -87,8 +85,10 @@ s4 =
       words = 3 ∷ 7 ∷ 0 ∷ 0 ∷ 0 ∷ 0 ∷ 1 ∷ 6 ∷ 0 ∷ 1 ∷ [];
       text = [];
       ruleWords = A-rules;
-      ruleText = p-text;
-      leaves = (record { valid = true; list = 0 ∷ []; cells = 1 ∷ 0 ∷ 0 ∷ []; marked = 0 });
+      ruleText = 112 ∷ [];
+      cells = 4;
+      list = 4;
+      leaves = record { answer = valid 1 0; cells = 1 ∷ 0 ∷ 0 ∷ 9 ∷ []; list = 0 ∷ 77 ∷ 77 ∷ 77 ∷ [] };
     }
 
 -- type integer: 10/10, 15/10
@@ -99,7 +99,9 @@ s5 =
       text = [];
       ruleWords = 0 ∷ 1 ∷ 2 ∷ 4 ∷ 0 ∷ 1 ∷ 1 ∷ 0 ∷ 5 ∷ 0 ∷ 2 ∷ [];
       ruleText = [];
-      leaves = (record { valid = true; list = 0 ∷ []; cells = 1 ∷ []; marked = 0 });
+      cells = 2;
+      list = 2;
+      leaves = record { answer = valid 1 0; cells = 1 ∷ 9 ∷ []; list = 0 ∷ 77 ∷ [] };
     }
 
 abbrev s6 : Sample
@@ -109,7 +111,9 @@ s6 =
       text = [];
       ruleWords = 0 ∷ 1 ∷ 2 ∷ 4 ∷ 0 ∷ 1 ∷ 1 ∷ 0 ∷ 5 ∷ 0 ∷ 2 ∷ [];
       ruleText = [];
-      leaves = (record { valid = false; list = 0 ∷ []; cells = 2 ∷ []; marked = 0 });
+      cells = 2;
+      list = 2;
+      leaves = record { answer = invalid 1 0; cells = 2 ∷ 9 ∷ []; list = 0 ∷ 77 ∷ [] };
     }
 
 -- multipleOf 4 on -6
@@ -120,7 +124,9 @@ s7 =
       text = [];
       ruleWords = 0 ∷ 1 ∷ 14 ∷ 4 ∷ 0 ∷ 1 ∷ 1 ∷ 0 ∷ 5 ∷ 0 ∷ 2 ∷ [];
       ruleText = [];
-      leaves = (record { valid = false; list = 0 ∷ []; cells = 2 ∷ []; marked = 0 });
+      cells = 2;
+      list = 2;
+      leaves = record { answer = invalid 1 0; cells = 2 ∷ 9 ∷ []; list = 0 ∷ 77 ∷ [] };
     }
 
 -- oneOf [1, 1], 1 empty, on the number 7
@@ -131,7 +137,35 @@ s8 =
       text = [];
       ruleWords = 0 ∷ 1 ∷ 1 ∷ 0 ∷ 32 ∷ 0 ∷ 2 ∷ 1 ∷ 0 ∷ 0 ∷ 1 ∷ 0 ∷ 0 ∷ 2 ∷ 1 ∷ 2 ∷ 13 ∷ 0 ∷ 2 ∷ [];
       ruleText = [];
-      leaves = (record { valid = false; list = 1 ∷ 0 ∷ []; cells = 2 ∷ 1 ∷ []; marked = 0 });
+      cells = 3;
+      list = 3;
+      leaves = record { answer = invalid 2 0; cells = 2 ∷ 1 ∷ 9 ∷ []; list = 1 ∷ 0 ∷ 77 ∷ [] };
+    }
+
+-- schema 0 is ref 0
+abbrev s9 : Sample
+s9 =
+    record {
+      words = 3 ∷ 7 ∷ 0 ∷ 0 ∷ 0 ∷ 0 ∷ 1 ∷ 6 ∷ 0 ∷ 1 ∷ [];
+      text = [];
+      ruleWords = 0 ∷ 1 ∷ 34 ∷ 0 ∷ 0 ∷ 1 ∷ 1 ∷ 0 ∷ 5 ∷ 0 ∷ 2 ∷ [];
+      ruleText = [];
+      cells = 2;
+      list = 2;
+      leaves = record { answer = refuses 8 0; cells = 9 ∷ 9 ∷ []; list = 77 ∷ 77 ∷ [] };
+    }
+
+-- 0 empty, 1 is ref 1: the root never comes there
+abbrev s10 : Sample
+s10 =
+    record {
+      words = 3 ∷ 7 ∷ 0 ∷ 0 ∷ 0 ∷ 0 ∷ 1 ∷ 6 ∷ 0 ∷ 1 ∷ [];
+      text = [];
+      ruleWords = 0 ∷ 0 ∷ 0 ∷ 1 ∷ 34 ∷ 1 ∷ 0 ∷ 2 ∷ 1 ∷ 0 ∷ 7 ∷ 0 ∷ 2 ∷ [];
+      ruleText = [];
+      cells = 3;
+      list = 3;
+      leaves = record { answer = refuses 8 1; cells = 9 ∷ 9 ∷ 9 ∷ []; list = 77 ∷ 77 ∷ 77 ∷ [] };
     }
 
 -- properties p is 0; {"p":{"p":{}}}
@@ -139,10 +173,12 @@ abbrev s11 : Sample
 s11 =
     record {
       words = 6 ∷ 1 ∷ 1 ∷ 0 ∷ 0 ∷ 0 ∷ 6 ∷ 2 ∷ 1 ∷ 0 ∷ 0 ∷ 1 ∷ 6 ∷ 0 ∷ 0 ∷ 1 ∷ 0 ∷ 1 ∷ 3 ∷ 18 ∷ 1 ∷ 1 ∷ [];
-      text = p-text;
+      text = 112 ∷ [];
       ruleWords = 0 ∷ 1 ∷ 40 ∷ 0 ∷ 1 ∷ 0 ∷ 1 ∷ 0 ∷ 1 ∷ 1 ∷ 1 ∷ 8 ∷ 1 ∷ 2 ∷ [];
-      ruleText = p-text;
-      leaves = (record { valid = true; list = 2 ∷ 1 ∷ 0 ∷ []; cells = 1 ∷ 5 ∷ 5 ∷ []; marked = 1 });
+      ruleText = 112 ∷ [];
+      cells = 4;
+      list = 4;
+      leaves = record { answer = valid 3 1; cells = 1 ∷ 5 ∷ 5 ∷ 9 ∷ []; list = 2 ∷ 1 ∷ 0 ∷ 77 ∷ [] };
     }
 
 -- 0 (anyOf 1, 2; unevaluatedProperties 3), 1 (required r; properties q is 2), 2 empty, 3 never; {"q":1}
@@ -153,19 +189,143 @@ s12 =
       text = 113 ∷ [];
       ruleWords = 0 ∷ 2 ∷ 2 ∷ 2 ∷ 4 ∷ 0 ∷ 4 ∷ 1 ∷ 31 ∷ 0 ∷ 2 ∷ 60 ∷ 3 ∷ 0 ∷ 26 ∷ 2 ∷ 1 ∷ 40 ∷ 3 ∷ 1 ∷ 1 ∷ 0 ∷ 0 ∷ 1 ∷ 0 ∷ 0 ∷ 2 ∷ 0 ∷ 0 ∷ 0 ∷ 1 ∷ 0 ∷ 1 ∷ 1 ∷ 2 ∷ 4 ∷ 5 ∷ 4 ∷ 35 ∷ 2 ∷ 2 ∷ [];
       ruleText = 114 ∷ 113 ∷ [];
-      leaves = (record { valid = false; list = 6 ∷ 1 ∷ 2 ∷ 7 ∷ 0 ∷ []; cells = 2 ∷ 2 ∷ 1 ∷ 0 ∷ 0 ∷ 0 ∷ 1 ∷ 2 ∷ []; marked = 0 });
+      cells = 9;
+      list = 9;
+      leaves = record { answer = invalid 5 0; cells = 2 ∷ 2 ∷ 1 ∷ 0 ∷ 0 ∷ 0 ∷ 1 ∷ 2 ∷ 9 ∷ []; list = 6 ∷ 1 ∷ 2 ∷ 7 ∷ 0 ∷ 77 ∷ 77 ∷ 77 ∷ 77 ∷ [] };
     }
 
-abbrev table : List Sample
-table = s1 ∷ s2 ∷ s3 ∷ s4 ∷ s5 ∷ s6 ∷ s7 ∷ s8 ∷ s11 ∷ s12 ∷ []
+-- not 1, 1 empty, on the number 7: 1 holds, so not fails
+abbrev t1 : Sample
+t1 =
+    record {
+      words = 3 ∷ 7 ∷ 0 ∷ 0 ∷ 0 ∷ 0 ∷ 1 ∷ 6 ∷ 0 ∷ 1 ∷ [];
+      text = [];
+      ruleWords = 0 ∷ 1 ∷ 1 ∷ 0 ∷ 33 ∷ 1 ∷ 0 ∷ 2 ∷ 1 ∷ 0 ∷ 7 ∷ 0 ∷ 2 ∷ [];
+      ruleText = [];
+      cells = 3;
+      list = 3;
+      leaves = record { answer = invalid 2 0; cells = 2 ∷ 1 ∷ 9 ∷ []; list = 1 ∷ 0 ∷ 77 ∷ [] };
+    }
+
+-- not 1, 1 never: 1 fails, so not holds
+abbrev t2 : Sample
+t2 =
+    record {
+      words = 3 ∷ 7 ∷ 0 ∷ 0 ∷ 0 ∷ 0 ∷ 1 ∷ 6 ∷ 0 ∷ 1 ∷ [];
+      text = [];
+      ruleWords = 0 ∷ 1 ∷ 1 ∷ 1 ∷ 33 ∷ 1 ∷ 0 ∷ 1 ∷ 0 ∷ 0 ∷ 2 ∷ 2 ∷ 0 ∷ 10 ∷ 0 ∷ 2 ∷ [];
+      ruleText = [];
+      cells = 3;
+      list = 3;
+      leaves = record { answer = valid 2 0; cells = 1 ∷ 2 ∷ 9 ∷ []; list = 1 ∷ 0 ∷ 77 ∷ [] };
+    }
+
+-- 0 (allOf 1, 2), 1 (properties p is 3), 2 (unevaluatedProperties 4), 3 empty, 4 never; {"p":7}: that 1 marks p does not matter to 2
+abbrev t3 : Sample
+t3 =
+    record {
+      words = 6 ∷ 1 ∷ 1 ∷ 0 ∷ 0 ∷ 0 ∷ 3 ∷ 7 ∷ 0 ∷ 0 ∷ 0 ∷ 1 ∷ 2 ∷ 12 ∷ 1 ∷ 1 ∷ [];
+      text = 112 ∷ [];
+      ruleWords = 0 ∷ 1 ∷ 1 ∷ 1 ∷ 2 ∷ 1 ∷ 3 ∷ 0 ∷ 3 ∷ 1 ∷ 30 ∷ 0 ∷ 2 ∷ 40 ∷ 2 ∷ 1 ∷ 60 ∷ 4 ∷ 0 ∷ 1 ∷ 0 ∷ 0 ∷ 1 ∷ 0 ∷ 0 ∷ 2 ∷ 0 ∷ 0 ∷ 0 ∷ 1 ∷ 3 ∷ 5 ∷ 4 ∷ 3 ∷ 31 ∷ 1 ∷ 2 ∷ [];
+      ruleText = 112 ∷ [];
+      cells = 11;
+      list = 11;
+      leaves = record { answer = invalid 5 0; cells = 2 ∷ 1 ∷ 2 ∷ 0 ∷ 0 ∷ 0 ∷ 4 ∷ 0 ∷ 1 ∷ 2 ∷ 9 ∷ []; list = 8 ∷ 1 ∷ 9 ∷ 2 ∷ 0 ∷ 77 ∷ 77 ∷ 77 ∷ 77 ∷ 77 ∷ 77 ∷ [] };
+    }
+
+-- 0 (allOf 1; items 2), 1 (prefixItems 3), 2 never, 3 empty; [7]: 43 stands in another schema, so 44 takes all
+abbrev t4 : Sample
+t4 =
+    record {
+      words = 5 ∷ 1 ∷ 1 ∷ 0 ∷ 0 ∷ 0 ∷ 3 ∷ 7 ∷ 0 ∷ 0 ∷ 0 ∷ 0 ∷ 2 ∷ 12 ∷ 0 ∷ 1 ∷ [];
+      text = [];
+      ruleWords = 0 ∷ 2 ∷ 2 ∷ 1 ∷ 3 ∷ 1 ∷ 4 ∷ 0 ∷ 30 ∷ 0 ∷ 1 ∷ 44 ∷ 2 ∷ 0 ∷ 43 ∷ 1 ∷ 1 ∷ 1 ∷ 0 ∷ 0 ∷ 1 ∷ 0 ∷ 0 ∷ 3 ∷ 0 ∷ 0 ∷ 4 ∷ 4 ∷ 2 ∷ 26 ∷ 0 ∷ 2 ∷ [];
+      ruleText = [];
+      cells = 9;
+      list = 9;
+      leaves = record { answer = invalid 4 0; cells = 2 ∷ 1 ∷ 0 ∷ 0 ∷ 0 ∷ 4 ∷ 2 ∷ 1 ∷ 9 ∷ []; list = 7 ∷ 1 ∷ 6 ∷ 0 ∷ 77 ∷ 77 ∷ 77 ∷ 77 ∷ 77 ∷ [] };
+    }
+
+-- 0 (prefixItems 1; items 2), 1 empty, 2 never; [7,8]: 44 takes what stands after the entries of 43
+abbrev t5 : Sample
+t5 =
+    record {
+      words = 5 ∷ 1 ∷ 2 ∷ 0 ∷ 0 ∷ 0 ∷ 3 ∷ 7 ∷ 0 ∷ 0 ∷ 0 ∷ 0 ∷ 3 ∷ 8 ∷ 0 ∷ 0 ∷ 0 ∷ 0 ∷ 3 ∷ 18 ∷ 0 ∷ 1 ∷ [];
+      text = [];
+      ruleWords = 0 ∷ 2 ∷ 2 ∷ 0 ∷ 2 ∷ 1 ∷ 43 ∷ 0 ∷ 1 ∷ 44 ∷ 2 ∷ 0 ∷ 1 ∷ 0 ∷ 0 ∷ 1 ∷ 0 ∷ 0 ∷ 3 ∷ 3 ∷ 1 ∷ 18 ∷ 0 ∷ 2 ∷ [];
+      ruleText = [];
+      cells = 10;
+      list = 10;
+      leaves = record { answer = invalid 3 0; cells = 2 ∷ 0 ∷ 0 ∷ 0 ∷ 1 ∷ 0 ∷ 0 ∷ 0 ∷ 2 ∷ 9 ∷ []; list = 4 ∷ 8 ∷ 0 ∷ 77 ∷ 77 ∷ 77 ∷ 77 ∷ 77 ∷ 77 ∷ 77 ∷ [] };
+    }
+
+-- 0 (oneOf 1, 2; unevaluatedProperties 3), 1 (properties p is 4), 2 empty, 3 never, 4 empty; {"p":7}: oneOf fails and passes on the mark of p
+abbrev t6 : Sample
+t6 =
+    record {
+      words = 6 ∷ 1 ∷ 1 ∷ 0 ∷ 0 ∷ 0 ∷ 3 ∷ 7 ∷ 0 ∷ 0 ∷ 0 ∷ 1 ∷ 2 ∷ 12 ∷ 1 ∷ 1 ∷ [];
+      text = 112 ∷ [];
+      ruleWords = 0 ∷ 2 ∷ 2 ∷ 1 ∷ 3 ∷ 0 ∷ 3 ∷ 1 ∷ 4 ∷ 0 ∷ 32 ∷ 0 ∷ 2 ∷ 60 ∷ 3 ∷ 0 ∷ 40 ∷ 2 ∷ 1 ∷ 1 ∷ 0 ∷ 0 ∷ 1 ∷ 0 ∷ 0 ∷ 2 ∷ 0 ∷ 0 ∷ 0 ∷ 1 ∷ 4 ∷ 5 ∷ 4 ∷ 3 ∷ 31 ∷ 1 ∷ 2 ∷ [];
+      ruleText = 112 ∷ [];
+      cells = 11;
+      list = 11;
+      leaves = record { answer = invalid 4 0; cells = 2 ∷ 1 ∷ 1 ∷ 0 ∷ 0 ∷ 0 ∷ 4 ∷ 0 ∷ 0 ∷ 1 ∷ 9 ∷ []; list = 9 ∷ 1 ∷ 2 ∷ 0 ∷ 77 ∷ 77 ∷ 77 ∷ 77 ∷ 77 ∷ 77 ∷ 77 ∷ [] };
+    }
+
+-- one cell too few: refused 10; both areas too short: 10 comes first; one word of the list too few: refused 11
+abbrev t7 : Sample
+t7 =
+    record {
+      words = 6 ∷ 1 ∷ 1 ∷ 0 ∷ 0 ∷ 0 ∷ 3 ∷ 7 ∷ 0 ∷ 0 ∷ 0 ∷ 1 ∷ 2 ∷ 12 ∷ 1 ∷ 1 ∷ [];
+      text = 112 ∷ [];
+      ruleWords = A-rules;
+      ruleText = 112 ∷ [];
+      cells = 5;
+      list = 6;
+      leaves = record { answer = refuses 10 6; cells = 9 ∷ 9 ∷ 9 ∷ 9 ∷ 9 ∷ []; list = 77 ∷ 77 ∷ 77 ∷ 77 ∷ 77 ∷ 77 ∷ [] };
+    }
+
+abbrev t8 : Sample
+t8 =
+    record {
+      words = 6 ∷ 1 ∷ 1 ∷ 0 ∷ 0 ∷ 0 ∷ 3 ∷ 7 ∷ 0 ∷ 0 ∷ 0 ∷ 1 ∷ 2 ∷ 12 ∷ 1 ∷ 1 ∷ [];
+      text = 112 ∷ [];
+      ruleWords = A-rules;
+      ruleText = 112 ∷ [];
+      cells = 5;
+      list = 5;
+      leaves = record { answer = refuses 10 6; cells = 9 ∷ 9 ∷ 9 ∷ 9 ∷ 9 ∷ []; list = 77 ∷ 77 ∷ 77 ∷ 77 ∷ 77 ∷ [] };
+    }
+
+abbrev t9 : Sample
+t9 =
+    record {
+      words = 6 ∷ 1 ∷ 1 ∷ 0 ∷ 0 ∷ 0 ∷ 3 ∷ 7 ∷ 0 ∷ 0 ∷ 0 ∷ 1 ∷ 2 ∷ 12 ∷ 1 ∷ 1 ∷ [];
+      text = 112 ∷ [];
+      ruleWords = A-rules;
+      ruleText = 112 ∷ [];
+      cells = 6;
+      list = 5;
+      leaves = record { answer = refuses 11 6; cells = 9 ∷ 9 ∷ 9 ∷ 9 ∷ 9 ∷ 9 ∷ []; list = 77 ∷ 77 ∷ 77 ∷ 77 ∷ 77 ∷ [] };
+    }
 
 abbrev leftOf : Sample → Left
-leftOf s = left (s .words) (s .text) (s .ruleWords) (s .ruleText)
+leftOf s = judge (s .words) (s .text) (s .ruleWords) (s .ruleText) (replicate (s .cells) 9) (replicate (s .list) 77)
 
 unfoldable samples-compute : Unit {0}
-unfolding Part.part-computes Value.value-computes kindOf D.formOf D.rowAt D.docOf lineIn S.formOf S.schemaAt S.clauseAt S.entryAt S.run S.clauseOf S.rulesOf Lists.lists-computes Tests.tests-computes Rules.rules-computes Settling.settling-computes left
+unfolding lowestFrom Part.part-computes Value.value-computes repeatsBy kindOf levels level D.formOf D.rowAt D.docOf F.wordsOk F.ownsOk F.placeOk F.rowOk F.repeated R.steps lineIn S.formOf S.schemaAt S.clauseAt S.entryAt S.run S.clauseOf S.rulesOf C.wordsOk C.schemaStart C.schemaFine C.schemaOver C.rises C.listStart C.listOk C.clauseFineIn C.clauseFine C.listOver C.entryFine C.repeated any chain via onLoop Lists.lists-computes Tests.tests-computes Rules.rules-computes Settling.settling-computes Answer.answer-computes
 samples-compute = tt
 
-pub samples : map leftOf table ≡ map (λ s. s .leaves) table
+abbrev twelve : List Sample
+twelve = s1 ∷ s2 ∷ s3 ∷ s4 ∷ s5 ∷ s6 ∷ s7 ∷ s8 ∷ s9 ∷ s10 ∷ s11 ∷ s12 ∷ []
+
+pub samples : map leftOf twelve ≡ map (λ s. s .leaves) twelve
 unfolding samples-compute
 samples = refl
+
+abbrev ours : List Sample
+ours = t1 ∷ t2 ∷ t3 ∷ t4 ∷ t5 ∷ t6 ∷ t7 ∷ t8 ∷ t9 ∷ []
+
+pub further : map leftOf ours ≡ map (λ s. s .leaves) ours
+unfolding samples-compute
+further = refl

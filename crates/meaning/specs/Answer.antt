@@ -60,7 +60,7 @@ judge ws ts rs us cs ls =
     let n = rowsWord ws in
     let m = schemasWord rs in
     let left = judged (docOf ws ts) (rulesOf rs us) n m cs ls in
-    unless (firstLine (recordLines ws ts ++ ruleLines rs us ++ areaLines (n * m) (length cs) (length ls)) 0) cs ls left
+    unless (firstLine (recordLines ws ts ++ (ruleLines rs us ++ areaLines (n * m) (length cs) (length ls))) 0) cs ls left
 
 -- opens this module to a computation
 unfoldable pub answer-computes : Unit {0}
