@@ -109,7 +109,7 @@ module _ (D : Doc) (R : Ruleset) where
     unfolding here to
     here-steps c ss i h = every-image (λ s. to p (p .row) s) (λ s (j : In s (unguarded c)). stays c i j refl) (every-in _ ss h)
 
-    clause-steps : (before : List Clause) (κ : Marks) (c : Clause) → In c (R .clauses (p .rule)) → Every (Step p) (applied sub (clause D p before κ c))
+    pub clause-steps : (before : List Clause) (κ : Marks) (c : Clause) → In c (R .clauses (p .rule)) → Every (Step p) (applied sub (clause D p before κ c))
     unfolding clause applied
     clause-steps before κ (asserts t) i = every-nil
     clause-steps before κ (inPlace m ss) i = each-steps (here p ss) _ (here-steps (inPlace m ss) ss i (λ s j. j))

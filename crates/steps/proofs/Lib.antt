@@ -1,0 +1,3 @@
+pub mod Folds
+pub mod Picks
+pub mod Plans

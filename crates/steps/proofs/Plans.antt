@@ -1,0 +1,252 @@
+-- The plan of a clause is the clause: for a record and rules that fit, and a pair of a row of the record.
+--     applied-is      the pairs that the clause applies are those that its steps pick
+--     holds-is        its verdict is what the plan says of the hits
+--     marks-is        its marks, with those before it, are those after the steps
+--     go-is           a step that looks at the marks that stand when it is reached sees what it would have seen before the clause
+--     aimed           a step that is applied aims at a pair of lower rank among the n × m
+-- Assumes nothing.
+use mathlib.Core.Bool.{Bool, true, false, not, _||_, cond}
+use mathlib.Core.List.{List, [], _∷_, _++_, map, append-nil, List·Memᴰ as In, List·Memᴰ·head as at-head, Memᴰ·append-left, Memᴰ·append-right}
+use mathlib.Core.Logic.{⊎-elim}
+use mathlib.Core.Path.{_≡_, refl, sym, ap, _∙_, subst}
+use Prim.Native.Nat.{ℕ, zero, suc, _+_, _-_, _<_, _≤_, min}
+use native.Mathlib.Nat.{eq-or-lt-of-le}
+use native.Mathlib.Omega.{arith}
+use lib.Dec.{eqb, ltb}
+use lib.ListN.{length, getD}
+use borrow.Author.Tests.{eqb-true, le-ltb}
+use Rattle.laws.proofs.Tests.{decide}
+use Rattle.text.proofs.Bytes.{same-eq}
+use Rattle.sheet.specs.Doc.{Value, null, bool, number, string, array, object, Doc, firstChild, Child, isObject}
+use Rattle.rulesheet.specs.Ruleset.{Mode, allOf, anyOf, oneOf, notOf, ref, Reach, properties, additionalProperties, prefixItems, items}
+use Rattle.rulesheet.specs.Ruleset.{unevaluatedProperties, unevaluatedItems, Clause, asserts, inPlace, takes, guarded, Ruleset}
+use Rattle.meaning.specs.Lists.{all, any, count, range, keep, concatMap}
+use Rattle.meaning.specs.Tests.{members?, elements?, rows}
+use Rattle.meaning.specs.Rules.{Pair, Marks, nothing, these, unions, Result, verdicts, Judgement, found, answer, applied, each}
+use Rattle.meaning.specs.Rules.{one?, none?, joined, namesOf, prefixOf, to, here, under, across, called, membersOf, elementsOf, passes, taken, clause}
+use Rattle.meaning.specs.Fit.{Fit, Inside, rank}
+use Rattle.meaning.proofs.Lists.{in-every}
+use Rattle.meaning.proofs.Judgements.{answer-each, applied-each}
+use Rattle.meaning.proofs.Steps.{Taken, taken-steps, clause-steps, falls, stays-inside}
+use Rattle.steps.specs.Folds.{picked, hitsBy, marksBy}
+use Rattle.steps.specs.Plan.{memberCount, elementCount, no-member, finishedBy, own, childRow, childNamed, finishOf, prefixed, unnamed, stepsIn, aimIn, goIn, stepsOf, aimOf, goOf}
+use Rattle.steps.proofs.Folds.{picked-same, list-picked, kept-picked, run-picked, count-hits, all-hits, unions-marks, these-marks, marks-later, any-count, not-some}
+use Rattle.steps.proofs.Picks.{named-picked, across-picked, drop-range}
+
+-- ---- what is picked
+
+picked-none : (go : ℕ → Bool) (aim : ℕ → Pair) (n : ℕ) → ((i : ℕ) → i < n → go i ≡ false) → picked go aim n ≡ picked go aim 0
+unfolding picked
+picked-none go aim zero f = refl
+picked-none go aim (suc n) f = rw (picked-none go aim n (λ i h. f i (omega arith)), f n (omega arith))
+
+pub picked-in : (go : ℕ → Bool) (aim : ℕ → Pair) (n i : ℕ) → i < n → go i ≡ true → In (aim i) (picked go aim n)
+unfolding picked
+picked-in go aim zero i h g = absurd (nothing-below h)
+  where
+    nothing-below : i < 0 → ⊥
+    nothing-below l = omega arith
+picked-in go aim (suc n) i h g =
+    ⊎-elim (λ (e : i ≡ n). rw (← e, g) (Memᴰ·append-right (picked go aim i) (at-head refl)))
+    (λ (l : i < n). Memᴰ·append-left (cond (go n) (aim n ∷ []) []) (picked-in go aim n i l g))
+    (eq-or-lt-of-le (less-or-same h))
+  where
+    less-or-same : i < suc n → i ≤ n
+    less-or-same l = omega arith
+
+-- ---- the children of a row, by its value
+
+members-range : (v : Value) → rows (members? v) ≡ range (firstChild v) (memberCount v)
+unfolding rows members? range
+members-range null = refl
+members-range (bool b) = refl
+members-range (number z) = refl
+members-range (string bytes) = refl
+members-range (array first k) = refl
+members-range (object first k) = refl
+
+elements-range : (v : Value) → rows (elements? v) ≡ range (firstChild v) (elementCount v)
+unfolding rows elements? range
+elements-range null = refl
+elements-range (bool b) = refl
+elements-range (number z) = refl
+elements-range (string bytes) = refl
+elements-range (array first k) = refl
+elements-range (object first k) = refl
+
+module _ (D : Doc) (R : Ruleset) (n m : ℕ) (fit : Fit D R n m) (p : Pair) (row-in : p .row < n) where
+  members-are : membersOf D (p .row) ≡ range (firstChild (own D p)) (memberCount (own D p))
+  unfolding membersOf
+  members-are = members-range (own D p)
+
+  elements-are : elementsOf D (p .row) ≡ range (firstChild (own D p)) (elementCount (own D p))
+  unfolding elementsOf
+  elements-are = elements-range (own D p)
+
+  -- no two members have one name
+  alone-in : (v : Value) → own D p ≡ v → (name : List ℕ) (i j : ℕ) → firstChild v ≤ i → i < j → j < firstChild v + memberCount v
+      → called D name i ≡ true → called D name j ≡ true → ⊥
+  unfolding called
+  alone-in null e name i j a b c s t = omega arith
+  alone-in (bool x) e name i j a b c s t = omega arith
+  alone-in (number z) e name i j a b c s t = omega arith
+  alone-in (string bytes) e name i j a b c s t = omega arith
+  alone-in (array first k) e name i j a b c s t = omega arith
+  alone-in (object first k) e name i j a b c s t =
+      fit .rows .names-differ (p .row) i j row-in (rw e)
+      (record { after = rw e a; within = rw e (omega arith) })
+      (record { after = rw e (omega arith); within = rw e c })
+      b
+      (same-eq (D .name i) name s ∙ sym (same-eq (D .name j) name t))
+
+  alone : (name : List ℕ) (i j : ℕ) → firstChild (own D p) ≤ i → i < j → j < firstChild (own D p) + memberCount (own D p)
+      → called D name i ≡ true → called D name j ≡ true → ⊥
+  alone = alone-in (own D p) refl
+
+  -- a member and an element are children
+  member-in : (v : Value) → own D p ≡ v → (i : ℕ) → i < memberCount v → Child D (p .row) (firstChild v + i)
+  member-in null e i h = absurd (omega arith)
+  member-in (bool b) e i h = absurd (omega arith)
+  member-in (number z) e i h = absurd (omega arith)
+  member-in (string bytes) e i h = absurd (omega arith)
+  member-in (array first k) e i h = absurd (omega arith)
+  member-in (object first k) e i h = record { after = rw e (omega arith); within = rw e (omega arith) }
+
+  element-in : (v : Value) → own D p ≡ v → (i : ℕ) → i < elementCount v → Child D (p .row) (firstChild v + i)
+  element-in null e i h = absurd (omega arith)
+  element-in (bool b) e i h = absurd (omega arith)
+  element-in (number z) e i h = absurd (omega arith)
+  element-in (string bytes) e i h = absurd (omega arith)
+  element-in (array first k) e i h = record { after = rw e (omega arith); within = rw e (omega arith) }
+  element-in (object first k) e i h = absurd (omega arith)
+
+  -- no child is its own owner
+  child-apart : (k : ℕ) → Child D (p .row) k → k ≡ p .row → ⊥
+  child-apart k c e = omega (arith, fit .rows .child-after (p .row) k row-in c)
+
+  module _ (before : List Clause) (κ : Marks) where
+    -- ---- the pairs picked
+
+    abbrev goesIn : Reach → ℕ → Bool
+    goesIn c i = goIn D p before c i (κ (aimIn D p before c i .row))
+
+    pub taken-picked : (c : Reach) → taken D p before κ c ≡ picked (goesIn c) (aimIn D p before c) (stepsIn D p before c)
+    unfolding taken stepsIn aimIn goIn childNamed to under unnamed
+    taken-picked (properties es) =
+        rw members-are
+        (named-picked p (called D) (firstChild (own D p)) (memberCount (own D p)) alone es ∙ some (eqb (memberCount (own D p)) 0) refl)
+      where
+        go : ℕ → Bool
+        go i = ltb (childNamed D p (getD es i no-member .0)) (memberCount (own D p))
+
+        aim : ℕ → Pair
+        aim i = to p (childRow D p (childNamed D p (getD es i no-member .0))) (getD es i no-member .1)
+
+        some : (b : Bool) → eqb (memberCount (own D p)) 0 ≡ b → picked go aim (length es) ≡ picked go aim (cond b 0 (length es))
+        some true e = picked-none go aim (length es) (λ i h. let z = eqb-true (memberCount (own D p)) 0 e in le-ltb (childNamed D p (getD es i no-member .0)) (memberCount (own D p)) (omega arith))
+        some false e = refl
+    taken-picked (additionalProperties s) = rw members-are (kept-picked (λ k. to p k s) (unnamed D p before) (memberCount (own D p)) (firstChild (own D p)))
+    taken-picked (prefixItems ss) = rw elements-are (across-picked p (elementCount (own D p)) (firstChild (own D p)) ss)
+    taken-picked (items s) =
+        rw (elements-are, drop-range (prefixed D p before) (firstChild (own D p)) (elementCount (own D p)))
+        (run-picked (λ k. to p k s) (elementCount (own D p) - prefixed D p before) (firstChild (own D p) + prefixed D p before)
+        ∙ picked-same (λ i. true) (λ i. true) _ _ (elementCount (own D p) - prefixed D p before) (λ i h. refl)
+        (λ i h. let e : (firstChild (own D p) + prefixed D p before) + i ≡ firstChild (own D p) + (prefixed D p before + i) = omega arith in rw e))
+    taken-picked (unevaluatedProperties s) = rw members-are (kept-picked (λ k. to p k s) (λ k. not (κ k)) (memberCount (own D p)) (firstChild (own D p)))
+    taken-picked (unevaluatedItems s) = rw elements-are (kept-picked (λ k. to p k s) (λ k. not (κ k)) (elementCount (own D p)) (firstChild (own D p)))
+
+    here-picked : (ss : List ℕ) → here p ss ≡ picked (λ i. true) (λ i. to p (p .row) (getD ss i 0)) (length ss)
+    unfolding here
+    here-picked ss = list-picked (λ s. to p (p .row) s) ss 0
+
+    abbrev goes : Clause → ℕ → Bool
+    goes c i = goOf D p before c i (κ (aimOf D p before c i .row))
+
+    abbrev aims : Clause → ℕ → Pair
+    aims c = aimOf D p before c
+
+    abbrev many : Clause → ℕ
+    many c = stepsOf D p before c
+
+    pub applied-is : (sub : Pair → Result) (c : Clause) → applied sub (clause D p before κ c) ≡ picked (goes c) (aims c) (many c)
+    unfolding clause applied stepsOf aimOf goOf picked
+    applied-is sub (asserts t) = refl
+    applied-is sub (inPlace mode ss) = applied-each sub (here p ss) _ ∙ append-nil (here p ss) ∙ here-picked ss
+    applied-is sub (takes c) = applied-each sub (taken D p before κ c) _ ∙ append-nil (taken D p before κ c) ∙ taken-picked c
+
+    -- ---- the verdict
+
+    joined-hits : (sub : Pair → Result) (mode : Mode) (aim : ℕ → Pair) (k : ℕ)
+        → joined mode (verdicts (map sub (picked (λ i. true) aim k))) ≡ finishedBy mode (hitsBy sub (λ i. true) aim k) k
+    unfolding joined finishedBy one? none?
+    joined-hits sub allOf aim k = all-hits sub aim (λ i. true) k
+    joined-hits sub anyOf aim k = any-count _ ∙ ap (ltb 0) (count-hits sub aim k)
+    joined-hits sub oneOf aim k = ap (λ x. eqb x 1) (count-hits sub aim k)
+    joined-hits sub notOf aim k = ap not (any-count _ ∙ ap (ltb 0) (count-hits sub aim k)) ∙ not-some (hitsBy sub (λ i. true) aim k)
+    joined-hits sub ref aim k = all-hits sub aim (λ i. true) k
+
+    pub holds-is : (sub : Pair → Result) (c : Clause) → answer sub (clause D p before κ c) .holds ≡ finishOf D p c (hitsBy sub (goes c) (aims c) (many c)) (many c)
+    unfolding clause answer stepsOf aimOf goOf finishOf
+    holds-is sub (asserts t) = refl
+    holds-is sub (inPlace mode ss) =
+        ap (λ r. r .holds) (answer-each sub (here p ss) _)
+        ∙ ap (λ l. joined mode (verdicts (map sub l))) (here-picked ss)
+        ∙ joined-hits sub mode (λ i. to p (p .row) (getD ss i 0)) (length ss)
+    holds-is sub (takes c) =
+        ap (λ r. r .holds) (answer-each sub (taken D p before κ c) _)
+        ∙ ap (λ l. all (verdicts (map sub l))) (taken-picked c)
+        ∙ all-hits sub (aimIn D p before c) (goesIn c) (stepsIn D p before c)
+
+    -- ---- the marks
+
+    taken-apart : (c : Reach) (i : ℕ) → i < stepsIn D p before c → goesIn c i ≡ true → aimIn D p before c i .row ≡ p .row → ⊥
+    taken-apart c i h g e =
+        let q = in-every (taken-steps D p before κ c) (subst (λ l. In (aimIn D p before c i) l) (sym (taken-picked c)) (picked-in (goesIn c) (aimIn D p before c) (stepsIn D p before c) i h g)) in
+        child-apart (aimIn D p before c i .row) (q .child) e
+
+    or-no : (b : Bool) → (b || false) ≡ b
+    or-no true = refl
+    or-no false = refl
+
+    here-row : (s : ℕ) → to p (p .row) s .row ≡ p .row
+    unfolding to
+    here-row s = refl
+
+    pub marks-is : (sub : Pair → Result) (c : Clause) (k : ℕ) → (κ k || answer sub (clause D p before κ c) .marks k) ≡ marksBy sub p (goes c) (aims c) κ (many c) k
+    unfolding clause answer stepsOf aimOf goOf nothing marksBy
+    marks-is sub (asserts t) k = or-no (κ k)
+    marks-is sub (inPlace mode ss) k =
+        ap (λ r. κ k || r .marks k) (answer-each sub (here p ss) _)
+        ∙ ap (λ l. κ k || unions (map sub l) k) (here-picked ss)
+        ∙ unions-marks sub (λ i. to p (p .row) (getD ss i 0)) p κ k (length ss) (λ i h. here-row (getD ss i 0))
+    marks-is sub (takes c) k =
+        ap (λ r. κ k || r .marks k) (answer-each sub (taken D p before κ c) _)
+        ∙ ap (λ l. κ k || these (map (λ (q : Pair). q .row) l) k) (taken-picked c)
+        ∙ these-marks sub (aimIn D p before c) p (goesIn c) κ k (stepsIn D p before c) (taken-apart c)
+
+    -- ---- the marks that stand when a step is reached
+
+    pub go-is : (sub : Pair → Result) (c : Clause) (i : ℕ) → i < many c
+        → goOf D p before c i (marksBy sub p (goes c) (aims c) κ i (aims c i .row)) ≡ goes c i
+    unfolding stepsOf aimOf goOf stepsIn aimIn goIn to
+    go-is sub (asserts t) i h = refl
+    go-is sub (inPlace mode ss) i h = refl
+    go-is sub (takes (properties es)) i h = refl
+    go-is sub (takes (additionalProperties s)) i h = refl
+    go-is sub (takes (prefixItems ss)) i h = refl
+    go-is sub (takes (items s)) i h = refl
+    go-is sub (takes (unevaluatedProperties s)) i h =
+        ap not (marks-later sub (λ x. to p (childRow D p x) s) p _ κ (childRow D p i) i
+        (λ x g. (child-apart (childRow D p x) (member-in (own D p) refl x (omega arith)), λ e. omega arith)))
+    go-is sub (takes (unevaluatedItems s)) i h =
+        ap not (marks-later sub (λ x. to p (childRow D p x) s) p _ κ (childRow D p i) i
+        (λ x g. (child-apart (childRow D p x) (element-in (own D p) refl x (omega arith)), λ e. omega arith)))
+
+    -- ---- where a step leads
+
+    pub aimed : (rule-in : p .rule < m) (c : Clause) (i : ℕ) → In c (R .clauses (p .rule)) → i < many c → goes c i ≡ true
+        → Inside n m (aims c i) × (rank D R (aims c i) < rank D R p)
+    aimed rule-in c i has h g =
+        let sub : Pair → Result = λ q. record { holds = true; marks = nothing } in
+        let step = in-every (clause-steps D R sub p before κ c has) (subst (λ l. In (aims c i) l) (sym (applied-is sub c)) (picked-in (goes c) (aims c) (many c) i h g)) in
+        (stays-inside D R n m fit p (aims c i) (record { row-in = row-in; rule-in = rule-in }) step, falls D R n m fit p (aims c i) step)

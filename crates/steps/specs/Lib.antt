@@ -1,0 +1,3 @@
+-- In reading order.
+pub mod Folds
+pub mod Plan
