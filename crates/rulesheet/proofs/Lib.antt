@@ -5,5 +5,6 @@ pub mod Runs
 pub mod Taking
 pub mod Reaching
 pub mod Repeating
+pub mod Items
 pub mod Naming
 pub mod Meanings

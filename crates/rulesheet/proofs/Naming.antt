@@ -17,7 +17,7 @@ use Rattle.rulesheet.specs.declared.code.Fields.the-variants.{Unknown, B
 use Rattle.rulesheet.specs.declared.form.EntryRow.{EntryRow}
 use Rattle.rulesheet.specs.declared.form.RuleForm.{RuleForm}
 use Rattle.rulesheet.specs.Ruleset.{Clause, named}
-use Rattle.rulesheet.specs.Codes.{Parts, Line, codes, entryName, meansOf, shapeOf}
+use Rattle.rulesheet.specs.Codes.{Parts, Line, codes, entryRange, entryName, meansOf, shapeOf}
 use Rattle.rulesheet.specs.Sheet.{schemasWord, clausesWord, textWord, schemaAt, clauseAt, entryAt, run, clauseOf, rulesOf}
 use Rattle.rulesheet.specs.Faults.{isList, fieldsAt, entryOk, clauseFine}
 use Rattle.rulesheet.specs.Read.{RulesLaid}
@@ -109,7 +109,7 @@ module _ (ws ts : List ℕ) (form : RuleForm) (laid : RulesLaid ws form) (k : �
   by-fields Members t e i =
       let a = Memᴰ·of-map (λ (x : EntryRow). x .third) (partsAt ws ts k .entries) i in
       let ok = rw e at (listed (a .0) (a .1) (rw e)) in
-      let low = ltb-true (a .0 .third) (schemasWord ws) (right (fits (textWord ws) (record { start = a .0 .first; length = a .0 .second })) (ltb (a .0 .third) (schemasWord ws)) ok) in
+      let low = ltb-true (a .0 .third) (schemasWord ws) (right (fits (textWord ws) (entryRange (a .0))) (ltb (a .0 .third) (schemasWord ws)) ok) in
       rw (← a .2) low
 
   pub clause-inside : (t : ℕ) → In t (named (clauseOf ws ts k)) → t < schemasWord ws

@@ -46,15 +46,19 @@ map-at f [] i d e h = absurd (nothing h)
 map-at f (x ∷ xs) zero d e h = refl
 map-at f (x ∷ xs) (suc i) d e h = map-at f xs i d e (omega arith)
 
+-- item i of a list that is made of a run is made of `first + i`
+pub made-at : {B : Type 0} (make : ℕ → B) (many first i : ℕ) (d : B) → i < many → getD (map make (run many first)) i d ≡ make (first + i)
+made-at make many first i d h =
+    let inside : i < length (run many first) = omega (arith, run-long many first) in
+    map-at make (run many first) i 0 d inside ∙ ap make (run-at many first i h)
+
 -- item i of a list that is made of entries is made of the entry at `first + i`
 pub item-is : {B : Type 0} (ws : List ℕ) (make : EntryRow → B) (many first i : ℕ) (d : B) → i < many
     → getD (map make (map (entryAt ws) (run many first))) i d ≡ make (entryAt ws (first + i))
 item-is ws make many first i d h =
     let none : EntryRow = record { first = 0; second = 0; third = 0 } in
     let inside : i < length (run many first) = omega (arith, run-long many first) in
-    map-at make (map (entryAt ws) (run many first)) i none d (simp length-map inside)
-    ∙ ap make (map-at (entryAt ws) (run many first) i 0 none inside)
-    ∙ ap (λ (x : ℕ). make (entryAt ws x)) (run-at many first i h)
+    map-at make (map (entryAt ws) (run many first)) i none d (simp length-map inside) ∙ ap make (made-at (entryAt ws) many first i none h)
 
 -- ---- a fact about every line of the table
 

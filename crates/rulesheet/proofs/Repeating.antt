@@ -2,6 +2,7 @@
 --     names-lie          they lie as the search for a repeated name asks
 --     found-named        that search gives the lowest repeated entry of the clause
 --     found-unnamed      entries that have no names repeat none
+--     named-fits         an entry that has a name has it within the text
 --     all-taken          the lists take all the entries
 -- Assumes nothing.
 use mathlib.Core.Bool.{true, false, _&&_}
@@ -24,16 +25,15 @@ use Rattle.rulesheet.specs.declared.code.Fields.{Fields}
 use Rattle.rulesheet.specs.declared.code.Fields.the-variants.{Unknown, Bare, Types, Number, Positive, Limit, Schema, Values, Names as NamesOf, Schemas, Members}
 use Rattle.rulesheet.specs.declared.form.EntryRow.{EntryRow}
 use Rattle.rulesheet.specs.declared.form.RuleForm.{RuleForm}
-use Rattle.rulesheet.specs.Codes.{entryName}
+use Rattle.rulesheet.specs.Codes.{entryRange, entryName}
 use Rattle.rulesheet.specs.Sheet.{entry-words, schemasWord, clausesWord, entriesWord, textWord, formOf, clauseAt, entryAt}
 use Rattle.rulesheet.specs.Faults.{isList, isNamed, fieldsAt, entryOk, listStart, repeated}
 use Rattle.rulesheet.specs.Read.{RulesLaid}
-use Rattle.rulesheet.specs.Clauses.{entryRange}
 use Rattle.rulesheet.proofs.Trailers.{facts, form-c, form-e, entry-inside}
 use Rattle.rulesheet.proofs.Taking.{list-facts, list-over, entry-taken, entry-untaken, lists-within}
 
 -- an entry with a name has it within the text
-named-fits : (fields : Fields) (size m : ℕ) (e : EntryRow) → isNamed fields ≡ true → entryOk fields size m e ≡ true → fits size (entryRange e) ≡ true
+pub named-fits : (fields : Fields) (size m : ℕ) (e : EntryRow) → isNamed fields ≡ true → entryOk fields size m e ≡ true → fits size (entryRange e) ≡ true
 named-fits Unknown size m e n t = cc
 named-fits Bare size m e n t = cc
 named-fits Types size m e n t = cc

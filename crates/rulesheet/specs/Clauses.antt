@@ -5,10 +5,13 @@ use mathlib.Core.Bool.{true}
 use mathlib.Core.List.{List, [], _∷_, map}
 use mathlib.Core.Path.{_≡_}
 use Prim.Native.Nat.{ℕ, _+_, _≤_, _<_}
+use lib.ListN.{getD}
 use Rattle.decimal.specs.declared.Decimal.{Decimal}
 use Rattle.decimal.specs.Value.{value, Plain}
 use Rattle.text.specs.declared.Range.{Range}
+use Rattle.text.specs.Part.{fits, part}
 use Rattle.sheet.specs.declared.record.RuleRow.{RuleRow}
+use Rattle.sheet.specs.Doc.{Value}
 use Rattle.rulesheet.specs.declared.code.Fields.{Fields}
 use Rattle.rulesheet.specs.declared.code.Fields.the-variants.{Values, Names, Schemas, Members}
 use Rattle.rulesheet.specs.declared.form.RuleForm.{RuleForm}
@@ -20,19 +23,32 @@ use Rattle.rulesheet.specs.declared.clause.Clause.the-variants.{MinLengt
 use Rattle.rulesheet.specs.declared.clause.Clause.the-variants.{AllOf, AnyOf, OneOf, Not, Ref, Properties, AdditionalProperties, PrefixItems, Items}
 use Rattle.rulesheet.specs.declared.clause.Clause.the-variants.{UnevaluatedProperties, UnevaluatedItems}
 use Rattle.rulesheet.specs.Ruleset as R
-use Rattle.rulesheet.specs.Codes.{entryValue, entryName}
+use Rattle.rulesheet.specs.Codes.{entryValue, entryName, entryMember}
 use Rattle.rulesheet.specs.Sheet.{schemasWord, textWord, entryAt, run}
-use Rattle.rulesheet.specs.Faults.{entryOk}
+use Rattle.rulesheet.specs.Faults.{entryOk, isNamed}
 use Rattle.rulesheet.specs.Read.{ClausesLaid, RulesLaid}
 
 -- the entries of a list, read from the words
 abbrev pub entriesOf : List ℕ → Entries → List EntryRow
 entriesOf ws es = map (entryAt ws) (run (es .count) (es .first))
 
+-- the lists that they stand for: schemas, values, names, names with schemas
+abbrev pub schemasIn : List ℕ → Entries → List ℕ
+schemasIn ws es = map (λ (e : EntryRow). e .first) (entriesOf ws es)
+
+abbrev pub valuesIn : List ℕ → List ℕ → Entries → List Value
+valuesIn ws ts es = map (entryValue ts) (entriesOf ws es)
+
+abbrev pub namesIn : List ℕ → List ℕ → Entries → List (List ℕ)
+namesIn ws ts es = map (entryName ts) (entriesOf ws es)
+
+abbrev pub membersIn : List ℕ → List ℕ → Entries → List (List ℕ × ℕ)
+membersIn ws ts es = map (entryMember ts) (entriesOf ws es)
+
 abbrev pub clauseMeans : List ℕ → List ℕ → Clause → R.Clause
 clauseMeans ws ts Never = R.asserts R.never
 clauseMeans ws ts (Types mask) = R.asserts (R.type mask)
-clauseMeans ws ts (Enum es) = R.asserts (R.enum (map (entryValue ts) (entriesOf ws es)))
+clauseMeans ws ts (Enum es) = R.asserts (R.enum (valuesIn ws ts es))
 clauseMeans ws ts (Minimum d) = R.asserts (R.minimum (value d))
 clauseMeans ws ts (Maximum d) = R.asserts (R.maximum (value d))
 clauseMeans ws ts (ExclusiveMinimum d) = R.asserts (R.exclusiveMinimum (value d))
@@ -44,15 +60,15 @@ clauseMeans ws ts (MinItems n) = R.asserts (R.minItems n)
 clauseMeans ws ts (MaxItems n) = R.asserts (R.maxItems n)
 clauseMeans ws ts (MinProperties n) = R.asserts (R.minProperties n)
 clauseMeans ws ts (MaxProperties n) = R.asserts (R.maxProperties n)
-clauseMeans ws ts (Required es) = R.asserts (R.required (map (entryName ts) (entriesOf ws es)))
-clauseMeans ws ts (AllOf es) = R.inPlace R.allOf (map (λ (e : EntryRow). e .first) (entriesOf ws es))
-clauseMeans ws ts (AnyOf es) = R.inPlace R.anyOf (map (λ (e : EntryRow). e .first) (entriesOf ws es))
-clauseMeans ws ts (OneOf es) = R.inPlace R.oneOf (map (λ (e : EntryRow). e .first) (entriesOf ws es))
+clauseMeans ws ts (Required es) = R.asserts (R.required (namesIn ws ts es))
+clauseMeans ws ts (AllOf es) = R.inPlace R.allOf (schemasIn ws es)
+clauseMeans ws ts (AnyOf es) = R.inPlace R.anyOf (schemasIn ws es)
+clauseMeans ws ts (OneOf es) = R.inPlace R.oneOf (schemasIn ws es)
 clauseMeans ws ts (Not row) = R.inPlace R.notOf (row .0 ∷ [])
 clauseMeans ws ts (Ref row) = R.inPlace R.ref (row .0 ∷ [])
-clauseMeans ws ts (Properties es) = R.takes (R.properties (map (λ (e : EntryRow). (entryName ts e, e .third)) (entriesOf ws es)))
+clauseMeans ws ts (Properties es) = R.takes (R.properties (membersIn ws ts es))
 clauseMeans ws ts (AdditionalProperties row) = R.takes (R.additionalProperties (row .0))
-clauseMeans ws ts (PrefixItems es) = R.takes (R.prefixItems (map (λ (e : EntryRow). e .first) (entriesOf ws es)))
+clauseMeans ws ts (PrefixItems es) = R.takes (R.prefixItems (schemasIn ws es))
 clauseMeans ws ts (Items row) = R.takes (R.items (row .0))
 clauseMeans ws ts (UnevaluatedProperties row) = R.takes (R.unevaluatedProperties (row .0))
 clauseMeans ws ts (UnevaluatedItems row) = R.takes (R.unevaluatedItems (row .0))
@@ -113,6 +129,8 @@ pub record Tested (ws : List ℕ) (form : RuleForm) (clause : Clause) : Type 0 w
   pub bounded : ClausesLaid ws form → Bounded form (held clause)
   pub listed : RulesLaid ws form → Listed ws (held clause)
 
--- an entry's name as a range of the rule text: its bytes are the `entryName`
-abbrev pub entryRange : EntryRow → Range
-entryRange e = record { start = e .first; length = e .second }
+-- the range that is read as the name of item i of a list: its bytes, and that a list of names has them within the text
+pub record EntryNameRead (ws : List ℕ) (es : Entries) (i : ℕ) (r : Range) : Type 0 where
+  pub name-is : (ts : List ℕ) → part ts r ≡ getD (namesIn ws ts es) i []
+  pub member-is : (ts : List ℕ) → part ts r ≡ getD (membersIn ws ts es) i ([], 0) .0
+  pub name-fits : (fields : Fields) → isNamed fields ≡ true → Listed ws (list fields es) → fits (textWord ws) r ≡ true

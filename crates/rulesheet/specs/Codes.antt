@@ -7,6 +7,7 @@ use Prim.Native.Nat.{ℕ}
 use lib.Dec.{eqb}
 use lib.IntN.{ℤ}
 use Rattle.decimal.specs.Value.{signed, billionths}
+use Rattle.text.specs.declared.Range.{Range}
 use Rattle.text.specs.Part.{part}
 use Rattle.sheet.specs.Kinds.{kindOf}
 use Rattle.sheet.specs.Doc.{Value}
@@ -40,8 +41,15 @@ numberOf p = billionths (signed (p .first)) (p .count)
 abbrev pub entryValue : List ℕ → EntryRow → Value
 entryValue ts e = valueBy (kindOf (e .first)) ts (e .second) (e .third)
 
+-- an entry's name as a range of the rule text
+abbrev pub entryRange : EntryRow → Range
+entryRange e = record { start = e .first; length = e .second }
+
 abbrev pub entryName : List ℕ → EntryRow → List ℕ
-entryName ts e = part ts (record { start = e .first; length = e .second })
+entryName ts e = part ts (entryRange e)
+
+abbrev pub entryMember : List ℕ → EntryRow → List ℕ × ℕ
+entryMember ts e = (entryName ts e, e .third)
 
 abbrev valuesOf : Parts → List Value
 valuesOf p = map (entryValue (p .text)) (p .entries)
@@ -57,7 +65,7 @@ abbrev schemaOf : Parts → List ℕ
 schemaOf p = p .first ∷ []
 
 abbrev membersOf : Parts → List (List ℕ × ℕ)
-membersOf p = map (λ e. (entryName (p .text) e, e .third)) (p .entries)
+membersOf p = map (entryMember (p .text)) (p .entries)
 
 -- ---- the table
 

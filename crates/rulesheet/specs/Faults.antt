@@ -15,7 +15,7 @@ use Rattle.rulesheet.specs.declared.code.Fields.{Fields}
 use Rattle.rulesheet.specs.declared.code.Fields.the-variants.{Unknown, Bare, Types, Number, Positive, Limit, Schema, Values, Names, Schemas, Members}
 use Rattle.rulesheet.specs.declared.form.EntryRow.{EntryRow}
 use Rattle.rulesheet.specs.declared.form.ClauseRow.{ClauseRow}
-use Rattle.rulesheet.specs.Codes.{shapeOf, entryName}
+use Rattle.rulesheet.specs.Codes.{shapeOf, entryRange, entryName}
 use Rattle.rulesheet.specs.Sheet.{trailer-words, schema-words, clause-words, entry-words, schemasWord, clausesWord, entriesWord, backWord, textWord, kindWord, schemaAt, clauseAt, entryAt}
 
 -- ---- 5: the trailer
@@ -90,9 +90,9 @@ entryOk Positive size m entry = false
 entryOk Limit size m entry = false
 entryOk Schema size m entry = false
 entryOk Values size m entry = isKind (entry .first) && scalarOk (kindOf (entry .first)) size (entry .second) (entry .third)
-entryOk Names size m entry = fits size (record { start = entry .first; length = entry .second }) && eqb (entry .third) 0
+entryOk Names size m entry = fits size (entryRange entry) && eqb (entry .third) 0
 entryOk Schemas size m entry = ltb (entry .first) m && none (entry .second) (entry .third)
-entryOk Members size m entry = fits size (record { start = entry .first; length = entry .second }) && ltb (entry .third) m
+entryOk Members size m entry = fits size (entryRange entry) && ltb (entry .third) m
 
 module _ (ws : List ℕ) where
   abbrev pub fieldsAt : ℕ → Fields

@@ -1,10 +1,11 @@
 // The clauses of a rule sheet, each code its own variant: who judges by them never sees a code.
-ghost use mathlib.Core.List.{List};
+ghost use mathlib.Core.List.{List, []};
 ghost use mathlib.Core.Path.{_≡_};
 ghost use Prim.Native.Nat.{ℕ, _+_, _≤_, _<_};
+ghost use lib.ListN.{getD};
 ghost use Rattle.rulesheet.specs.Sheet.{entryAt, clauseOf};
 ghost use Rattle.rulesheet.specs.Read.{RulesFormed};
-ghost use Rattle.rulesheet.specs.Clauses.{clauseMeans, Tested, entryRange};
+ghost use Rattle.rulesheet.specs.Clauses.{schemasIn, membersIn, clauseMeans, Tested, EntryNameRead};
 use crate::form::EntryRow;
 use crate::form::RuleForm;
 use crate::form::clause_at;
@@ -107,7 +108,7 @@ pub fn entry_of(words: &[u32], form: RuleForm, list: Entries, i: u32) -> EntryRo
 // The schema of entry i of a list of schemas.
 pub fn entry_schema(words: &[u32], form: RuleForm, list: Entries, i: u32) -> RuleRow
     requires { ⌜ RulesFormed (now words) form × (list .first + list .count ≤ form .e) × (i < list .count) ⌝ }
-    ensures { λ r. ⌜ r .0 ≡ entryAt (now (words .entry)) (list .first + i) .first ⌝ }
+    ensures { λ r. ⌜ r .0 ≡ getD (schemasIn (now (words .entry)) list) i 0 ⌝ }
 {
     RuleRow(entry_of(words, form, list, i).first)
 }
@@ -115,7 +116,7 @@ pub fn entry_schema(words: &[u32], form: RuleForm, list: Entries, i: u32) -> Rul
 // The schema of entry i of a list of names with schemas.
 pub fn member_schema(words: &[u32], form: RuleForm, list: Entries, i: u32) -> RuleRow
     requires { ⌜ RulesFormed (now words) form × (list .first + list .count ≤ form .e) × (i < list .count) ⌝ }
-    ensures { λ r. ⌜ r .0 ≡ entryAt (now (words .entry)) (list .first + i) .third ⌝ }
+    ensures { λ r. ⌜ ((ts : List ℕ) → r .0 ≡ getD (membersIn (now (words .entry)) ts list) i ([], 0) .1) ⌝ }
 {
     RuleRow(entry_of(words, form, list, i).third)
 }
@@ -123,7 +124,7 @@ pub fn member_schema(words: &[u32], form: RuleForm, list: Entries, i: u32) -> Ru
 // The name of entry i of a list of names, or of names with schemas, as a range of the rule text.
 pub fn entry_name(words: &[u32], form: RuleForm, list: Entries, i: u32) -> Range
     requires { ⌜ RulesFormed (now words) form × (list .first + list .count ≤ form .e) × (i < list .count) ⌝ }
-    ensures { λ r. ⌜ r ≡ entryRange (entryAt (now (words .entry)) (list .first + i)) ⌝ }
+    ensures { λ r. ⌜ EntryNameRead (now (words .entry)) list i r ⌝ }
 {
     let entry = entry_of(words, form, list, i);
     Range {

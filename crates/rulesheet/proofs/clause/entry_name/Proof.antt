@@ -1,6 +1,5 @@
 -- `entry_name` meets its contract. Assumes nothing.
-use mathlib.Core.Path.{ap}
-use Rattle.rulesheet.specs.Clauses.{entryRange}
+use Rattle.rulesheet.proofs.Items.{name-read}
 use borrow.Author.Needs.{needs}
 use Rattle.rulesheet.proofs.clause.entry_name.Statement.{statement}
 use Rattle.rulesheet.proofs.clause.entry_name.Tie as tie
@@ -9,7 +8,7 @@ entry-of-requires : tie.Need-entry-of-requires
 entry-of-requires c κs = search needs
 
 returns : tie.Need-returns
-returns c = ap entryRange (c .entry-of .ensures)
+returns c = name-read (c .before .before .args .words .now) (c .before .before .args .list) (c .before .before .args .i) (c .before .before .pre .2) (c .entry-of .result) (c .entry-of .ensures)
 
 pub entry-name-spec : {M : Type 1} → statement M
 entry-name-spec = tie.close (tie.spec entry-of-requires returns)

@@ -1,6 +1,5 @@
 -- `entry_schema` meets its contract. Assumes nothing.
-use mathlib.Core.Path.{ap}
-use Rattle.rulesheet.specs.declared.form.EntryRow.{EntryRow}
+use Rattle.rulesheet.proofs.Items.{schema-item}
 use borrow.Author.Needs.{needs}
 use Rattle.rulesheet.proofs.clause.entry_schema.Statement.{statement}
 use Rattle.rulesheet.proofs.clause.entry_schema.Tie as tie
@@ -9,7 +8,7 @@ entry-of-requires : tie.Need-entry-of-requires
 entry-of-requires c κs = search needs
 
 returns : tie.Need-returns
-returns c = ap (λ (e : EntryRow). e .first) (c .entry-of .ensures)
+returns c = schema-item (c .before .before .args .words .now) (c .before .before .args .list) (c .before .before .args .i) (c .before .before .pre .2) (c .entry-of .result) (c .entry-of .ensures) 0
 
 pub entry-schema-spec : {M : Type 1} → statement M
 entry-schema-spec = tie.close (tie.spec entry-of-requires returns)
