@@ -1,15 +1,11 @@
--- A word of 32 bits as a signed number: its size, and the decimal that has its value.
+-- A word of 32 bits as a signed number, and the decimal that has its value.
 -- Assumes nothing.
 use mathlib.Core.Path.{_≡_, refl, sym}
 use mathlib.Core.Bool.{Bool, true, false}
-use mathlib.Core.Logic.{⊎-elim}
 use Prim.Native.Nat.{ℕ, suc, _-_, _^_, _≤_, _<_}
 use native.Mathlib.Omega.{arith}
-use lib.IntN.{natAbs}
 use borrow.Author.Tests.{lt-ltb, le-ltb}
-use Rattle.decimal.specs.declared.Decimal.{Decimal}
-use Rattle.decimal.specs.Value.{scale-max, signed, withSign, signedDigits, value, Plain, OfWord}
-use Rattle.laws.proofs.Tests.{le-or-lt}
+use Rattle.decimal.specs.Value.{signed, withSign, signedDigits, value, OfWord}
 use Rattle.decimal.proofs.Sizes.{sign-off}
 
 pub signed-low : (w : ℕ) → w < 2 ^ 31 → signed w ≡ withSign false w
@@ -22,18 +18,7 @@ signed-high w h g =
     let e : 2 ^ 32 - w ≡ suc (2 ^ 32 - 1 - w) = omega arith in
     rw (le-ltb w (2 ^ 31) h, e)
 
-pub word-small : (w : ℕ) → w < 2 ^ 32 → natAbs (signed w) ≤ 2 ^ 31
-word-small w g =
-    ⊎-elim
-    (λ (h : 2 ^ 31 ≤ w). rw (signed-high w h g, sign-off true (2 ^ 32 - w)) (omega arith))
-    (λ (h : w < 2 ^ 31). rw (signed-low w h) (omega arith))
-    (le-or-lt (2 ^ 31) w)
-
 -- a sign and a size that are the word's make the word's decimal
 pub of-parts : (w s : ℕ) (b : Bool) (n : ℕ) → signed w ≡ withSign b n → OfWord w s (record { below = b; digits = n; scale = s })
 unfolding value signedDigits
 of-parts w s b n e = record { means = rw e; size = rw e (sym (sign-off b n)); same = refl }
-
--- and that decimal is plain, if the scale is within the limit
-pub word-plain : (w s : ℕ) (d : Decimal) → w < 2 ^ 32 → s ≤ scale-max → OfWord w s d → Plain d
-word-plain w s d g h o = record { small = omega (arith, word-small w g); few = omega arith }

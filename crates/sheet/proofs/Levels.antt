@@ -10,7 +10,7 @@ use Prim.Native.Nat.{ℕ, zero, suc, _+_, _-_, _≤_, _<_}
 use native.Mathlib.Nat.{eq-or-lt-of-le}
 use native.Mathlib.Numerals.{add-one}
 use native.Mathlib.Omega.{arith}
-use lib.ListN.{length, getD, set, replicate, length-append, length-replicate, getD-replicate, List·getD-append, List·getD-eq-default}
+use lib.ListN.{length, getD, set, replicate, length-append, getD-replicate, List·getD-append, List·getD-eq-default}
 use lib.Seq.{getD-at, set-at, getD-append-add}
 use Rattle.laws.proofs.Tests.{le-or-lt}
 use Rattle.sheet.specs.Doc.{levels, level}
@@ -65,9 +65,6 @@ module _ (owner : ℕ → ℕ) where
   -- the table of `size` places once n rows were passed
   abbrev pub filled : ℕ → ℕ → List ℕ
   filled size n = levels owner n ++ replicate (size - n) 0
-
-  pub filled-long : (size n : ℕ) → n ≤ size → length (filled size n) ≡ size
-  filled-long size n h = simp (length-append, levels-long n, length-replicate) (omega arith)
 
   -- a place that was not passed holds 0, as if the list ended before it
   pub filled-at : (size n j : ℕ) → n ≤ size → j < size → getD (filled size n) j 0 ≡ getD (levels owner n) j 0

@@ -1,7 +1,7 @@
--- Where two fingerprints differ, so do the bytes; and a fingerprint is carried on byte by byte.
+-- A fingerprint is carried on byte by byte.
 -- Assumes nothing.
-use mathlib.Core.Path.{_≡_, refl, ap}
-use mathlib.Core.Bool.{true, false}
+use mathlib.Core.Path.{_≡_, refl}
+use mathlib.Core.Bool.{true}
 use mathlib.Core.List.{List}
 use Prim.Native.Nat.{ℕ, _+_, _*_, _%_, _≤_, _<_}
 use native.Mathlib.Nat.{mod-lt}
@@ -9,12 +9,8 @@ use native.Mathlib.Omega.{arith}
 use lib.Dec.{lit<}
 use lib.ListN.{length, drop, getD}
 use Rattle.text.specs.declared.Range.{Range}
-use Rattle.text.specs.Part.{fits, part, sameBytes, fingerprint-factor, fingerprint-prime, fingerprintFrom, fingerprintOf}
+use Rattle.text.specs.Part.{fits, part, fingerprint-factor, fingerprint-prime, fingerprintFrom, fingerprintOf}
 use Rattle.text.proofs.Ranges.{fits-le, le-fits, part-next, part-end}
-use Rattle.text.proofs.Bytes.{ne-same}
-
-pub fingerprints-differ : (xs ys : List ℕ) → (fingerprintOf xs ≡ fingerprintOf ys → ⊥) → sameBytes xs ys ≡ false
-fingerprints-differ xs ys h = ne-same xs ys (λ e. h (ap fingerprintOf e))
 
 -- what holds where the first k bytes of the part were passed, with the fingerprint so far
 pub record Carried (text : List ℕ) (r : Range) (so-far k : ℕ) : Type 0 where

@@ -1,7 +1,6 @@
 -- What is true of the unguarded steps of rules that are refused neither by 8 nor by 9.
 --     none-looped        with no chain of 33 schemas there is no loop: the place of 8 is m if that of 9 is
 --     grounded           where that of 9 is m, every chain is at most 32 schemas long, and the length of the longest chain falls along each step
---     sheet-grounded, rules-grounded     the same, of a sheet and of what its check gave, over any text
 -- Assumes nothing.
 use mathlib.Core.Bool.{Bool, true, false}
 use mathlib.Core.List.{List, [], List·Memᴰ as In}
@@ -13,15 +12,11 @@ use native.Mathlib.Omega.{arith}
 use Rattle.laws.specs.Lowest.{lowest}
 use Rattle.laws.proofs.Tests.{decide, le-or-lt}
 use Rattle.laws.proofs.Searches.{lowest-is}
-use Rattle.rulesheet.specs.Ruleset.{next}
-use Rattle.rulesheet.specs.Sheet.{schemasWord, rulesOf, nextOf}
-use Rattle.unguarded.specs.declared.Unguarded.{Unguarded}
 use Rattle.unguarded.specs.Graph.{chain-steps, Chain, any, chain, longest, onLoop, Grounded}
-use Rattle.unguarded.specs.Places.{loopPlace, chainPlace, Placed}
+use Rattle.unguarded.specs.Places.{loopPlace, chainPlace}
 use Rattle.unguarded.proofs.Lists.{any-in, not-both}
 use Rattle.unguarded.proofs.Paths.{is-chain, fewer, loop-chain, longest-low, longest-yes, longest-no}
 use Rattle.unguarded.proofs.Agreement.{not-before, no-loop}
-use Rattle.unguarded.proofs.Steps.{next-none, same-next}
 
 -- a search that ends at the end finds nothing
 nowhere : (test : ℕ → Bool) (m : ℕ) → m ≤ lowest test m → (s : ℕ) → s < m → test s ≡ false
@@ -102,12 +97,3 @@ module _ (next : ℕ → List ℕ) where
       lowest-is (onLoop m next) m m (omega arith)
       (λ s l. no-loop m next chain-steps s (nowhere (chain next chain-steps) m e s l))
       (λ (l : m < m). absurd (omega arith))
-
--- ---- a sheet whose check gave no place of 9
-
-module _ (ws : List ℕ) (r : Unguarded) (placed : Placed ws r) (none : schemasWord ws ≤ r .long) where
-  pub sheet-grounded : Grounded (nextOf ws)
-  sheet-grounded = grounded (nextOf ws) (schemasWord ws) (next-none ws) (rw (placed .long-is) at none)
-
-  pub rules-grounded : (ts : List ℕ) → Grounded (next (rulesOf ws ts))
-  rules-grounded ts = subst Grounded (sym (same-next ws ts)) sheet-grounded

@@ -1,5 +1,5 @@
 -- Membership and tests of lists.
---     at-in, in-at               the number at a place of a list is in it, and one that is in it stands at a place
+--     at-in                      the number at a place of a list is in it
 --     take-more                  the first i + 1 numbers
 --     any-in, any-out            some number in the list passes a test
 --     any-append                 some number of two lists does
@@ -36,10 +36,6 @@ at-in [] i h = absurd (nothing h)
     nothing l = omega arith
 at-in (x ∷ xs) zero h = at-head refl
 at-in (x ∷ xs) (suc i) h = in-tail (at-in xs i (omega arith))
-
-pub in-at : {x : ℕ} {xs : List ℕ} → In x xs → (i : ℕ) × ((i < length xs) × (getD xs i 0 ≡ x))
-in-at (at-head e) = (0, (omega arith, sym e))
-in-at (in-tail m) = let r = in-at m in (suc (r .0), (omega (arith, r .1 .0), r .1 .1))
 
 pub take-more : (xs : List ℕ) (i : ℕ) → i < length xs → take (i + 1) xs ≡ take i xs ++ (getD xs i 0 ∷ [])
 take-more xs i h = rw (add-one, take-suc xs i 0 h)
