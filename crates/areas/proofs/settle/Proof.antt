@@ -1,0 +1,55 @@
+-- `settle` meets its contract: whatever byte the cell was, it has room for a verdict, since it has none. Written into the list, the cell's number stays what it is. Assumes nothing.
+use native.Mathlib.Omega.{arith}
+use Rattle.areas.proofs.Cells.{settle-fits}
+use borrow.Author.Needs.{needs}
+use Rattle.areas.proofs.settle.Statement.{statement}
+use Rattle.areas.proofs.settle.Tie as tie
+
+slice-read-x : tie.Need-slice-read-x
+slice-read-x c = search needs
+
+mark-of-requires : tie.Need-mark-of-requires
+mark-of-requires c κs = search needs
+
+add-cells : tie.Need-add-cells
+add-cells c = omega (arith, settle-fits _ (c .before .before .before .before .args .ok) (c .before .before .before .before .pre .unsettled) (omega (arith, c .before .before .before .slice-known .given (c .before .before .before .before .args .k))), c .mark-of .ensures)
+
+slice-write-cells : tie.Need-slice-write-cells
+slice-write-cells c = search needs
+
+cast-list : tie.Need-cast-list
+cast-list c = search needs
+
+mul-list : tie.Need-mul-list
+mul-list c = search needs
+
+slice-write-list : tie.Need-slice-write-list
+slice-write-list c = search needs
+
+add-result : tie.Need-add-result
+add-result c = search needs
+
+same-length : tie.Need-same-length
+same-length c = search needs
+
+same-length-2 : tie.Need-same-length-2
+same-length-2 c = search needs
+
+returns : tie.Need-returns
+returns c = record { cell = cc; entry = search needs; one-more = search needs }
+
+pub settle-spec : {M : Type 1} → statement M
+settle-spec =
+    tie.close
+    (tie.spec
+    slice-read-x
+    mark-of-requires
+    add-cells
+    slice-write-cells
+    cast-list
+    mul-list
+    slice-write-list
+    add-result
+    same-length
+    same-length-2
+    returns)

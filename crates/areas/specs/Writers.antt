@@ -1,0 +1,60 @@
+-- The two writers of cells (paper 01, 'Rules of judgement', the last paragraph): one settles a pair, the other writes marks. What they ask,
+-- and what they leave.
+-- Assumes nothing.
+use mathlib.Core.Bool.{Bool, _&&_, _||_, cond}
+use mathlib.Core.List.{List}
+use mathlib.Core.Path.{_≡_}
+use Prim.Native.Nat.{ℕ, _+_, _≤_, _<_}
+use lib.Dec.{eqb}
+use lib.ListN.{length, getD, set}
+use Rattle.meaning.specs.Rules.{Marks}
+use Rattle.areas.specs.Cells.{cellOf, verd, mark, column}
+
+-- ---- the verdict
+
+-- before: the pair of cell k is not settled, and the list has room for a word after its first `count`
+pub record Open (cells list : List ℕ) (count k : ℕ) : Type 0 where
+  pub in-cells : k < length cells
+  pub unsettled : verd (getD cells k 0) ≡ 0
+  pub in-list : count < length list
+  pub narrow : k < 4294967296
+
+-- after: its cell has the verdict, its word is the list's next, and all else is as it was
+pub record Shut (cells₀ list₀ : List ℕ) (count k : ℕ) (ok : Bool) (cells list : List ℕ) (r : ℕ) : Type 0 where
+  pub cell : cells ≡ set cells₀ k (getD cells₀ k 0 + mark ok)
+  pub entry : list ≡ set list₀ count k
+  pub one-more : r ≡ count + 1
+
+-- ---- the marks
+
+-- before: the `many` rows from `first` on have cells, in column s and in the column that marks are taken from
+pub record Writes (m first many s from : ℕ) (cells : List ℕ) : Type 0 where
+  pub rule-in : s < m
+  pub from-in : from < m
+  pub rows-in : (k : ℕ) → first ≤ k → k < first + many → cellOf m k m ≤ length cells
+
+-- after: of these rows those of `to` are marked in column s. No verdict has changed, and no other mark
+pub record Marked (m first many s : ℕ) (to : Marks) (cells₀ cells : List ℕ) : Type 0 where
+  pub len : length cells ≡ length cells₀
+  pub verdicts : (i : ℕ) → verd (getD cells i 0) ≡ verd (getD cells₀ i 0)
+  pub small : ((i : ℕ) → getD cells₀ i 0 < 8) → (i : ℕ) → getD cells i 0 < 8
+  pub here : (k : ℕ) → first ≤ k → k < first + many → column m cells s k ≡ to k
+  pub there : (k t : ℕ) → t < m → (t ≡ s → first ≤ k → k < first + many → ⊥) → getD cells (cellOf m k t) 0 ≡ getD cells₀ (cellOf m k t) 0
+
+-- the marks of two columns together
+unfoldable pub merged : ℕ → List ℕ → ℕ → ℕ → Marks
+merged m cells s from k = column m cells s k || column m cells from k
+
+-- the marks of a pair that was judged: none if it failed
+unfoldable pub kept : ℕ → List ℕ → ℕ → Bool → Marks
+kept m cells s ok k = ok && column m cells s k
+
+-- the marks of the pair (row, rule) once it has applied the pair (aimed, from): more by that pair's, if it is of the row itself, and else by
+-- the child that it is of
+unfoldable pub passed : ℕ → List ℕ → ℕ → ℕ → ℕ → ℕ → Marks
+passed m cells row rule aimed from k = column m cells rule k || cond (eqb aimed row) (column m cells from k) (eqb k aimed)
+
+-- before: as above for the children of the row, and `aimed` is the row or one of them
+pub record Passes (m first many row rule aimed from : ℕ) (cells : List ℕ) : Type 0 where
+  pub writes : Writes m first many rule from cells
+  pub child : (aimed ≡ row → ⊥) → (first ≤ aimed) × (aimed < first + many)
