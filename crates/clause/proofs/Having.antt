@@ -1,0 +1,114 @@
+-- What a value has, by its kind.
+--     number-found, none-found       its number, if it is one
+--     held-number, held-other        what is asked of a number, by the number that was found
+--     type-found, type-missed        its types
+-- Assumes nothing.
+use mathlib.Core.Bool.{Bool, true, false, _&&_, _||_}
+use mathlib.Core.Option.{Option, none, some}
+use mathlib.Core.Path.{_≡_, refl, sym, ap, _∙_}
+use Prim.Native.Nat.{ℕ, _<_}
+use native.Mathlib.Omega.{arith}
+use lib.Dec.{eqb}
+use lib.IntN.{ℤ}
+use Rattle.decimal.specs.declared.Decimal.{Decimal}
+use Rattle.decimal.specs.Value.{value, Plain, isWhole}
+use Rattle.sheet.specs.declared.kind.RowKind.{RowKind}
+use Rattle.sheet.specs.declared.kind.RowKind.the-variants as K
+use Rattle.sheet.specs.Kinds.{numberOf}
+use Rattle.sheet.specs.Doc.{Value, null, bool, number, string, array, object, valueKind}
+use Rattle.meaning.specs.Tests.{number?, given, has, typed}
+use Rattle.clause.specs.declared.numbers.Numbered.{Numbered}
+use Rattle.clause.specs.declared.numbers.Numbered.the-variants.{Number, Other}
+use Rattle.clause.specs.Read.{typeNumber, numberIn, PlainIn, NumberFound}
+
+-- a value is of the kind that has this number
+abbrev pub isOf : ℕ → Value → Bool
+isOf kind v = eqb (numberOf (valueKind v)) kind
+
+pub never : false ≡ true → ⊥
+never e = let z : _≡_ {A = ℕ} 0 1 = cc in omega arith
+
+pub never-not : true ≡ false → ⊥
+never-not e = never (sym e)
+
+-- ---- numbers
+
+module _ (d : Decimal) where
+  pub number-found : (v : Value) → isOf 3 v ≡ true → ((z : ℤ) → v ≡ number z → value d ≡ z) → ((z : ℤ) → v ≡ number z → Plain d) → NumberFound v (Number d)
+  unfolding number?
+  number-found null t is fine = absurd (never t)
+  number-found (bool true) t is fine = absurd (never t)
+  number-found (bool false) t is fine = absurd (never t)
+  number-found (number z) t is fine = record { number-is = ap some (sym (is z refl)); plain = fine z refl }
+  number-found (string bytes) t is fine = absurd (never t)
+  number-found (array first k) t is fine = absurd (never t)
+  number-found (object first k) t is fine = absurd (never t)
+
+pub none-found : (v : Value) → isOf 3 v ≡ false → NumberFound v Other
+unfolding number?
+none-found null t = record { number-is = refl; plain = tt }
+none-found (bool b) t = record { number-is = refl; plain = tt }
+none-found (number z) t = absurd (never-not t)
+none-found (string bytes) t = record { number-is = refl; plain = tt }
+none-found (array first k) t = record { number-is = refl; plain = tt }
+none-found (object first k) t = record { number-is = refl; plain = tt }
+
+module _ (v : Value) (r : Numbered) (found : NumberFound v r) where
+  pub held-number : (p : ℤ → Bool) (d : Decimal) → r ≡ Number d → p (value d) ≡ given (number? v) p
+  unfolding given
+  held-number p d e = rw (found .number-is, e)
+
+  pub held-other : (p : ℤ → Bool) → r ≡ Other → true ≡ given (number? v) p
+  unfolding given
+  held-other p e = rw (found .number-is, e)
+
+  pub held-plain : (d : Decimal) → r ≡ Number d → Plain d
+  held-plain d e = rw e at (found .plain)
+
+-- ---- types
+
+-- there is a number, and it is whole
+abbrev wholeIn : Option ℤ → Bool
+wholeIn none = false
+wholeIn (some z) = isWhole z
+
+or-none : (a b : Bool) → a ≡ (a || (b && false))
+or-none true b = refl
+or-none false true = refl
+or-none false false = refl
+
+typed-is : (mask : ℕ) (v : Value) → typed mask v ≡ (has mask (typeNumber (valueKind v)) || (has mask 4 && wholeIn (number? v)))
+unfolding typed number?
+typed-is mask null = or-none _ (has mask 4)
+typed-is mask (bool true) = or-none _ (has mask 4)
+typed-is mask (bool false) = or-none _ (has mask 4)
+typed-is mask (number z) = refl
+typed-is mask (string bytes) = or-none _ (has mask 4)
+typed-is mask (array first k) = or-none _ (has mask 4)
+typed-is mask (object first k) = or-none _ (has mask 4)
+
+module _ (mask : ℕ) (v : Value) (t : ℕ) (read : t ≡ typeNumber (valueKind v)) where
+  pub type-found : has mask t ≡ true → true ≡ typed mask v
+  type-found h = sym (typed-is mask v ∙ rw (← read, h))
+
+  type-missed : has mask t ≡ false → typed mask v ≡ (has mask 4 && wholeIn (number? v))
+  type-missed h = typed-is mask v ∙ rw (← read, h)
+
+  pub no-integer : has mask t ≡ false → has mask 4 ≡ false → false ≡ typed mask v
+  no-integer h i = sym (type-missed h ∙ rw i)
+
+  module _ (r : Numbered) (found : NumberFound v r) (h : has mask t ≡ false) (i : has mask 4 ≡ true) where
+    pub whole-found : (d : Decimal) → r ≡ Number d → isWhole (value d) ≡ typed mask v
+    whole-found d e = sym (type-missed h ∙ rw (i, found .number-is, e))
+
+    pub no-number : r ≡ Other → false ≡ typed mask v
+    no-number e = sym (type-missed h ∙ rw (i, found .number-is, e))
+
+pub type-positive : (kind : RowKind) → 0 < typeNumber kind
+type-positive K.Null = omega arith
+type-positive K.False = omega arith
+type-positive K.True = omega arith
+type-positive K.Number = omega arith
+type-positive K.String = omega arith
+type-positive K.Array = omega arith
+type-positive K.Object = omega arith

@@ -1,0 +1,2 @@
+pub mod Having
+pub mod Measures

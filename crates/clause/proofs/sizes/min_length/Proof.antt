@@ -1,0 +1,16 @@
+-- `min_length` meets its contract. Assumes nothing.
+use borrow.Author.Needs.{needs}
+use Rattle.clause.proofs.sizes.min_length.Statement.{statement}
+use Rattle.clause.proofs.sizes.min_length.Tie as tie
+
+length-of-requires : tie.Need-length-of-requires
+length-of-requires c κs = search needs
+
+at-least-requires : tie.Need-at-least-requires
+at-least-requires c κs = search needs
+
+returns : tie.Need-returns
+returns c = c .at-least .ensures _ (c .before .length-of .ensures)
+
+pub min-length-spec : {M : Type 1} → statement M
+min-length-spec = tie.close (tie.spec length-of-requires at-least-requires returns)

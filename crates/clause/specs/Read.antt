@@ -1,0 +1,55 @@
+-- What is asked of the sheets that a test reads, and how a value's type, number and size are held on the way to a test.
+-- Assumes nothing.
+use mathlib.Core.List.{List}
+use mathlib.Core.Option.{Option, none, some}
+use mathlib.Core.Path.{_≡_}
+use Prim.Native.Nat.{ℕ}
+use lib.ListN.{length}
+use lib.IntN.{ℤ}
+use Rattle.decimal.specs.Value.{value, Plain}
+use Rattle.sheet.specs.declared.kind.RowKind.{RowKind}
+use Rattle.sheet.specs.declared.kind.RowKind.the-variants.{Null, False, True, Number, String, Array, Object}
+use Rattle.sheet.specs.declared.record.RecordForm.{RecordForm}
+use Rattle.sheet.specs.Doc.{Value}
+use Rattle.sheet.specs.Record.{textWord}
+use Rattle.sheet.specs.Accepted.{Laid}
+use Rattle.meaning.specs.Tests.{number?}
+use Rattle.clause.specs.declared.numbers.Numbered as N
+use Rattle.clause.specs.declared.sizes.Measured as M
+
+-- no row of the record breaks the layout, and the text has the length that its trailer says
+pub record RecordRead (ws ts : List ℕ) (form : RecordForm) : Type 0 where
+  pub laid : Laid ws form
+  pub text-length : length ts ≡ textWord ws
+
+-- 01's number of the type that the rows of a kind have; a whole number is an integer besides
+abbrev pub typeNumber : RowKind → ℕ
+typeNumber Null = 1
+typeNumber False = 2
+typeNumber True = 2
+typeNumber Number = 8
+typeNumber String = 16
+typeNumber Array = 32
+typeNumber Object = 64
+
+abbrev pub numberIn : N.Numbered → Option ℤ
+numberIn (N.the-variants.Number d) = some (value d)
+numberIn N.the-variants.Other = none
+
+abbrev pub PlainIn : N.Numbered → Type 0
+PlainIn (N.the-variants.Number d) = Plain d
+PlainIn N.the-variants.Other = Unit
+
+-- r holds the number of a value that is one, within the limits of exact arithmetic
+pub record NumberFound (v : Value) (r : N.Numbered) : Type 0 where
+  pub number-is : number? v ≡ numberIn r
+  pub plain : PlainIn r
+
+abbrev pub sizeIn : M.Measured → Option ℕ
+sizeIn (M.the-variants.Size n) = some n
+sizeIn M.the-variants.Other = none
+
+-- how many there are, if there can be any
+abbrev pub sizeOf : Option (List ℕ) → Option ℕ
+sizeOf none = none
+sizeOf (some xs) = some (length xs)

@@ -1,0 +1,123 @@
+// The clauses that limit a size: the bytes of a string, the elements of an array, the members of an
+// object. A row that has no such size keeps them.
+ghost use mathlib.Core.List.{List};
+ghost use mathlib.Core.Option.{Option};
+ghost use mathlib.Core.Path.{_≡_};
+ghost use Prim.Native.Nat.{ℕ, _<_};
+ghost use Rattle.sheet.specs.Record.{docOf};
+ghost use Rattle.sheet.specs.Accepted.{Laid};
+ghost use Rattle.meaning.specs.Tests.{bytes?, elements?, members?, atLeast, atMost};
+ghost use Rattle.clause.specs.Read.{RecordRead, sizeIn, sizeOf};
+use crate::numbers::is_kind;
+use sheet::kind::RowKind;
+use sheet::record::RecordForm;
+use sheet::record::RecordRow;
+use sheet::record::children_of;
+use sheet::record::string_of;
+
+// A row's size, or that it has none of the sort that is asked for.
+pub enum Measured {
+    Size(u32),
+    Other,
+}
+
+// The length of a string, in bytes.
+pub fn length_of(record: &[u32], text: &[u8], form: RecordForm, row: RecordRow) -> Measured
+    requires { ⌜ RecordRead (now «record») (now text) form × (row .0 < form .rows) ⌝ }
+    ensures { λ r. ⌜ sizeIn r ≡ sizeOf (bytes? (docOf (now («record» .entry)) (now (text .entry)) .value (row .0))) ⌝ }
+{
+    if !is_kind(record, form, row, RowKind::STRING) {
+        return Measured::Other;
+    }
+    Measured::Size(string_of(record, form, row).length)
+}
+
+// How many elements an array has.
+pub fn elements_of(record: &[u32], form: RecordForm, row: RecordRow) -> Measured
+    requires { ⌜ Laid (now «record») form × (row .0 < form .rows) ⌝ }
+    ensures { λ r. ⌜ ((ts : List ℕ) → sizeIn r ≡ sizeOf (elements? (docOf (now («record» .entry)) ts .value (row .0)))) ⌝ }
+{
+    if !is_kind(record, form, row, RowKind::ARRAY) {
+        return Measured::Other;
+    }
+    Measured::Size(children_of(record, form, row).count)
+}
+
+// How many members an object has.
+pub fn members_of(record: &[u32], form: RecordForm, row: RecordRow) -> Measured
+    requires { ⌜ Laid (now «record») form × (row .0 < form .rows) ⌝ }
+    ensures { λ r. ⌜ ((ts : List ℕ) → sizeIn r ≡ sizeOf (members? (docOf (now («record» .entry)) ts .value (row .0)))) ⌝ }
+{
+    if !is_kind(record, form, row, RowKind::OBJECT) {
+        return Measured::Other;
+    }
+    Measured::Size(children_of(record, form, row).count)
+}
+
+// Whether a size, if there is one, is at least k.
+fn at_least(found: Measured, k: u32) -> bool
+    ensures { λ r. ⌜ ((xs : Option (List ℕ)) → sizeIn found ≡ sizeOf xs → r ≡ atLeast k xs) ⌝ }
+{
+    match found {
+        Measured::Size(size) => k <= size,
+        Measured::Other => true,
+    }
+}
+
+// Whether a size, if there is one, is at most k.
+fn at_most(found: Measured, k: u32) -> bool
+    ensures { λ r. ⌜ ((xs : Option (List ℕ)) → sizeIn found ≡ sizeOf xs → r ≡ atMost k xs) ⌝ }
+{
+    match found {
+        Measured::Size(size) => size <= k,
+        Measured::Other => true,
+    }
+}
+
+// Whether the row, if it is a string, has at least k bytes.
+pub fn min_length(record: &[u32], text: &[u8], form: RecordForm, row: RecordRow, k: u32) -> bool
+    requires { ⌜ RecordRead (now «record») (now text) form × (row .0 < form .rows) ⌝ }
+    ensures { λ r. ⌜ r ≡ atLeast k (bytes? (docOf (now («record» .entry)) (now (text .entry)) .value (row .0))) ⌝ }
+{
+    at_least(length_of(record, text, form, row), k)
+}
+
+// Whether the row, if it is a string, has at most k bytes.
+pub fn max_length(record: &[u32], text: &[u8], form: RecordForm, row: RecordRow, k: u32) -> bool
+    requires { ⌜ RecordRead (now «record») (now text) form × (row .0 < form .rows) ⌝ }
+    ensures { λ r. ⌜ r ≡ atMost k (bytes? (docOf (now («record» .entry)) (now (text .entry)) .value (row .0))) ⌝ }
+{
+    at_most(length_of(record, text, form, row), k)
+}
+
+// Whether the row, if it is an array, has at least k elements.
+pub fn min_items(record: &[u32], form: RecordForm, row: RecordRow, k: u32) -> bool
+    requires { ⌜ Laid (now «record») form × (row .0 < form .rows) ⌝ }
+    ensures { λ r. ⌜ ((ts : List ℕ) → r ≡ atLeast k (elements? (docOf (now («record» .entry)) ts .value (row .0)))) ⌝ }
+{
+    at_least(elements_of(record, form, row), k)
+}
+
+// Whether the row, if it is an array, has at most k elements.
+pub fn max_items(record: &[u32], form: RecordForm, row: RecordRow, k: u32) -> bool
+    requires { ⌜ Laid (now «record») form × (row .0 < form .rows) ⌝ }
+    ensures { λ r. ⌜ ((ts : List ℕ) → r ≡ atMost k (elements? (docOf (now («record» .entry)) ts .value (row .0)))) ⌝ }
+{
+    at_most(elements_of(record, form, row), k)
+}
+
+// Whether the row, if it is an object, has at least k members.
+pub fn min_properties(record: &[u32], form: RecordForm, row: RecordRow, k: u32) -> bool
+    requires { ⌜ Laid (now «record») form × (row .0 < form .rows) ⌝ }
+    ensures { λ r. ⌜ ((ts : List ℕ) → r ≡ atLeast k (members? (docOf (now («record» .entry)) ts .value (row .0)))) ⌝ }
+{
+    at_least(members_of(record, form, row), k)
+}
+
+// Whether the row, if it is an object, has at most k members.
+pub fn max_properties(record: &[u32], form: RecordForm, row: RecordRow, k: u32) -> bool
+    requires { ⌜ Laid (now «record») form × (row .0 < form .rows) ⌝ }
+    ensures { λ r. ⌜ ((ts : List ℕ) → r ≡ atMost k (members? (docOf (now («record» .entry)) ts .value (row .0)))) ⌝ }
+{
+    at_most(members_of(record, form, row), k)
+}

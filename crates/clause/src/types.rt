@@ -1,0 +1,60 @@
+// The keyword `type`: a row has one of the types of a mask.
+ghost use mathlib.Core.List.{List};
+ghost use mathlib.Core.Path.{_≡_};
+ghost use Prim.Native.Nat.{ℕ, _<_};
+ghost use Rattle.sheet.specs.Record.{docOf};
+ghost use Rattle.sheet.specs.Accepted.{Laid};
+ghost use Rattle.meaning.specs.Tests.{has, typed};
+ghost use Rattle.clause.specs.Read.{typeNumber};
+use crate::numbers::Numbered;
+use crate::numbers::number_in;
+use decimal::whole;
+use sheet::kind::RowKind;
+use sheet::record::RecordForm;
+use sheet::record::RecordRow;
+use sheet::record::kind_of;
+
+// The number of a whole number's other type.
+const INTEGER: u32 = 4;
+
+// The number of a kind's type.
+fn type_of(kind: RowKind) -> u32
+    ensures { λ r. ⌜ r ≡ typeNumber kind ⌝ }
+{
+    match kind {
+        RowKind::Null => 1,
+        RowKind::False => 2,
+        RowKind::True => 2,
+        RowKind::Number => 8,
+        RowKind::String => 16,
+        RowKind::Array => 32,
+        RowKind::Object => 64,
+    }
+}
+
+// Whether the mask, a sum of types, has this one.
+fn has_type(mask: u32, number: u32) -> bool
+    requires { ⌜ 0 < number ⌝ }
+    ensures { λ r. ⌜ r ≡ has mask number ⌝ }
+{
+    mask / number % 2 == 1
+}
+
+// Whether the row has one of the mask's types. A number is an integer by its value, however it is
+// written.
+pub fn typed(record: &[u32], form: RecordForm, row: RecordRow, mask: u32) -> bool
+    requires { ⌜ Laid (now «record») form × (row .0 < form .rows) ⌝ }
+    ensures { λ r. ⌜ ((ts : List ℕ) → r ≡ typed mask (docOf (now («record» .entry)) ts .value (row .0))) ⌝ }
+{
+    if has_type(mask, type_of(kind_of(record, form, row))) {
+        return true;
+    }
+    if !has_type(mask, INTEGER) {
+        return false;
+    }
+    let found = number_in(record, form, row);
+    match found {
+        Numbered::Number(number) => whole(number),
+        Numbered::Other => false,
+    }
+}
