@@ -1,9 +1,11 @@
 -- What a value has, by its kind.
 --     number-found, none-found       its number, if it is one
 --     held-number, held-other        what is asked of a number, by the number that was found
+--     bytes-found, string-in, no-bytes     its bytes, if it is a string
 --     type-found, type-missed        its types
 -- Assumes nothing.
 use mathlib.Core.Bool.{Bool, true, false, _&&_, _||_}
+use mathlib.Core.List.{List}
 use mathlib.Core.Option.{Option, none, some}
 use mathlib.Core.Path.{_≡_, refl, sym, ap, _∙_}
 use Prim.Native.Nat.{ℕ, _<_}
@@ -12,11 +14,15 @@ use lib.Dec.{eqb}
 use lib.IntN.{ℤ}
 use Rattle.decimal.specs.declared.Decimal.{Decimal}
 use Rattle.decimal.specs.Value.{value, Plain, isWhole}
+use Rattle.text.specs.declared.Range.{Range}
+use Rattle.text.specs.Part.{fits}
 use Rattle.sheet.specs.declared.kind.RowKind.{RowKind}
 use Rattle.sheet.specs.declared.kind.RowKind.the-variants as K
 use Rattle.sheet.specs.Kinds.{numberOf}
 use Rattle.sheet.specs.Doc.{Value, null, bool, number, string, array, object, valueKind}
-use Rattle.meaning.specs.Tests.{number?, given, has, typed}
+use Rattle.sheet.specs.Record.{textWord, docOf}
+use Rattle.sheet.specs.Accepted.{StringRead}
+use Rattle.meaning.specs.Tests.{number?, bytes?, given, has, typed}
 use Rattle.clause.specs.declared.numbers.Numbered.{Numbered}
 use Rattle.clause.specs.declared.numbers.Numbered.the-variants.{Number, Other}
 use Rattle.clause.specs.Read.{typeNumber, numberIn, PlainIn, NumberFound}
@@ -64,6 +70,39 @@ module _ (v : Value) (r : Numbered) (found : NumberFound v r) where
 
   pub held-plain : (d : Decimal) → r ≡ Number d → Plain d
   held-plain d e = rw e at (found .plain)
+
+-- ---- strings
+
+pub bytes-found : (bs : List ℕ) (v : Value) → isOf 4 v ≡ true → ((bytes : List ℕ) → v ≡ string bytes → bs ≡ bytes) → bytes? v ≡ some bs
+unfolding bytes?
+bytes-found bs null t is = absurd (never t)
+bytes-found bs (bool true) t is = absurd (never t)
+bytes-found bs (bool false) t is = absurd (never t)
+bytes-found bs (number z) t is = absurd (never t)
+bytes-found bs (string bytes) t is = ap some (sym (is bytes refl))
+bytes-found bs (array first k) t is = absurd (never t)
+bytes-found bs (object first k) t is = absurd (never t)
+
+pub no-bytes : (v : Value) → isOf 4 v ≡ false → bytes? v ≡ none
+unfolding bytes?
+no-bytes null t = refl
+no-bytes (bool b) t = refl
+no-bytes (number z) t = refl
+no-bytes (string bytes) t = absurd (never-not t)
+no-bytes (array first k) t = refl
+no-bytes (object first k) t = refl
+
+pub string-in : {ws : List ℕ} {j : ℕ} {r : Range} → StringRead ws j r → (ts : List ℕ) → isOf 4 (docOf ws ts .value j) ≡ true → fits (textWord ws) r ≡ true
+string-in {ws} {j} {r} read ts t = within (docOf ws ts .value j) t (read .string-fits ts)
+  where
+    within : (v : Value) → isOf 4 v ≡ true → ((bytes : List ℕ) → v ≡ string bytes → fits (textWord ws) r ≡ true) → fits (textWord ws) r ≡ true
+    within null t inside = absurd (never t)
+    within (bool true) t inside = absurd (never t)
+    within (bool false) t inside = absurd (never t)
+    within (number z) t inside = absurd (never t)
+    within (string bytes) t inside = inside bytes refl
+    within (array first k) t inside = absurd (never t)
+    within (object first k) t inside = absurd (never t)
 
 -- ---- types
 

@@ -1,2 +1,6 @@
+-- In reading order.
 pub mod Having
 pub mod Measures
+pub mod Listing
+pub mod Naming
+pub mod Equality

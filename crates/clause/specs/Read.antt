@@ -1,19 +1,28 @@
 -- What is asked of the sheets that a test reads, and how a value's type, number and size are held on the way to a test.
 -- Assumes nothing.
+use mathlib.Core.Bool.{true}
 use mathlib.Core.List.{List}
 use mathlib.Core.Option.{Option, none, some}
 use mathlib.Core.Path.{_≡_}
-use Prim.Native.Nat.{ℕ}
+use Prim.Native.Nat.{ℕ, _+_, _≤_, _<_}
 use lib.ListN.{length}
 use lib.IntN.{ℤ}
+use Rattle.laws.specs.Lowest.{lowest}
 use Rattle.decimal.specs.Value.{value, Plain}
 use Rattle.sheet.specs.declared.kind.RowKind.{RowKind}
 use Rattle.sheet.specs.declared.kind.RowKind.the-variants.{Null, False, True, Number, String, Array, Object}
 use Rattle.sheet.specs.declared.record.RecordForm.{RecordForm}
-use Rattle.sheet.specs.Doc.{Value}
+use Rattle.sheet.specs.Doc.{Value, Doc, firstChild, childCount}
 use Rattle.sheet.specs.Record.{textWord}
 use Rattle.sheet.specs.Accepted.{Laid}
+use Rattle.rulesheet.specs.declared.code.Fields.{Fields}
+use Rattle.rulesheet.specs.declared.form.RuleForm.{RuleForm}
+use Rattle.rulesheet.specs.declared.clause.Entries.{Entries}
+use Rattle.rulesheet.specs.Sheet as S
+use Rattle.rulesheet.specs.Faults.{entryOk}
+use Rattle.rulesheet.specs.Read.{RulesLaid}
 use Rattle.meaning.specs.Tests.{number?}
+use Rattle.meaning.specs.Rules.{called}
 use Rattle.clause.specs.declared.numbers.Numbered as N
 use Rattle.clause.specs.declared.sizes.Measured as M
 
@@ -21,6 +30,16 @@ use Rattle.clause.specs.declared.sizes.Measured as M
 pub record RecordRead (ws ts : List ℕ) (form : RecordForm) : Type 0 where
   pub laid : Laid ws form
   pub text-length : length ts ≡ textWord ws
+
+-- nothing of the rules breaks the layout, and their text has the length that their trailer says
+pub record RulesRead (ws ts : List ℕ) (form : RuleForm) : Type 0 where
+  pub laid : RulesLaid ws form
+  pub text-length : length ts ≡ S.textWord ws
+
+-- a list of entries of these fields, as the tests of the rules leave it
+pub record ListRead (ws : List ℕ) (form : RuleForm) (fields : Fields) (list : Entries) : Type 0 where
+  pub within : list .first + list .count ≤ form .e
+  pub listed : (i : ℕ) → i < list .count → entryOk fields (S.textWord ws) (S.schemasWord ws) (S.entryAt ws (list .first + i)) ≡ true
 
 -- 01's number of the type that the rows of a kind have; a whole number is an integer besides
 abbrev pub typeNumber : RowKind → ℕ
@@ -53,3 +72,7 @@ sizeIn M.the-variants.Other = none
 abbrev pub sizeOf : Option (List ℕ) → Option ℕ
 sizeOf none = none
 sizeOf (some xs) = some (length xs)
+
+-- which child of row j, counted from 0, is the first that has this name; the number of children if none has it
+abbrev pub childNamed : Doc → ℕ → List ℕ → ℕ
+childNamed d j name = lowest (λ i. called d name (firstChild (d .value j) + i)) (childCount (d .value j))

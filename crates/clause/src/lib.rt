@@ -4,6 +4,8 @@
 // Its contracts cite the tests of `meaning` (`specs/Tests.antt`, `specs/Rules.antt`) and
 // `specs/Read.antt`.
 pub mod bounds;
+pub mod members;
 pub mod numbers;
 pub mod sizes;
 pub mod types;
+pub mod values;

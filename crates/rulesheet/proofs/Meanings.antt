@@ -1,5 +1,6 @@
 -- What a clause stands for and what its tests say of it, by the row that was read.
 --     means-by                         the clause is what its code's line makes of the row
+--     of-number                        a number whose words are in bounds is within the limits of exact arithmetic
 --     number-plain, positive-plain     a clause's number is within the limits of exact arithmetic
 --     schema-inside                    a clause's schema is one of the sheet
 --     list-inside, entries-fine-in     a clause's list ends within the entries, and each has what the fields ask
@@ -32,7 +33,7 @@ module _ (first count : ℕ) (d : Decimal) (o : OfWord first count d) where
   by-size : natAbs (signed first) ≤ number-max → count ≤ scale-max → Plain d
   by-size a b = record { small = omega (arith, o .size); few = omega (arith, o .same) }
 
-  of-number : numberOk first count ≡ true → Plain d
+  pub of-number : numberOk first count ≡ true → Plain d
   of-number t =
       let t1 = leb (natAbs (signed first)) number-max in
       let t2 = leb count scale-max in

@@ -1,0 +1,114 @@
+-- Children by name.
+--     child-inside                 a child is one of the rows
+--     child-found                  the search that was made is the search that is meant
+--     name-missed, name-found      no child has a name, or one has it, by what the search gave
+--     no-object, lacks, has-all    what `required` says of a row
+-- Assumes nothing.
+use mathlib.Core.Bool.{Bool, true, false}
+use mathlib.Core.List.{List, map}
+use mathlib.Core.Option.{none, some}
+use mathlib.Core.Logic.{⊎-elim}
+use mathlib.Core.Path.{_≡_, refl, sym, ap, _∙_}
+use Prim.Native.Nat.{ℕ, _+_, _-_, _≤_, _<_}
+use native.Mathlib.Nat.{eq-or-lt-of-le}
+use native.Mathlib.Omega.{arith}
+use Rattle.laws.specs.Lowest.{lowest}
+use Rattle.laws.proofs.Searches.{clear-below, holds-at, at-most-end}
+use Rattle.sheet.specs.declared.record.RecordForm.{RecordForm}
+use Rattle.sheet.specs.Doc.{Value, null, bool, number, string, array, object, Doc, firstChild, childCount, Child}
+use Rattle.sheet.specs.Record.{rows-max, docOf}
+use Rattle.sheet.specs.Accepted.{Laid}
+use Rattle.sheet.proofs.Trailers.{form-rows, form-few}
+use Rattle.sheet.proofs.Owners.{under, children-of}
+use Rattle.rulesheet.specs.declared.form.EntryRow.{EntryRow}
+use Rattle.rulesheet.specs.declared.clause.Entries.{Entries}
+use Rattle.rulesheet.specs.Codes.{entryName}
+use Rattle.rulesheet.specs.Sheet.{entryAt, run}
+use Rattle.rulesheet.specs.Clauses.{entriesOf}
+use Rattle.meaning.specs.Lists.{any, range}
+use Rattle.meaning.specs.Tests.{members?, given}
+use Rattle.meaning.specs.Rules.{called, present}
+use Rattle.clause.specs.Read.{childNamed}
+use Rattle.clause.proofs.Having.{isOf, never, never-not}
+use Rattle.clause.proofs.Listing.{range-run, any-found, any-nowhere, entries-all, entry-missed}
+
+pub child-inside : (ws ts : List ℕ) (form : RecordForm) → Laid ws form → (j first count i : ℕ) → j < form .rows
+    → first ≡ firstChild (docOf ws ts .value j) → count ≡ childCount (docOf ws ts .value j) → i < count → (first + i < form .rows) × (form .rows ≤ rows-max)
+child-inside ws ts form laid j first count i h f c l =
+    let n = form-rows ws form (laid .formed) in
+    let child : Child (docOf ws ts) j (first + i) = record { after = omega arith; within = omega arith } in
+    (children-of ws ts (form .rows) n (laid .rows-ok) j (first + i) h (under ws ts (form .rows) n (laid .rows-ok) j (first + i) h child) .1, form-few ws form (laid .formed))
+
+module _ (d : Doc) (j : ℕ) (name : List ℕ) where
+  pub child-found : (first count i : ℕ) → first ≡ firstChild (d .value j) → count ≡ childCount (d .value j)
+      → i ≡ lowest (λ k. called d name (first + k)) count → i ≡ childNamed d j name
+  child-found first count i f c e =
+      e
+      ∙ ap (λ (x : ℕ). lowest (λ k. called d name (x + k)) count) f
+      ∙ ap (λ (x : ℕ). lowest (λ k. called d name (firstChild (d .value j) + k)) x) c
+
+  -- one of the children has the name
+  abbrev pub isNamed : Bool
+  isNamed = any (map (λ k. called d name k) (range (firstChild (d .value j)) (childCount (d .value j))))
+
+  module _ (r : ℕ) (read : r ≡ childNamed d j name) where
+    in-order : isNamed ≡ any (map (λ k. called d name k) (run (childCount (d .value j)) (firstChild (d .value j))))
+    in-order = rw (range-run (firstChild (d .value j)) (childCount (d .value j)))
+
+    pub name-missed : r ≡ childCount (d .value j) → isNamed ≡ false
+    name-missed e =
+        let first = firstChild (d .value j) in
+        let count = childCount (d .value j) in
+        in-order
+        ∙ any-nowhere (λ k. called d name k) count first
+        (λ (x : ℕ) (l : first ≤ x) (h : x < first + count).
+        let back : first + (x - first) ≡ x = omega arith in
+        ap (λ (k : ℕ). called d name k) (sym back)
+        ∙ clear-below (λ k. called d name (first + k)) count 0 (x - first) (omega arith) (omega arith) (omega (arith, read)))
+
+    pub name-found : (r ≡ childCount (d .value j) → ⊥) → isNamed ≡ true
+    name-found e =
+        let first = firstChild (d .value j) in
+        let count = childCount (d .value j) in
+        let most = at-most-end (λ k. called d name (first + k)) count 0 in
+        let here : r < count = omega (arith, read) in
+        in-order
+        ∙ any-found (λ k. called d name k) count first (first + r) (omega arith) (omega arith)
+        (ap (λ (k : ℕ). called d name (first + k)) read ∙ holds-at (λ k. called d name (first + k)) count 0 (omega (arith, read)))
+
+as-object : (v : Value) → isOf 6 v ≡ true → members? v ≡ some (range (firstChild v) (childCount v))
+unfolding members?
+as-object null t = absurd (never t)
+as-object (bool true) t = absurd (never t)
+as-object (bool false) t = absurd (never t)
+as-object (number z) t = absurd (never t)
+as-object (string bytes) t = absurd (never t)
+as-object (array first k) t = absurd (never t)
+as-object (object first k) t = refl
+
+pub as-other : (v : Value) → isOf 6 v ≡ false → members? v ≡ none
+unfolding members?
+as-other null t = refl
+as-other (bool b) t = refl
+as-other (number z) t = refl
+as-other (string bytes) t = refl
+as-other (array first k) t = refl
+as-other (object first k) t = absurd (never-not t)
+
+module _ (d : Doc) (j : ℕ) (ws ts : List ℕ) (list : Entries) where
+  -- what `required` says of row j
+  abbrev Required : Bool
+  Required = given (members? (d .value j)) (present d (map (entryName ts) (entriesOf ws list)))
+
+  pub no-object : isOf 6 (d .value j) ≡ false → true ≡ Required
+  unfolding given
+  no-object t = rw (as-other (d .value j) t)
+
+  module _ (t : isOf 6 (d .value j) ≡ true) where
+    pub lacks : (i : ℕ) → i < list .count → isNamed d j (entryName ts (entryAt ws (list .first + i))) ≡ false → false ≡ Required
+    unfolding given present
+    lacks i h e = rw (as-object (d .value j) t) (sym (entry-missed ws list (isNamed d j) (entryName ts) i h e))
+
+    pub has-all : ((i : ℕ) → i < list .count → isNamed d j (entryName ts (entryAt ws (list .first + i))) ≡ true) → true ≡ Required
+    unfolding given present
+    has-all each = rw (as-object (d .value j) t) (sym (entries-all ws list (isNamed d j) (entryName ts) each))

@@ -1,0 +1,69 @@
+-- `child_named` meets its contract: what is left of the search tells what the whole tells. Assumes nothing.
+use mathlib.Core.Path.{sym, ap, _∙_}
+use Prim.Native.Nat.{_+_, _-_}
+use native.Mathlib.Omega.{arith}
+use borrow.Author.Needs.{needs}
+use Rattle.laws.proofs.Passing.{Passing, begin, here, further, nowhere}
+use Rattle.text.specs.Part.{part, sameBytes}
+use Rattle.sheet.specs.Record.{docOf}
+use Rattle.meaning.specs.Rules.{called}
+use Rattle.clause.proofs.Naming.{child-inside, child-found}
+use mathlib.Core.List.{List}
+use Prim.Native.Nat.{ℕ}
+use Rattle.clause.proofs.members.child_named.Statement.{statement}
+use Rattle.clause.proofs.members.child_named.Tie as tie
+
+abbrev Inv-loop : tie.InvT-loop
+Inv-loop «record» text form rule-text name first count i₀ i = Passing (λ k. called (docOf «record» text) (part rule-text name) (first + k)) count i
+
+abbrev μ-loop : tie.MeasureT-loop
+μ-loop «record» text form rule-text name first count i₀ i = count - i
+
+children-of-requires : tie.Need-children-of-requires Inv-loop μ-loop
+children-of-requires c κs = (c .before .before .before .pre .0 .0 .laid .formed, c .before .before .before .pre .0 .1)
+
+loop-holds : tie.Need-loop-holds Inv-loop μ-loop
+loop-holds c = begin _ _
+
+add-t13 : tie.Need-add-t13 Inv-loop μ-loop
+add-t13 c = omega (arith, child-inside (c .before .before .before .before .before .before .args .«record» .now) (c .before .before .before .before .before .before .args .text .now) (c .before .before .before .before .before .before .args .form) (c .before .before .before .before .before .before .pre .0 .0 .laid) (c .before .before .before .before .before .before .args .row .0) (c .before .before .children-of .result .first) (c .before .before .children-of .result .count) (c .before .loop .i) (c .before .before .before .before .before .before .pre .0 .1) (c .before .before .children-of .ensures .first-is (c .before .before .before .before .before .before .args .text .now)) (c .before .before .children-of .ensures .count-is (c .before .before .before .before .before .before .args .text .now)) (omega arith))
+
+name-of-requires : tie.Need-name-of-requires Inv-loop μ-loop
+name-of-requires c κs = (c .before .before .before .before .before .before .pre .0 .0 .laid, child-inside (c .before .before .before .before .before .before .args .«record» .now) (c .before .before .before .before .before .before .args .text .now) (c .before .before .before .before .before .before .args .form) (c .before .before .before .before .before .before .pre .0 .0 .laid) (c .before .before .before .before .before .before .args .row .0) (c .before .before .children-of .result .first) (c .before .before .children-of .result .count) (c .before .loop .i) (c .before .before .before .before .before .before .pre .0 .1) (c .before .before .children-of .ensures .first-is (c .before .before .before .before .before .before .args .text .now)) (c .before .before .children-of .ensures .count-is (c .before .before .before .before .before .before .args .text .now)) (omega arith) .0)
+
+same-part-requires : tie.Need-same-part-requires Inv-loop μ-loop
+same-part-requires c κs = (rw (c .before .before .before .before .before .before .before .pre .0 .0 .text-length) (c .name-of .ensures .name-fits), c .before .before .before .before .before .before .before .pre .1)
+
+returns : tie.Need-returns Inv-loop μ-loop
+unfolding called
+returns c = child-found (docOf (c .before .before .before .before .before .before .before .before .before .args .«record» .now) (c .before .before .before .before .before .before .before .before .before .args .text .now)) (c .before .before .before .before .before .before .before .before .before .args .row .0) (part (c .before .before .before .before .before .before .before .before .before .args .rule-text .now) (c .before .before .before .before .before .before .before .before .before .args .name)) _ _ _ (c .before .before .before .before .before .children-of .ensures .first-is (c .before .before .before .before .before .before .before .before .before .args .text .now)) (c .before .before .before .before .before .children-of .ensures .count-is (c .before .before .before .before .before .before .before .before .before .args .text .now)) (here (c .before .before .before .before .loop .inv) (omega arith) (ap (λ (x : List ℕ). sameBytes x (part (c .before .before .before .before .before .before .before .before .before .args .rule-text .now) (c .before .before .before .before .before .before .before .before .before .args .name))) (sym (c .before .before .name-of .ensures .name-is (c .before .before .before .before .before .before .before .before .before .args .text .now))) ∙ sym (c .before .same-part .ensures) ∙ c .if1 .taken))
+
+add-i : tie.Need-add-i Inv-loop μ-loop
+add-i c = search needs
+
+loop-less : tie.Need-loop-less Inv-loop μ-loop
+loop-less c = search needs
+
+loop-again : tie.Need-loop-again Inv-loop μ-loop
+unfolding called
+loop-again c = further (c .before .before .before .before .loop .inv) (omega arith) (ap (λ (x : List ℕ). sameBytes x (part (c .before .before .before .before .before .before .before .before .before .args .rule-text .now) (c .before .before .before .before .before .before .before .before .before .args .name))) (sym (c .before .before .name-of .ensures .name-is (c .before .before .before .before .before .before .before .before .before .args .text .now))) ∙ sym (c .before .same-part .ensures) ∙ c .if1 .left)
+
+returns-2 : tie.Need-returns-2 Inv-loop μ-loop
+returns-2 c = child-found (docOf (c .before .before .before .before .before .before .args .«record» .now) (c .before .before .before .before .before .before .args .text .now)) (c .before .before .before .before .before .before .args .row .0) (part (c .before .before .before .before .before .before .args .rule-text .now) (c .before .before .before .before .before .before .args .name)) _ _ _ (c .before .before .children-of .ensures .first-is (c .before .before .before .before .before .before .args .text .now)) (c .before .before .children-of .ensures .count-is (c .before .before .before .before .before .before .args .text .now)) (nowhere (c .before .loop .inv) (omega arith))
+
+pub child-named-spec : {M : Type 1} → statement M
+child-named-spec =
+    tie.close
+    (tie.spec
+    Inv-loop
+    μ-loop
+    children-of-requires
+    loop-holds
+    add-t13
+    name-of-requires
+    same-part-requires
+    returns
+    add-i
+    loop-less
+    loop-again
+    returns-2)
