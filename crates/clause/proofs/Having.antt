@@ -2,6 +2,8 @@
 --     number-found, none-found       its number, if it is one
 --     held-number, held-other        what is asked of a number, by the number that was found
 --     bytes-found, string-in, no-bytes     its bytes, if it is a string
+--     elements-found, no-elements    its elements' rows, if it is an array
+--     members-found, no-members      its members' rows, if it is an object
 --     type-found, type-missed        its types
 -- Assumes nothing.
 use mathlib.Core.Bool.{Bool, true, false, _&&_, _||_}
@@ -19,10 +21,11 @@ use Rattle.text.specs.Part.{fits}
 use Rattle.sheet.specs.declared.kind.RowKind.{RowKind}
 use Rattle.sheet.specs.declared.kind.RowKind.the-variants as K
 use Rattle.sheet.specs.Kinds.{numberOf}
-use Rattle.sheet.specs.Doc.{Value, null, bool, number, string, array, object, valueKind}
+use Rattle.sheet.specs.Doc.{Value, null, bool, number, string, array, object, valueKind, firstChild, childCount}
 use Rattle.sheet.specs.Record.{textWord, docOf}
 use Rattle.sheet.specs.Accepted.{StringRead}
-use Rattle.meaning.specs.Tests.{number?, bytes?, given, has, typed}
+use Rattle.meaning.specs.Lists.{range}
+use Rattle.meaning.specs.Tests.{number?, bytes?, elements?, members?, given, has, typed}
 use Rattle.clause.specs.declared.numbers.Numbered.{Numbered}
 use Rattle.clause.specs.declared.numbers.Numbered.the-variants.{Number, Other}
 use Rattle.clause.specs.Read.{typeNumber, numberIn, PlainIn, NumberFound}
@@ -103,6 +106,46 @@ string-in {ws} {j} {r} read ts t = within (docOf ws ts .value j) t (read .string
     within (string bytes) t inside = inside bytes refl
     within (array first k) t inside = absurd (never t)
     within (object first k) t inside = absurd (never t)
+
+-- ---- children
+
+pub elements-found : (v : Value) → isOf 5 v ≡ true → elements? v ≡ some (range (firstChild v) (childCount v))
+unfolding elements?
+elements-found null t = absurd (never t)
+elements-found (bool true) t = absurd (never t)
+elements-found (bool false) t = absurd (never t)
+elements-found (number z) t = absurd (never t)
+elements-found (string bytes) t = absurd (never t)
+elements-found (array first k) t = refl
+elements-found (object first k) t = absurd (never t)
+
+pub no-elements : (v : Value) → isOf 5 v ≡ false → elements? v ≡ none
+unfolding elements?
+no-elements null t = refl
+no-elements (bool b) t = refl
+no-elements (number z) t = refl
+no-elements (string bytes) t = refl
+no-elements (array first k) t = absurd (never-not t)
+no-elements (object first k) t = refl
+
+pub members-found : (v : Value) → isOf 6 v ≡ true → members? v ≡ some (range (firstChild v) (childCount v))
+unfolding members?
+members-found null t = absurd (never t)
+members-found (bool true) t = absurd (never t)
+members-found (bool false) t = absurd (never t)
+members-found (number z) t = absurd (never t)
+members-found (string bytes) t = absurd (never t)
+members-found (array first k) t = absurd (never t)
+members-found (object first k) t = refl
+
+pub no-members : (v : Value) → isOf 6 v ≡ false → members? v ≡ none
+unfolding members?
+no-members null t = refl
+no-members (bool b) t = refl
+no-members (number z) t = refl
+no-members (string bytes) t = refl
+no-members (array first k) t = refl
+no-members (object first k) t = absurd (never-not t)
 
 -- ---- types
 

@@ -4,3 +4,4 @@ pub mod Measures
 pub mod Listing
 pub mod Naming
 pub mod Equality
+pub mod Asserting

@@ -6,21 +6,17 @@
 -- Assumes nothing.
 use mathlib.Core.Bool.{Bool, true, false}
 use mathlib.Core.List.{List, map}
-use mathlib.Core.Option.{none, some}
-use mathlib.Core.Logic.{⊎-elim}
-use mathlib.Core.Path.{_≡_, refl, sym, ap, _∙_}
+use mathlib.Core.Path.{_≡_, sym, ap, _∙_}
 use Prim.Native.Nat.{ℕ, _+_, _-_, _≤_, _<_}
-use native.Mathlib.Nat.{eq-or-lt-of-le}
 use native.Mathlib.Omega.{arith}
 use Rattle.laws.specs.Lowest.{lowest}
 use Rattle.laws.proofs.Searches.{clear-below, holds-at, at-most-end}
 use Rattle.sheet.specs.declared.record.RecordForm.{RecordForm}
-use Rattle.sheet.specs.Doc.{Value, null, bool, number, string, array, object, Doc, firstChild, childCount, Child}
+use Rattle.sheet.specs.Doc.{Doc, firstChild, childCount, Child}
 use Rattle.sheet.specs.Record.{rows-max, docOf}
 use Rattle.sheet.specs.Accepted.{Laid}
 use Rattle.sheet.proofs.Trailers.{form-rows, form-few}
 use Rattle.sheet.proofs.Owners.{under, children-of}
-use Rattle.rulesheet.specs.declared.form.EntryRow.{EntryRow}
 use Rattle.rulesheet.specs.declared.clause.Entries.{Entries}
 use Rattle.rulesheet.specs.Codes.{entryName}
 use Rattle.rulesheet.specs.Sheet.{entryAt, run}
@@ -29,7 +25,7 @@ use Rattle.meaning.specs.Lists.{any, range}
 use Rattle.meaning.specs.Tests.{members?, given}
 use Rattle.meaning.specs.Rules.{called, present}
 use Rattle.clause.specs.Read.{childNamed}
-use Rattle.clause.proofs.Having.{isOf, never, never-not}
+use Rattle.clause.proofs.Having.{isOf, members-found, no-members}
 use Rattle.clause.proofs.Listing.{range-run, any-found, any-nowhere, entries-all, entry-missed}
 
 pub child-inside : (ws ts : List ℕ) (form : RecordForm) → Laid ws form → (j first count i : ℕ) → j < form .rows
@@ -76,25 +72,6 @@ module _ (d : Doc) (j : ℕ) (name : List ℕ) where
         ∙ any-found (λ k. called d name k) count first (first + r) (omega arith) (omega arith)
         (ap (λ (k : ℕ). called d name (first + k)) read ∙ holds-at (λ k. called d name (first + k)) count 0 (omega (arith, read)))
 
-as-object : (v : Value) → isOf 6 v ≡ true → members? v ≡ some (range (firstChild v) (childCount v))
-unfolding members?
-as-object null t = absurd (never t)
-as-object (bool true) t = absurd (never t)
-as-object (bool false) t = absurd (never t)
-as-object (number z) t = absurd (never t)
-as-object (string bytes) t = absurd (never t)
-as-object (array first k) t = absurd (never t)
-as-object (object first k) t = refl
-
-pub as-other : (v : Value) → isOf 6 v ≡ false → members? v ≡ none
-unfolding members?
-as-other null t = refl
-as-other (bool b) t = refl
-as-other (number z) t = refl
-as-other (string bytes) t = refl
-as-other (array first k) t = refl
-as-other (object first k) t = absurd (never-not t)
-
 module _ (d : Doc) (j : ℕ) (ws ts : List ℕ) (list : Entries) where
   -- what `required` says of row j
   abbrev Required : Bool
@@ -102,13 +79,13 @@ module _ (d : Doc) (j : ℕ) (ws ts : List ℕ) (list : Entries) where
 
   pub no-object : isOf 6 (d .value j) ≡ false → true ≡ Required
   unfolding given
-  no-object t = rw (as-other (d .value j) t)
+  no-object t = rw (no-members (d .value j) t)
 
   module _ (t : isOf 6 (d .value j) ≡ true) where
     pub lacks : (i : ℕ) → i < list .count → isNamed d j (entryName ts (entryAt ws (list .first + i))) ≡ false → false ≡ Required
     unfolding given present
-    lacks i h e = rw (as-object (d .value j) t) (sym (entry-missed ws list (isNamed d j) (entryName ts) i h e))
+    lacks i h e = rw (members-found (d .value j) t) (sym (entry-missed ws list (isNamed d j) (entryName ts) i h e))
 
     pub has-all : ((i : ℕ) → i < list .count → isNamed d j (entryName ts (entryAt ws (list .first + i))) ≡ true) → true ≡ Required
     unfolding given present
-    has-all each = rw (as-object (d .value j) t) (sym (entries-all ws list (isNamed d j) (entryName ts) each))
+    has-all each = rw (members-found (d .value j) t) (sym (entries-all ws list (isNamed d j) (entryName ts) each))

@@ -7,5 +7,6 @@ pub mod bounds;
 pub mod members;
 pub mod numbers;
 pub mod sizes;
+pub mod test;
 pub mod types;
 pub mod values;

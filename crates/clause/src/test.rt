@@ -1,0 +1,71 @@
+// A clause that asserts something of a row's value, by its keyword.
+ghost use mathlib.Core.Path.{_≡_};
+ghost use Prim.Native.Nat.{_<_};
+ghost use Rattle.sheet.specs.Record.{docOf};
+ghost use Rattle.rulesheet.specs.Ruleset.{Test, asserts};
+ghost use Rattle.rulesheet.specs.Clauses.{clauseMeans, Tested};
+ghost use Rattle.meaning.specs.Rules.{passes};
+ghost use Rattle.clause.specs.Read.{RecordRead, RulesRead};
+use crate::bounds::exclusive_maximum;
+use crate::bounds::exclusive_minimum;
+use crate::bounds::maximum;
+use crate::bounds::minimum;
+use crate::bounds::multiple;
+use crate::members::required;
+use crate::sizes::max_items;
+use crate::sizes::max_length;
+use crate::sizes::max_properties;
+use crate::sizes::min_items;
+use crate::sizes::min_length;
+use crate::sizes::min_properties;
+use crate::types::typed;
+use crate::values::is_listed;
+use rulesheet::clause::Clause;
+use rulesheet::form::RuleForm;
+use sheet::record::RecordForm;
+use sheet::record::RecordRow;
+
+// Whether the row passes the clause's test. A clause that applies schemas has none, and the answer
+// is true.
+pub fn holds<'a>(
+    record: &[u32],
+    text: &'a [u8],
+    form: RecordForm,
+    row: RecordRow,
+    rules: &[u32],
+    rule_text: &'a [u8],
+    rule_form: RuleForm,
+    clause: Clause,
+) -> bool
+    requires { ⌜ RecordRead (now «record») (now text) form × (row .0 < form .rows) ⌝ }
+    requires { ⌜ RulesRead (now rules) (now «rule_text») «rule_form» × Tested (now rules) «rule_form» clause ⌝ }
+    ensures { λ r. ⌜ ((t : Test) → clauseMeans (now (rules .entry)) (now («rule_text» .entry)) clause ≡ asserts t → r ≡ passes (docOf (now («record» .entry)) (now (text .entry))) (row .0) t) ⌝ }
+{
+    match clause {
+        Clause::Never => false,
+        Clause::Types(mask) => typed(record, form, row, mask),
+        Clause::Enum(list) => is_listed(record, text, form, row, rules, rule_text, rule_form, list),
+        Clause::Minimum(limit) => minimum(record, form, row, limit),
+        Clause::Maximum(limit) => maximum(record, form, row, limit),
+        Clause::ExclusiveMinimum(limit) => exclusive_minimum(record, form, row, limit),
+        Clause::ExclusiveMaximum(limit) => exclusive_maximum(record, form, row, limit),
+        Clause::MultipleOf(limit) => multiple(record, form, row, limit),
+        Clause::MinLength(k) => min_length(record, text, form, row, k),
+        Clause::MaxLength(k) => max_length(record, text, form, row, k),
+        Clause::MinItems(k) => min_items(record, form, row, k),
+        Clause::MaxItems(k) => max_items(record, form, row, k),
+        Clause::MinProperties(k) => min_properties(record, form, row, k),
+        Clause::MaxProperties(k) => max_properties(record, form, row, k),
+        Clause::Required(list) => required(
+            record,
+            text,
+            form,
+            row,
+            rules,
+            rule_text,
+            rule_form,
+            list,
+        ),
+        _ => true,
+    }
+}
