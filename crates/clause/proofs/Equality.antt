@@ -4,7 +4,7 @@
 -- Assumes nothing.
 use mathlib.Core.Bool.{Bool, true, false, _&&_}
 use mathlib.Core.List.{List}
-use mathlib.Core.Option.{none, some}
+use mathlib.Core.Option.{some}
 use mathlib.Core.Path.{_≡_, refl, sym, ap, _∙_}
 use Prim.Native.Nat.{ℕ, zero, suc, _≤_}
 use native.Mathlib.Omega.{arith}
@@ -23,6 +23,7 @@ use Rattle.sheet.proofs.Values.{kind-by}
 use Rattle.rulesheet.specs.declared.code.Fields.the-variants.{Values}
 use Rattle.rulesheet.specs.declared.form.EntryRow.{EntryRow}
 use Rattle.rulesheet.specs.Codes.{entryValue}
+use Rattle.rulesheet.specs.Sheet.{entryAt}
 use Rattle.rulesheet.specs.Faults.{entryOk}
 use Rattle.rulesheet.proofs.Meanings.{of-number}
 use Rattle.meaning.specs.Tests.{number?, bytes?, agree, equal}
@@ -50,17 +51,17 @@ module _ (v w : Value) (k l : ℕ) (of-v : k ≡ nk v) (of-w : l ≡ nk w) where
     neither : (n : ℕ) → (k ≡ n → ⊥) → (isOf n v ≡ false) × (isOf n w ≡ false)
     neither n h = (ne-eqb (nk v) n (λ e. h (of-v ∙ e)), ne-eqb (nk w) n (λ e. h (same ∙ of-w ∙ e)))
 
-    pub numbers-same : (x y : ℤ) → k ≡ 3 → number? v ≡ some x → number? w ≡ some y → equalZ x y ≡ equal v w
+    pub numbers-same : (x y : ℤ) (r : Bool) → r ≡ equalZ x y → k ≡ 3 → number? v ≡ some x → number? w ≡ some y → r ≡ equal v w
     unfolding equal agree
-    numbers-same x y is a b =
+    numbers-same x y r told is a b =
         let none4 = neither 4 (λ e. omega arith) in
-        rw (alike, a, b, no-bytes v (none4 .0), no-bytes w (none4 .1)) (and-true (equalZ x y))
+        told ∙ rw (alike, a, b, no-bytes v (none4 .0), no-bytes w (none4 .1)) (and-true (equalZ x y))
 
-    pub strings-same : (xs ys : List ℕ) → k ≡ 4 → bytes? v ≡ some xs → bytes? w ≡ some ys → sameBytes xs ys ≡ equal v w
+    pub strings-same : (xs ys : List ℕ) (r : Bool) → r ≡ sameBytes xs ys → k ≡ 4 → bytes? v ≡ some xs → bytes? w ≡ some ys → r ≡ equal v w
     unfolding equal agree
-    strings-same xs ys is a b =
+    strings-same xs ys r told is a b =
         let none3 = neither 3 (λ e. omega arith) in
-        rw (alike, a, b, none-found v (none3 .0) .number-is, none-found w (none3 .1) .number-is)
+        told ∙ rw (alike, a, b, none-found v (none3 .0) .number-is, none-found w (none3 .1) .number-is)
 
     pub kinds-same : (k ≡ 3 → ⊥) → (k ≡ 4 → ⊥) → true ≡ equal v w
     unfolding equal agree
@@ -109,3 +110,7 @@ module _ (ts : List ℕ) (e : EntryRow) (ok : entryOk Values (length ts) 0 e ≡
   pub entry-fits : e .first ≡ 4 → fits (length ts) (record { start = e .second; length = e .third }) ≡ true
   unfolding kindOf
   entry-fits h = rw h at scalar
+
+-- the entry at a place, by the entry that was read there
+pub entry-told : (v : Value) (ws ts : List ℕ) (x : ℕ) (e : EntryRow) (r b : Bool) → e ≡ entryAt ws x → r ≡ equal v (entryValue ts e) → r ≡ b → equal v (entryValue ts (entryAt ws x)) ≡ b
+entry-told v ws ts x e r b read is told = rw (← read) (sym is ∙ told)

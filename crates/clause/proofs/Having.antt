@@ -28,7 +28,7 @@ use Rattle.meaning.specs.Lists.{range}
 use Rattle.meaning.specs.Tests.{number?, bytes?, elements?, members?, given, has, typed}
 use Rattle.clause.specs.declared.numbers.Numbered.{Numbered}
 use Rattle.clause.specs.declared.numbers.Numbered.the-variants.{Number, Other}
-use Rattle.clause.specs.Read.{typeNumber, numberIn, PlainIn, NumberFound}
+use Rattle.clause.specs.Read.{typeNumber, NumberFound}
 
 -- a value is of the kind that has this number
 abbrev pub isOf : ℕ → Value → Bool

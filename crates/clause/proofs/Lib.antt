@@ -1,4 +1,5 @@
 -- In reading order.
+pub mod Reading
 pub mod Having
 pub mod Measures
 pub mod Listing

@@ -1,7 +1,8 @@
 -- Children by name.
 --     child-inside                 a child is one of the rows
 --     child-found                  the search that was made is the search that is meant
---     name-missed, name-found      no child has a name, or one has it, by what the search gave
+--     compared                     a row has a name, by the names that were compared
+--     entry-lacks, entry-has       no child has an entry's name, or one has it, by what the search gave
 --     no-object, lacks, has-all    what `required` says of a row
 -- Assumes nothing.
 use mathlib.Core.Bool.{Bool, true, false}
@@ -11,16 +12,18 @@ use Prim.Native.Nat.{ℕ, _+_, _-_, _≤_, _<_}
 use native.Mathlib.Omega.{arith}
 use Rattle.laws.specs.Lowest.{lowest}
 use Rattle.laws.proofs.Searches.{clear-below, holds-at, at-most-end}
+use Rattle.text.specs.declared.Range.{Range}
+use Rattle.text.specs.Part.{part, sameBytes}
 use Rattle.sheet.specs.declared.record.RecordForm.{RecordForm}
 use Rattle.sheet.specs.Doc.{Doc, firstChild, childCount, Child}
 use Rattle.sheet.specs.Record.{rows-max, docOf}
-use Rattle.sheet.specs.Accepted.{Laid}
+use Rattle.sheet.specs.Accepted.{Laid, NameRead}
 use Rattle.sheet.proofs.Trailers.{form-rows, form-few}
 use Rattle.sheet.proofs.Owners.{under, children-of}
 use Rattle.rulesheet.specs.declared.clause.Entries.{Entries}
 use Rattle.rulesheet.specs.Codes.{entryName}
 use Rattle.rulesheet.specs.Sheet.{entryAt, run}
-use Rattle.rulesheet.specs.Clauses.{entriesOf}
+use Rattle.rulesheet.specs.Clauses.{entriesOf, entryRange}
 use Rattle.meaning.specs.Lists.{any, range}
 use Rattle.meaning.specs.Tests.{members?, given}
 use Rattle.meaning.specs.Rules.{called, present}
@@ -34,6 +37,12 @@ child-inside ws ts form laid j first count i h f c l =
     let n = form-rows ws form (laid .formed) in
     let child : Child (docOf ws ts) j (first + i) = record { after = omega arith; within = omega arith } in
     (children-of ws ts (form .rows) n (laid .rows-ok) j (first + i) h (under ws ts (form .rows) n (laid .rows-ok) j (first + i) h child) .1, form-few ws form (laid .formed))
+
+-- the name that was read of row k was compared
+pub compared : {ws : List ℕ} {k : ℕ} {own : Range} → NameRead ws k own → (ts name : List ℕ) (r b : Bool) → r ≡ sameBytes (part ts own) name → r ≡ b
+    → called (docOf ws ts) name k ≡ b
+unfolding called
+compared {ws} {k} {own} read ts name r b is e = ap (λ (x : List ℕ). sameBytes x name) (sym (read .name-is ts)) ∙ sym is ∙ e
 
 module _ (d : Doc) (j : ℕ) (name : List ℕ) where
   pub child-found : (first count i : ℕ) → first ≡ firstChild (d .value j) → count ≡ childCount (d .value j)
@@ -51,7 +60,7 @@ module _ (d : Doc) (j : ℕ) (name : List ℕ) where
     in-order : isNamed ≡ any (map (λ k. called d name k) (run (childCount (d .value j)) (firstChild (d .value j))))
     in-order = rw (range-run (firstChild (d .value j)) (childCount (d .value j)))
 
-    pub name-missed : r ≡ childCount (d .value j) → isNamed ≡ false
+    name-missed : r ≡ childCount (d .value j) → isNamed ≡ false
     name-missed e =
         let first = firstChild (d .value j) in
         let count = childCount (d .value j) in
@@ -62,7 +71,7 @@ module _ (d : Doc) (j : ℕ) (name : List ℕ) where
         ap (λ (k : ℕ). called d name k) (sym back)
         ∙ clear-below (λ k. called d name (first + k)) count 0 (x - first) (omega arith) (omega arith) (omega (arith, read)))
 
-    pub name-found : (r ≡ childCount (d .value j) → ⊥) → isNamed ≡ true
+    name-found : (r ≡ childCount (d .value j) → ⊥) → isNamed ≡ true
     name-found e =
         let first = firstChild (d .value j) in
         let count = childCount (d .value j) in
@@ -76,6 +85,17 @@ module _ (d : Doc) (j : ℕ) (ws ts : List ℕ) (list : Entries) where
   -- what `required` says of row j
   abbrev Required : Bool
   Required = given (members? (d .value j)) (present d (map (entryName ts) (entriesOf ws list)))
+
+  -- by what the search for the name of entry i gave
+  module _ (i : ℕ) (name : Range) (read : name ≡ entryRange (entryAt ws (list .first + i))) (r n : ℕ) (found : r ≡ childNamed d j (part ts name)) (all : n ≡ childCount (d .value j)) where
+    entry-found : r ≡ childNamed d j (entryName ts (entryAt ws (list .first + i)))
+    entry-found = found ∙ ap (λ (x : Range). childNamed d j (part ts x)) read
+
+    pub entry-lacks : r ≡ n → isNamed d j (entryName ts (entryAt ws (list .first + i))) ≡ false
+    entry-lacks e = name-missed d j (entryName ts (entryAt ws (list .first + i))) r entry-found (e ∙ all)
+
+    pub entry-has : (r ≡ n → ⊥) → isNamed d j (entryName ts (entryAt ws (list .first + i))) ≡ true
+    entry-has h = name-found d j (entryName ts (entryAt ws (list .first + i))) r entry-found (λ e. h (e ∙ sym all))
 
   pub no-object : isOf 6 (d .value j) ≡ false → true ≡ Required
   unfolding given

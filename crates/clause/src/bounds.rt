@@ -12,7 +12,6 @@ use crate::numbers::number_in;
 use decimal::Decimal;
 use decimal::at_most;
 use decimal::less;
-use decimal::multiple_of;
 use sheet::record::RecordForm;
 use sheet::record::RecordRow;
 
@@ -65,13 +64,13 @@ pub fn exclusive_maximum(record: &[u32], form: RecordForm, row: RecordRow, limit
 }
 
 // Whether the row, if it is a number, is the limit times a whole number.
-pub fn multiple(record: &[u32], form: RecordForm, row: RecordRow, limit: Decimal) -> bool
+pub fn multiple_of(record: &[u32], form: RecordForm, row: RecordRow, limit: Decimal) -> bool
     requires { ⌜ Laid (now «record») form × (row .0 < form .rows) × Plain limit ⌝ }
     ensures { λ r. ⌜ ((ts : List ℕ) → r ≡ given (number? (docOf (now («record» .entry)) ts .value (row .0))) (λ y. isMultiple y (value limit))) ⌝ }
 {
     let found = number_in(record, form, row);
     match found {
-        Numbered::Number(number) => multiple_of(number, limit),
+        Numbered::Number(number) => decimal::multiple_of(number, limit),
         Numbered::Other => true,
     }
 }

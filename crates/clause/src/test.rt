@@ -10,7 +10,7 @@ use crate::bounds::exclusive_maximum;
 use crate::bounds::exclusive_minimum;
 use crate::bounds::maximum;
 use crate::bounds::minimum;
-use crate::bounds::multiple;
+use crate::bounds::multiple_of;
 use crate::members::required;
 use crate::sizes::max_items;
 use crate::sizes::max_length;
@@ -19,7 +19,7 @@ use crate::sizes::min_items;
 use crate::sizes::min_length;
 use crate::sizes::min_properties;
 use crate::types::typed;
-use crate::values::is_listed;
+use crate::values::enum_holds;
 use rulesheet::clause::Clause;
 use rulesheet::form::RuleForm;
 use sheet::record::RecordForm;
@@ -44,28 +44,19 @@ pub fn holds<'a>(
     match clause {
         Clause::Never => false,
         Clause::Types(mask) => typed(record, form, row, mask),
-        Clause::Enum(list) => is_listed(record, text, form, row, rules, rule_text, rule_form, list),
+        Clause::Enum(es) => enum_holds(record, text, form, row, rules, rule_text, rule_form, es),
         Clause::Minimum(limit) => minimum(record, form, row, limit),
         Clause::Maximum(limit) => maximum(record, form, row, limit),
         Clause::ExclusiveMinimum(limit) => exclusive_minimum(record, form, row, limit),
         Clause::ExclusiveMaximum(limit) => exclusive_maximum(record, form, row, limit),
-        Clause::MultipleOf(limit) => multiple(record, form, row, limit),
+        Clause::MultipleOf(limit) => multiple_of(record, form, row, limit),
         Clause::MinLength(k) => min_length(record, text, form, row, k),
         Clause::MaxLength(k) => max_length(record, text, form, row, k),
         Clause::MinItems(k) => min_items(record, form, row, k),
         Clause::MaxItems(k) => max_items(record, form, row, k),
         Clause::MinProperties(k) => min_properties(record, form, row, k),
         Clause::MaxProperties(k) => max_properties(record, form, row, k),
-        Clause::Required(list) => required(
-            record,
-            text,
-            form,
-            row,
-            rules,
-            rule_text,
-            rule_form,
-            list,
-        ),
+        Clause::Required(es) => required(record, text, form, row, rules, rule_text, rule_form, es),
         _ => true,
     }
 }

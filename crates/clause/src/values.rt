@@ -59,7 +59,7 @@ fn equals_entry<'a>(
 }
 
 // Whether the row's value is one of the list's.
-pub fn is_listed<'a>(
+pub fn enum_holds<'a>(
     record: &[u32],
     text: &'a [u8],
     form: RecordForm,

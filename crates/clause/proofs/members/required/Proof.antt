@@ -1,23 +1,18 @@
 -- `required` meets its contract: each name passed is the name of a child. Assumes nothing.
 use mathlib.Core.Bool.{true}
-use mathlib.Core.Path.{_≡_, sym, ap, _∙_}
+use mathlib.Core.Path.{_≡_, sym, _∙_}
 use Prim.Native.Nat.{ℕ, _+_, _-_, _≤_, _<_}
 use native.Mathlib.Omega.{arith}
 use borrow.Author.Count.{below-none, below-more}
 use borrow.Author.Needs.{needs}
 use borrow.Author.Tests.{not-true, not-false}
-use Rattle.text.specs.declared.Range.{Range}
-use Rattle.text.specs.Part.{fits, part}
 use Rattle.laws.proofs.Tests.{left}
 use lib.Dec.{eqb}
-use lib.ListN.{length}
 use Rattle.sheet.specs.Record.{docOf}
 use Rattle.rulesheet.specs.Codes.{entryName}
 use Rattle.rulesheet.specs.Sheet.{entryAt}
-use Rattle.rulesheet.specs.Clauses.{entryRange}
-use Rattle.clause.specs.Read.{childNamed}
 use Rattle.clause.proofs.Listing.{list-few}
-use Rattle.clause.proofs.Naming.{isNamed, name-missed, name-found, no-object, lacks, has-all}
+use Rattle.clause.proofs.Naming.{isNamed, entry-lacks, entry-has, no-object, lacks, has-all}
 use Rattle.clause.proofs.members.required.Statement.{statement}
 use Rattle.clause.proofs.members.required.Tie as tie
 
@@ -31,22 +26,30 @@ is-kind-requires : tie.Need-is-kind-requires Inv-loop μ-loop
 is-kind-requires c κs = (c .before .before .before .before .pre .0 .0 .laid .formed, c .before .before .before .before .pre .0 .1)
 
 returns : tie.Need-returns Inv-loop μ-loop
-returns c = no-object (docOf (c .before .before .before .before .before .before .args .«record» .now) (c .before .before .before .before .before .before .args .text .now)) (c .before .before .before .before .before .before .args .row .0) (c .before .before .before .before .before .before .args .rules .now) (c .before .before .before .before .before .before .args .rule-text .now) (c .before .before .before .before .before .before .args .list) (sym (c .before .is-kind .ensures (c .before .before .before .before .before .before .args .text .now)) ∙ not-true _ (c .if1 .taken))
+returns c =
+    let start = c .before .before .before .before .before .before in
+    no-object (docOf (start .args .«record» .now) (start .args .text .now)) (start .args .row .0) (start .args .rules .now) (start .args .rule-text .now) (start .args .list) (sym (c .before .is-kind .ensures (start .args .text .now)) ∙ not-true _ (c .if1 .taken))
 
 children-of-requires : tie.Need-children-of-requires Inv-loop μ-loop
 children-of-requires c κs = (c .before .before .before .before .before .before .pre .0 .0 .laid .formed, c .before .before .before .before .before .before .pre .0 .1)
 
 loop-holds : tie.Need-loop-holds Inv-loop μ-loop
-loop-holds c = (omega arith, below-none (λ (k : ℕ). isNamed (docOf (c .before .before .before .before .before .before .before .args .«record» .now) (c .before .before .before .before .before .before .before .args .text .now)) (c .before .before .before .before .before .before .before .args .row .0) (entryName (c .before .before .before .before .before .before .before .args .rule-text .now) (entryAt (c .before .before .before .before .before .before .before .args .rules .now) ((c .before .before .before .before .before .before .before .args .list) .first + k))) ≡ true))
+loop-holds c =
+    let start = c .before .before .before .before .before .before .before in
+    (omega arith, below-none (λ (k : ℕ). isNamed (docOf (start .args .«record» .now) (start .args .text .now)) (start .args .row .0) (entryName (start .args .rule-text .now) (entryAt (start .args .rules .now) ((start .args .list) .first + k))) ≡ true))
 
 entry-name-requires : tie.Need-entry-name-requires Inv-loop μ-loop
 entry-name-requires c κs = (c .before .before .before .before .before .before .before .before .before .pre .1 .0 .laid .clauses-laid .schemas-laid .formed, c .before .before .before .before .before .before .before .before .before .pre .1 .1 .within, omega arith)
 
 child-named-requires : tie.Need-child-named-requires Inv-loop μ-loop
-child-named-requires c κs = ((c .before .before .before .before .before .before .before .before .before .before .pre .0 .0, c .before .before .before .before .before .before .before .before .before .before .pre .0 .1), rw (c .entry-name .ensures, c .before .before .before .before .before .before .before .before .before .before .pre .1 .0 .text-length) (left _ (eqb ((entryAt (c .before .before .before .before .before .before .before .before .before .before .args .rules .now) ((c .before .before .before .before .before .before .before .before .before .before .args .list) .first + c .before .before .loop .i)) .third) 0) (c .before .before .before .before .before .before .before .before .before .before .pre .1 .1 .listed _ (omega arith))))
+child-named-requires c κs =
+    let start = c .before .before .before .before .before .before .before .before .before .before in
+    ((start .pre .0 .0, start .pre .0 .1), rw (c .entry-name .ensures, start .pre .1 .0 .text-length) (left _ (eqb ((entryAt (start .args .rules .now) ((start .args .list) .first + c .before .before .loop .i)) .third) 0) (start .pre .1 .1 .listed _ (omega arith))))
 
 returns-2 : tie.Need-returns-2 Inv-loop μ-loop
-returns-2 c = lacks (docOf (c .before .before .before .before .before .before .before .before .before .before .before .before .args .«record» .now) (c .before .before .before .before .before .before .before .before .before .before .before .before .args .text .now)) (c .before .before .before .before .before .before .before .before .before .before .before .before .args .row .0) (c .before .before .before .before .before .before .before .before .before .before .before .before .args .rules .now) (c .before .before .before .before .before .before .before .before .before .before .before .before .args .rule-text .now) (c .before .before .before .before .before .before .before .before .before .before .before .before .args .list) (sym (c .before .before .before .before .before .before .before .is-kind .ensures (c .before .before .before .before .before .before .before .before .before .before .before .before .args .text .now)) ∙ not-false _ (c .before .before .before .before .before .before .if1 .left)) (c .before .before .before .before .loop .i) (omega arith) (name-missed (docOf (c .before .before .before .before .before .before .before .before .before .before .before .before .args .«record» .now) (c .before .before .before .before .before .before .before .before .before .before .before .before .args .text .now)) (c .before .before .before .before .before .before .before .before .before .before .before .before .args .row .0) (entryName (c .before .before .before .before .before .before .before .before .before .before .before .before .args .rule-text .now) (entryAt (c .before .before .before .before .before .before .before .before .before .before .before .before .args .rules .now) ((c .before .before .before .before .before .before .before .before .before .before .before .before .args .list) .first + c .before .before .before .before .loop .i))) _ (c .before .child-named .ensures ∙ ap (λ (r : Range). childNamed (docOf (c .before .before .before .before .before .before .before .before .before .before .before .before .args .«record» .now) (c .before .before .before .before .before .before .before .before .before .before .before .before .args .text .now)) (c .before .before .before .before .before .before .before .before .before .before .before .before .args .row .0) (part (c .before .before .before .before .before .before .before .before .before .before .before .before .args .rule-text .now) r)) (c .before .before .entry-name .ensures)) (c .if2 .taken ∙ (c .before .before .before .before .before .children-of .ensures .count-is (c .before .before .before .before .before .before .before .before .before .before .before .before .args .text .now))))
+returns-2 c =
+    let start = c .before .before .before .before .before .before .before .before .before .before .before .before in
+    lacks (docOf (start .args .«record» .now) (start .args .text .now)) (start .args .row .0) (start .args .rules .now) (start .args .rule-text .now) (start .args .list) (sym (c .before .before .before .before .before .before .before .is-kind .ensures (start .args .text .now)) ∙ not-false _ (c .before .before .before .before .before .before .if1 .left)) (c .before .before .before .before .loop .i) (omega arith) (entry-lacks (docOf (start .args .«record» .now) (start .args .text .now)) (start .args .row .0) (start .args .rules .now) (start .args .rule-text .now) (start .args .list) (c .before .before .before .before .loop .i) _ (c .before .before .entry-name .ensures) _ _ (c .before .child-named .ensures) (c .before .before .before .before .before .children-of .ensures .count-is (start .args .text .now)) (c .if2 .taken))
 
 add-i : tie.Need-add-i Inv-loop μ-loop
 add-i c = omega (arith, list-few (c .before .before .before .before .before .before .before .before .before .before .before .before .pre .1 .0) (c .before .before .before .before .before .before .before .before .before .before .before .before .pre .1 .1))
@@ -55,10 +58,14 @@ loop-less : tie.Need-loop-less Inv-loop μ-loop
 loop-less c = search needs
 
 loop-again : tie.Need-loop-again Inv-loop μ-loop
-loop-again c = (omega arith, below-more (λ (k : ℕ). isNamed (docOf (c .before .before .before .before .before .before .before .before .before .before .before .before .args .«record» .now) (c .before .before .before .before .before .before .before .before .before .before .before .before .args .text .now)) (c .before .before .before .before .before .before .before .before .before .before .before .before .args .row .0) (entryName (c .before .before .before .before .before .before .before .before .before .before .before .before .args .rule-text .now) (entryAt (c .before .before .before .before .before .before .before .before .before .before .before .before .args .rules .now) ((c .before .before .before .before .before .before .before .before .before .before .before .before .args .list) .first + k))) ≡ true) (c .before .before .before .before .loop .i) (c .before .before .before .before .loop .inv .1) (name-found (docOf (c .before .before .before .before .before .before .before .before .before .before .before .before .args .«record» .now) (c .before .before .before .before .before .before .before .before .before .before .before .before .args .text .now)) (c .before .before .before .before .before .before .before .before .before .before .before .before .args .row .0) (entryName (c .before .before .before .before .before .before .before .before .before .before .before .before .args .rule-text .now) (entryAt (c .before .before .before .before .before .before .before .before .before .before .before .before .args .rules .now) ((c .before .before .before .before .before .before .before .before .before .before .before .before .args .list) .first + c .before .before .before .before .loop .i))) _ (c .before .child-named .ensures ∙ ap (λ (r : Range). childNamed (docOf (c .before .before .before .before .before .before .before .before .before .before .before .before .args .«record» .now) (c .before .before .before .before .before .before .before .before .before .before .before .before .args .text .now)) (c .before .before .before .before .before .before .before .before .before .before .before .before .args .row .0) (part (c .before .before .before .before .before .before .before .before .before .before .before .before .args .rule-text .now) r)) (c .before .before .entry-name .ensures)) (λ e. c .if2 .left (e ∙ sym (c .before .before .before .before .before .children-of .ensures .count-is (c .before .before .before .before .before .before .before .before .before .before .before .before .args .text .now))))))
+loop-again c =
+    let start = c .before .before .before .before .before .before .before .before .before .before .before .before in
+    (omega arith, below-more (λ (k : ℕ). isNamed (docOf (start .args .«record» .now) (start .args .text .now)) (start .args .row .0) (entryName (start .args .rule-text .now) (entryAt (start .args .rules .now) ((start .args .list) .first + k))) ≡ true) (c .before .before .before .before .loop .i) (c .before .before .before .before .loop .inv .1) (entry-has (docOf (start .args .«record» .now) (start .args .text .now)) (start .args .row .0) (start .args .rules .now) (start .args .rule-text .now) (start .args .list) (c .before .before .before .before .loop .i) _ (c .before .before .entry-name .ensures) _ _ (c .before .child-named .ensures) (c .before .before .before .before .before .children-of .ensures .count-is (start .args .text .now)) (c .if2 .left)))
 
 returns-3 : tie.Need-returns-3 Inv-loop μ-loop
-returns-3 c = has-all (docOf (c .before .before .before .before .before .before .before .before .before .args .«record» .now) (c .before .before .before .before .before .before .before .before .before .args .text .now)) (c .before .before .before .before .before .before .before .before .before .args .row .0) (c .before .before .before .before .before .before .before .before .before .args .rules .now) (c .before .before .before .before .before .before .before .before .before .args .rule-text .now) (c .before .before .before .before .before .before .before .before .before .args .list) (sym (c .before .before .before .before .is-kind .ensures (c .before .before .before .before .before .before .before .before .before .args .text .now)) ∙ not-false _ (c .before .before .before .if1 .left)) (λ (i : ℕ) (l : i < (c .before .before .before .before .before .before .before .before .before .args .list) .count). c .before .loop .inv .1 i (omega arith))
+returns-3 c =
+    let start = c .before .before .before .before .before .before .before .before .before in
+    has-all (docOf (start .args .«record» .now) (start .args .text .now)) (start .args .row .0) (start .args .rules .now) (start .args .rule-text .now) (start .args .list) (sym (c .before .before .before .before .is-kind .ensures (start .args .text .now)) ∙ not-false _ (c .before .before .before .if1 .left)) (λ (i : ℕ) (l : i < (start .args .list) .count). c .before .loop .inv .1 i (omega arith))
 
 pub required-spec : {M : Type 1} → statement M
 required-spec =

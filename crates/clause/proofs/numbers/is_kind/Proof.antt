@@ -1,7 +1,4 @@
 -- `is_kind` meets its contract. Assumes nothing.
-use mathlib.Core.Path.{ap, _∙_}
-use lib.Dec.{eqb}
-use Rattle.sheet.specs.Kinds.{numberOf}
 use borrow.Author.Needs.{needs}
 use Rattle.clause.proofs.numbers.is_kind.Statement.{statement}
 use Rattle.clause.proofs.numbers.is_kind.Tie as tie

@@ -1,11 +1,11 @@
--- `multiple` meets its contract, for a number and for a row that is none. Assumes nothing.
+-- `multiple_of` meets its contract, for a number and for a row that is none. Assumes nothing.
 use mathlib.Core.List.{[]}
 use mathlib.Core.Path.{_∙_}
 use Rattle.decimal.specs.Value.{value, isMultiple}
 use Rattle.clause.proofs.Having.{held-number, held-other, held-plain}
 use borrow.Author.Needs.{needs}
-use Rattle.clause.proofs.bounds.multiple.Statement.{statement}
-use Rattle.clause.proofs.bounds.multiple.Tie as tie
+use Rattle.clause.proofs.bounds.multiple_of.Statement.{statement}
+use Rattle.clause.proofs.bounds.multiple_of.Tie as tie
 
 number-in-requires : tie.Need-number-in-requires
 number-in-requires c κs = search needs
@@ -25,7 +25,7 @@ returns c = λ ts. c .multiple-of .ensures ∙ held-number _ _ (c .before .befor
 returns-2 : tie.Need-returns-2
 returns-2 c = λ ts. held-other _ _ (c .before .before .number-in .ensures ts) (λ y. isMultiple y (value (c .before .before .before .before .args .limit))) (c .enum-told .given .1)
 
-pub multiple-spec : {M : Type 1} → statement M
-multiple-spec =
+pub multiple-of-spec : {M : Type 1} → statement M
+multiple-of-spec =
     tie.close
     (tie.spec number-in-requires enum-known-found multiple-of-requires enum-told returns returns-2)
