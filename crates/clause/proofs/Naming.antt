@@ -6,7 +6,7 @@
 --     no-object, lacks, has-all    what `required` says of a row
 -- Assumes nothing.
 use mathlib.Core.Bool.{Bool, true, false}
-use mathlib.Core.List.{List, map}
+use mathlib.Core.List.{List, [], map}
 use mathlib.Core.Path.{_≡_, sym, ap, _∙_}
 use Prim.Native.Nat.{ℕ, _+_, _-_, _≤_, _<_}
 use native.Mathlib.Omega.{arith}
@@ -23,7 +23,8 @@ use Rattle.sheet.proofs.Owners.{under, children-of}
 use Rattle.rulesheet.specs.declared.clause.Entries.{Entries}
 use Rattle.rulesheet.specs.Codes.{entryName}
 use Rattle.rulesheet.specs.Sheet.{entryAt, run}
-use Rattle.rulesheet.specs.Clauses.{entriesOf, entryRange}
+use Rattle.rulesheet.specs.Clauses.{entriesOf, EntryNameRead}
+use Rattle.rulesheet.proofs.Reaching.{item-is}
 use Rattle.meaning.specs.Lists.{any, range}
 use Rattle.meaning.specs.Tests.{members?, given}
 use Rattle.meaning.specs.Rules.{called, present}
@@ -87,15 +88,15 @@ module _ (d : Doc) (j : ℕ) (ws ts : List ℕ) (list : Entries) where
   Required = given (members? (d .value j)) (present d (map (entryName ts) (entriesOf ws list)))
 
   -- by what the search for the name of entry i gave
-  module _ (i : ℕ) (name : Range) (read : name ≡ entryRange (entryAt ws (list .first + i))) (r n : ℕ) (found : r ≡ childNamed d j (part ts name)) (all : n ≡ childCount (d .value j)) where
+  module _ (i : ℕ) (h : i < list .count) (name : Range) (read : EntryNameRead ws list i name) (r n : ℕ) (found : r ≡ childNamed d j (part ts name)) (all : n ≡ childCount (d .value j)) where
     entry-found : r ≡ childNamed d j (entryName ts (entryAt ws (list .first + i)))
-    entry-found = found ∙ ap (λ (x : Range). childNamed d j (part ts x)) read
+    entry-found = found ∙ ap (childNamed d j) (read .name-is ts ∙ item-is ws (entryName ts) (list .count) (list .first) i [] h)
 
     pub entry-lacks : r ≡ n → isNamed d j (entryName ts (entryAt ws (list .first + i))) ≡ false
     entry-lacks e = name-missed d j (entryName ts (entryAt ws (list .first + i))) r entry-found (e ∙ all)
 
     pub entry-has : (r ≡ n → ⊥) → isNamed d j (entryName ts (entryAt ws (list .first + i))) ≡ true
-    entry-has h = name-found d j (entryName ts (entryAt ws (list .first + i))) r entry-found (λ e. h (e ∙ sym all))
+    entry-has apart = name-found d j (entryName ts (entryAt ws (list .first + i))) r entry-found (λ e. apart (e ∙ sym all))
 
   pub no-object : isOf 6 (d .value j) ≡ false → true ≡ Required
   unfolding given

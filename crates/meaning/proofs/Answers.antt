@@ -149,6 +149,7 @@ module _ (ws ts rs us cs ls : List ℕ) where
             rows = well-formed ws ts n good;
             past = past-null;
             some = omega (arith, f .some);
+            few = omega (arith, f .few);
             inside = λ s c t i k. omega (arith, named-inside rs us form (f .rules-laid) s c t i k, schemas-are);
             grounds = f .grounds;
           }

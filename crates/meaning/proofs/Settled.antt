@@ -27,14 +27,14 @@ use Rattle.meaning.proofs.Truth.{applies-fall, applies-inside}
 
 -- ---- the test of the list is membership
 
-same-pair : (p q : Pair) → samePair p q ≡ true → p ≡ q
+pub same-pair : (p q : Pair) → samePair p q ≡ true → p ≡ q
 unfolding samePair
 same-pair p q h =
     let a = eqb-true (p .row) (q .row) (left (eqb (p .row) (q .row)) (eqb (p .rule) (q .rule)) h) in
     let b = eqb-true (p .rule) (q .rule) (right (eqb (p .row) (q .row)) (eqb (p .rule) (q .rule)) h) in
     λ i. record { row = a i; rule = b i }
 
-self : (p : Pair) → samePair p p ≡ true
+pub self : (p : Pair) → samePair p p ≡ true
 unfolding samePair
 self p = rw (eq-eqb (p .row) (p .row) refl, eq-eqb (p .rule) (p .rule) refl)
 
@@ -48,12 +48,12 @@ unfolding listed
 in-listed q (at-head {x = x} e) = rw (← e, self q)
 in-listed q (in-tail i) = rw (in-listed q i, or-true)
 
-not-listed : (q : Pair) (l : List Pair) → listed q l ≡ false → In q l → ⊥
+pub not-listed : (q : Pair) (l : List Pair) → listed q l ≡ false → In q l → ⊥
 not-listed q l e i = true≢false (sym (in-listed q i) ∙ e)
 
 -- ---- a list with one more at its end
 
-last-in : {A : Type 0} (xs : List A) (y : A) → In y (xs ++ y ∷ [])
+pub last-in : {A : Type 0} (xs : List A) (y : A) → In y (xs ++ y ∷ [])
 last-in xs y = Memᴰ·append-right xs (at-head refl)
 
 in-last : {A : Type 0} {x : A} (xs : List A) (y : A) → In x (xs ++ y ∷ []) → In x xs ⊎ (x ≡ y)
@@ -97,7 +97,7 @@ module _ (D : Doc) (R : Ruleset) where
   -- ---- settling, by what the list shows
 
   -- the pair that a test picks
-  by-test : {A : Type 0} (P : A → Type 0) (b : Bool) (x y : A) → (b ≡ true → P x) → (b ≡ false → P y) → P (cond b x y)
+  pub by-test : {A : Type 0} (P : A → Type 0) (b : Bool) (x y : A) → (b ≡ true → P x) → (b ≡ false → P y) → P (cond b x y)
   by-test P true x y f g = f refl
   by-test P false x y f g = g refl
 
@@ -118,7 +118,7 @@ module _ (D : Doc) (R : Ruleset) where
   turn-kept f one [] done q h = h
   turn-kept f one (p ∷ ps) done q h = turn-kept f one ps (settle D R f p done) q (one p done q h)
 
-  kept : (f : ℕ) (p : Pair) (done : List Pair) (q : Pair) → In q done → In q (settle D R f p done)
+  pub kept : (f : ℕ) (p : Pair) (done : List Pair) (q : Pair) → In q done → In q (settle D R f p done)
   unfolding settle
   kept zero p done q h = h
   kept (suc f) p done q h =
@@ -134,7 +134,7 @@ module _ (D : Doc) (R : Ruleset) where
   turn-new f P done every-nil q h = inl h
   turn-new f P done (every-cons {x = p} one ls) q h = ⊎-elim (λ i. one done q i) (λ i. inr i) (turn-new f P (settle D R f p done) ls q h)
 
-  new : (f : ℕ) (p : Pair) (done : List Pair) → New (λ q. Reached D R q p) done (settle D R f p done)
+  pub new : (f : ℕ) (p : Pair) (done : List Pair) → New (λ q. Reached D R q p) done (settle D R f p done)
   unfolding settle
   new zero p done = λ q h. inl h
   new (suc f) p done =
@@ -151,7 +151,7 @@ module _ (D : Doc) (R : Ruleset) where
     abbrev rk : Pair → ℕ
     rk = rank D R
 
-    reached-low : {q p : Pair} → Reached D R q p → rk q ≤ rk p
+    pub reached-low : {q p : Pair} → Reached D R q p → rk q ≤ rk p
     reached-low itself = omega arith
     reached-low (further {p = p} {o = o} i r) = let l : rk o < rk p = in-every (applies-fall D R n m fit p) i in omega (arith, reached-low r)
 
@@ -181,7 +181,7 @@ module _ (D : Doc) (R : Ruleset) where
         (λ e. distinct-last (turn f (applies D R p) done) p (turn-distinct f (distinct f) (applies D R p) done d) (not-yet f p done (not-listed p done e)))
 
     -- with depth enough a pair is listed once it is settled
-    settles : (f : ℕ) (p : Pair) (done : List Pair) → rk p < f → In p (settle D R f p done)
+    pub settles : (f : ℕ) (p : Pair) (done : List Pair) → rk p < f → In p (settle D R f p done)
     settles zero p done h = absurd (not-suc-le-zero h)
     settles (suc f) p done h =
         settle-cases f p done (λ l. In p l) (λ e. listed-in p done e) (λ e. last-in (turn f (applies D R p) done) p)

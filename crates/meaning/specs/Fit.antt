@@ -7,6 +7,7 @@ use Rattle.sheet.specs.Doc.{Doc, null, level}
 use Rattle.sheet.specs.Faults.{level-refused}
 use Rattle.sheet.specs.Accepted.{WellFormed}
 use Rattle.rulesheet.specs.Ruleset.{Clause, Ruleset, named, next}
+use Rattle.rulesheet.specs.Faults.{schemas-max}
 use Rattle.unguarded.specs.Graph.{chain-steps, longest, Grounded}
 use Rattle.meaning.specs.Rules.{Pair}
 
@@ -15,6 +16,7 @@ pub record Fit (D : Doc) (R : Ruleset) (n m : ℕ) : Type 0 where
   pub rows : WellFormed D n
   pub past : (j : ℕ) → n ≤ j → D .value j ≡ null
   pub some : 0 < m
+  pub few : m ≤ schemas-max
   pub inside : (s : ℕ) (c : Clause) (t : ℕ) → In c (R .clauses s) → In t (named c) → t < m
   pub grounds : Grounded (next R)
 

@@ -18,11 +18,12 @@ use Rattle.laws.proofs.Tests.{decide}
 use Rattle.meaning.specs.Lists.{all, any, count, range, elem, keep}
 use Rattle.meaning.specs.Rules.{Pair, Marks, nothing, _∪_, these, Result, unions, verdicts}
 use Rattle.meaning.specs.Settling.{inTurn}
-use Rattle.steps.specs.Folds.{picked, plus, hitsBy, gives, marksBy, doneBy}
+use Rattle.areas.specs.Cells.{plus}
+use Rattle.steps.specs.Folds.{picked, hitsBy, gives, marksBy, doneBy}
 
 -- ---- lists by their end
 
-map-append : {A B : Type 0} (f : A → B) (xs ys : List A) → map f (xs ++ ys) ≡ map f xs ++ map f ys
+pub map-append : {A B : Type 0} (f : A → B) (xs ys : List A) → map f (xs ++ ys) ≡ map f xs ++ map f ys
 map-append f [] ys = refl
 map-append f (x ∷ xs) ys = ap (λ l. f x ∷ l) (map-append f xs ys)
 
@@ -30,7 +31,7 @@ and-assoc : (a b c : Bool) → ((a && b) && c) ≡ (a && (b && c))
 and-assoc true b c = refl
 and-assoc false b c = refl
 
-or-no : (b : Bool) → (b || false) ≡ b
+pub or-no : (b : Bool) → (b || false) ≡ b
 or-no true = refl
 or-no false = refl
 
@@ -110,7 +111,7 @@ run-picked f (suc n) x =
 
 -- ---- settling
 
-turn-append : (f : Pair → List Pair → List Pair) (xs ys d : List Pair) → inTurn f (xs ++ ys) d ≡ inTurn f ys (inTurn f xs d)
+pub turn-append : (f : Pair → List Pair → List Pair) (xs ys d : List Pair) → inTurn f (xs ++ ys) d ≡ inTurn f ys (inTurn f xs d)
 unfolding inTurn
 turn-append f [] ys d = refl
 turn-append f (x ∷ xs) ys d = turn-append f xs ys (f x d)
@@ -129,7 +130,7 @@ done-picked f go aim d (suc i) =
 
 -- ---- verdicts
 
-eq-or : (i k : ℕ) → (i ≡ k) ⊎ (i ≡ k → ⊥)
+pub eq-or : (i k : ℕ) → (i ≡ k) ⊎ (i ≡ k → ⊥)
 eq-or i k = ⊎-elim (λ e. inl (eqb-true i k e)) (λ e. inr (eqb-false i k e)) (decide (eqb i k))
 
 module _ (sub : Pair → Result) (aim : ℕ → Pair) where

@@ -3,7 +3,8 @@
 --     holds-is        its verdict is what the plan says of the hits
 --     marks-is        its marks, with those before it, are those after the steps
 --     go-is           a step that looks at the marks that stand when it is reached sees what it would have seen before the clause
---     aimed           a step that is applied aims at a pair of lower rank among the n × m
+--     go-same, clause-same     only the marks of children matter
+--     aimed           a step that is applied aims at a pair of lower rank among the n × m, of the row itself or of a child
 -- Assumes nothing.
 use mathlib.Core.Bool.{Bool, true, false, not, _||_, cond}
 use mathlib.Core.List.{List, [], _∷_, _++_, map, append-nil, List·Memᴰ as In, List·Memᴰ·head as at-head, Memᴰ·append-left, Memᴰ·append-right}
@@ -27,7 +28,7 @@ use Rattle.meaning.specs.Rules.{one?, none?, joined, namesOf, prefixOf, to, her
 use Rattle.meaning.specs.Fit.{Fit, Inside, rank}
 use Rattle.meaning.proofs.Lists.{in-every}
 use Rattle.meaning.proofs.Judgements.{answer-each, applied-each}
-use Rattle.meaning.proofs.Steps.{Taken, taken-steps, clause-steps, falls, stays-inside}
+use Rattle.meaning.proofs.Steps.{Taken, taken-steps, Step, stays, descends, clause-steps, falls, stays-inside}
 use Rattle.steps.specs.Folds.{picked, hitsBy, marksBy}
 use Rattle.steps.specs.Plan.{memberCount, elementCount, no-member, finishedBy, own, childRow, childNamed, finishOf, prefixed, unnamed, stepsIn, aimIn, goIn, stepsOf, aimOf, goOf}
 use Rattle.steps.proofs.Folds.{picked-same, list-picked, kept-picked, run-picked, count-hits, all-hits, unions-marks, these-marks, marks-later, any-count, not-some}
@@ -73,6 +74,12 @@ elements-range (number z) = refl
 elements-range (string bytes) = refl
 elements-range (array first k) = refl
 elements-range (object first k) = refl
+
+-- a pair that p may apply: one of the n × m, of lower rank, of the row itself or of a child
+pub record Aimed (D : Doc) (R : Ruleset) (n m : ℕ) (p q : Pair) : Type 0 where
+  pub inside : Inside n m q
+  pub lower : rank D R q < rank D R p
+  pub child : (q .row ≡ p .row → ⊥) → Child D (p .row) (q .row)
 
 module _ (D : Doc) (R : Ruleset) (n m : ℕ) (fit : Fit D R n m) (p : Pair) (row-in : p .row < n) where
   members-are : membersOf D (p .row) ≡ range (firstChild (own D p)) (memberCount (own D p))
@@ -123,6 +130,11 @@ module _ (D : Doc) (R : Ruleset) (n m : ℕ) (fit : Fit D R n m) (p : Pair) (row
   -- no child is its own owner
   child-apart : (k : ℕ) → Child D (p .row) k → k ≡ p .row → ⊥
   child-apart k c e = omega (arith, fit .rows .child-after (p .row) k row-in c)
+
+  -- a step that leaves the row leads to a child
+  child-by : (q : Pair) → Step D R p q → (q .row ≡ p .row → ⊥) → Child D (p .row) (q .row)
+  child-by q (stays c i t e) apart = absurd (apart e)
+  child-by q (descends c i t k) apart = k
 
   module _ (before : List Clause) (κ : Marks) where
     -- ---- the pairs picked
@@ -242,11 +254,50 @@ module _ (D : Doc) (R : Ruleset) (n m : ℕ) (fit : Fit D R n m) (p : Pair) (row
         ap not (marks-later sub (λ x. to p (childRow D p x) s) p _ κ (childRow D p i) i
         (λ x g. (child-apart (childRow D p x) (element-in (own D p) refl x (omega arith)), λ e. omega arith)))
 
+    -- a step looks at marks only where it aims at a child
+    pub go-same : (c : Clause) (i : ℕ) (x y : Bool) → i < many c → (Child D (p .row) (aims c i .row) → x ≡ y) → goOf D p before c i x ≡ goOf D p before c i y
+    unfolding stepsOf aimOf goOf stepsIn aimIn goIn to
+    go-same (asserts t) i x y h f = refl
+    go-same (inPlace mode ss) i x y h f = refl
+    go-same (takes (properties es)) i x y h f = refl
+    go-same (takes (additionalProperties s)) i x y h f = refl
+    go-same (takes (prefixItems ss)) i x y h f = refl
+    go-same (takes (items s)) i x y h f = refl
+    go-same (takes (unevaluatedProperties s)) i x y h f = ap not (f (member-in (own D p) refl i h))
+    go-same (takes (unevaluatedItems s)) i x y h f = ap not (f (element-in (own D p) refl i h))
+
     -- ---- where a step leads
 
-    pub aimed : (rule-in : p .rule < m) (c : Clause) (i : ℕ) → In c (R .clauses (p .rule)) → i < many c → goes c i ≡ true
-        → Inside n m (aims c i) × (rank D R (aims c i) < rank D R p)
+    pub aimed : (rule-in : p .rule < m) (c : Clause) (i : ℕ) → In c (R .clauses (p .rule)) → i < many c → goes c i ≡ true → Aimed D R n m p (aims c i)
     aimed rule-in c i has h g =
         let sub : Pair → Result = λ q. record { holds = true; marks = nothing } in
         let step = in-every (clause-steps D R sub p before κ c has) (subst (λ l. In (aims c i) l) (sym (applied-is sub c)) (picked-in (goes c) (aims c) (many c) i h g)) in
-        (stays-inside D R n m fit p (aims c i) (record { row-in = row-in; rule-in = rule-in }) step, falls D R n m fit p (aims c i) step)
+        record {
+          inside = stays-inside D R n m fit p (aims c i) (record { row-in = row-in; rule-in = rule-in }) step;
+          lower = falls D R n m fit p (aims c i) step;
+          child = child-by (aims c i) step;
+        }
+
+  -- ---- the marks that a clause goes by are those of the children
+
+  kept-same : (g h : ℕ → Bool) (k x : ℕ) → ((i : ℕ) → i < k → g (x + i) ≡ h (x + i)) → keep g (range x k) ≡ keep h (range x k)
+  unfolding keep range
+  kept-same g h zero x f = refl
+  kept-same g h (suc k) x f =
+      let z : x + 0 ≡ x = omega arith in
+      rw (rw z at (f 0 (omega arith)), kept-same g h k (suc x) (λ i l. let e : x + suc i ≡ suc x + i = omega arith in rw e at (f (suc i) (omega arith))))
+
+  pub clause-same : (before : List Clause) (κ μ : Marks) (c : Clause) → ((k : ℕ) → Child D (p .row) k → κ k ≡ μ k) → clause D p before κ c ≡ clause D p before μ c
+  unfolding clause taken
+  clause-same before κ μ (asserts t) f = refl
+  clause-same before κ μ (inPlace mode ss) f = refl
+  clause-same before κ μ (takes (properties es)) f = refl
+  clause-same before κ μ (takes (additionalProperties s)) f = refl
+  clause-same before κ μ (takes (prefixItems ss)) f = refl
+  clause-same before κ μ (takes (items s)) f = refl
+  clause-same before κ μ (takes (unevaluatedProperties s)) f =
+      ap (λ (ks : List ℕ). each (under p s ks) (λ rs. found (record { holds = all (verdicts rs); marks = these (map (λ (q : Pair). q .row) (under p s ks)) })))
+      (rw members-are (kept-same (λ k. not (κ k)) (λ k. not (μ k)) (memberCount (own D p)) (firstChild (own D p)) (λ i h. ap not (f (childRow D p i) (member-in (own D p) refl i h)))))
+  clause-same before κ μ (takes (unevaluatedItems s)) f =
+      ap (λ (ks : List ℕ). each (under p s ks) (λ rs. found (record { holds = all (verdicts rs); marks = these (map (λ (q : Pair). q .row) (under p s ks)) })))
+      (rw elements-are (kept-same (λ k. not (κ k)) (λ k. not (μ k)) (elementCount (own D p)) (firstChild (own D p)) (λ i h. ap not (f (childRow D p i) (element-in (own D p) refl i h)))))

@@ -1,19 +1,16 @@
 -- A clause as a loop over its steps takes it: step i aims at a pair, and applies it or not. What the first n steps come to.
 -- Assumes nothing.
-use Prim.Native.Nat.{ℕ, zero, suc, _+_}
+use Prim.Native.Nat.{ℕ, zero, suc}
 use mathlib.Core.Bool.{Bool, not, _&&_, _||_, cond}
 use mathlib.Core.List.{List, [], _∷_, _++_}
 use lib.Dec.{eqb}
 use Rattle.meaning.specs.Rules.{Pair, Marks, Result}
+use Rattle.areas.specs.Cells.{plus}
 
 -- the pairs that they apply, in order
 unfoldable pub picked : (ℕ → Bool) → (ℕ → Pair) → ℕ → List Pair
 picked go aim zero = []
 picked go aim (suc i) = picked go aim i ++ cond (go i) (aim i ∷ []) []
-
--- one more if the test holds
-unfoldable pub plus : ℕ → Bool → ℕ
-plus n b = cond b (n + 1) n
 
 -- of how many of them the pair holds or nothing is applied
 unfoldable pub hitsBy : (Pair → Result) → (ℕ → Bool) → (ℕ → Pair) → ℕ → ℕ

@@ -1,3 +1,4 @@
 -- In reading order.
 pub mod Folds
 pub mod Plan
+pub mod Read

@@ -1,13 +1,12 @@
 -- `required` meets its contract: each name passed is the name of a child. Assumes nothing.
 use mathlib.Core.Bool.{true}
-use mathlib.Core.Path.{_≡_, sym, _∙_}
+use mathlib.Core.Path.{_≡_, refl, sym, _∙_}
 use Prim.Native.Nat.{ℕ, _+_, _-_, _≤_, _<_}
 use native.Mathlib.Omega.{arith}
 use borrow.Author.Count.{below-none, below-more}
 use borrow.Author.Needs.{needs}
 use borrow.Author.Tests.{not-true, not-false}
-use Rattle.laws.proofs.Tests.{left}
-use lib.Dec.{eqb}
+use Rattle.rulesheet.specs.declared.code.Fields.the-variants.{Names}
 use Rattle.sheet.specs.Record.{docOf}
 use Rattle.rulesheet.specs.Codes.{entryName}
 use Rattle.rulesheet.specs.Sheet.{entryAt}
@@ -44,12 +43,12 @@ entry-name-requires c κs = (c .before .before .before .before .before .before .
 child-named-requires : tie.Need-child-named-requires Inv-loop μ-loop
 child-named-requires c κs =
     let start = c .before .before .before .before .before .before .before .before .before .before in
-    ((start .pre .0 .0, start .pre .0 .1), rw (c .entry-name .ensures, start .pre .1 .0 .text-length) (left _ (eqb ((entryAt (start .args .rules .now) ((start .args .list) .first + c .before .before .loop .i)) .third) 0) (start .pre .1 .1 .listed _ (omega arith))))
+    ((start .pre .0 .0, start .pre .0 .1), rw (start .pre .1 .0 .text-length) (c .entry-name .ensures .name-fits Names refl (start .pre .1 .1 .listed)))
 
 returns-2 : tie.Need-returns-2 Inv-loop μ-loop
 returns-2 c =
     let start = c .before .before .before .before .before .before .before .before .before .before .before .before in
-    lacks (docOf (start .args .«record» .now) (start .args .text .now)) (start .args .row .0) (start .args .rules .now) (start .args .rule-text .now) (start .args .list) (sym (c .before .before .before .before .before .before .before .is-kind .ensures (start .args .text .now)) ∙ not-false _ (c .before .before .before .before .before .before .if1 .left)) (c .before .before .before .before .loop .i) (omega arith) (entry-lacks (docOf (start .args .«record» .now) (start .args .text .now)) (start .args .row .0) (start .args .rules .now) (start .args .rule-text .now) (start .args .list) (c .before .before .before .before .loop .i) _ (c .before .before .entry-name .ensures) _ _ (c .before .child-named .ensures) (c .before .before .before .before .before .children-of .ensures .count-is (start .args .text .now)) (c .if2 .taken))
+    lacks (docOf (start .args .«record» .now) (start .args .text .now)) (start .args .row .0) (start .args .rules .now) (start .args .rule-text .now) (start .args .list) (sym (c .before .before .before .before .before .before .before .is-kind .ensures (start .args .text .now)) ∙ not-false _ (c .before .before .before .before .before .before .if1 .left)) (c .before .before .before .before .loop .i) (omega arith) (entry-lacks (docOf (start .args .«record» .now) (start .args .text .now)) (start .args .row .0) (start .args .rules .now) (start .args .rule-text .now) (start .args .list) (c .before .before .before .before .loop .i) (omega arith) _ (c .before .before .entry-name .ensures) _ _ (c .before .child-named .ensures) (c .before .before .before .before .before .children-of .ensures .count-is (start .args .text .now)) (c .if2 .taken))
 
 add-i : tie.Need-add-i Inv-loop μ-loop
 add-i c = omega (arith, list-few (c .before .before .before .before .before .before .before .before .before .before .before .before .pre .1 .0) (c .before .before .before .before .before .before .before .before .before .before .before .before .pre .1 .1))
@@ -60,7 +59,7 @@ loop-less c = search needs
 loop-again : tie.Need-loop-again Inv-loop μ-loop
 loop-again c =
     let start = c .before .before .before .before .before .before .before .before .before .before .before .before in
-    (omega arith, below-more (λ (k : ℕ). isNamed (docOf (start .args .«record» .now) (start .args .text .now)) (start .args .row .0) (entryName (start .args .rule-text .now) (entryAt (start .args .rules .now) ((start .args .list) .first + k))) ≡ true) (c .before .before .before .before .loop .i) (c .before .before .before .before .loop .inv .1) (entry-has (docOf (start .args .«record» .now) (start .args .text .now)) (start .args .row .0) (start .args .rules .now) (start .args .rule-text .now) (start .args .list) (c .before .before .before .before .loop .i) _ (c .before .before .entry-name .ensures) _ _ (c .before .child-named .ensures) (c .before .before .before .before .before .children-of .ensures .count-is (start .args .text .now)) (c .if2 .left)))
+    (omega arith, below-more (λ (k : ℕ). isNamed (docOf (start .args .«record» .now) (start .args .text .now)) (start .args .row .0) (entryName (start .args .rule-text .now) (entryAt (start .args .rules .now) ((start .args .list) .first + k))) ≡ true) (c .before .before .before .before .loop .i) (c .before .before .before .before .loop .inv .1) (entry-has (docOf (start .args .«record» .now) (start .args .text .now)) (start .args .row .0) (start .args .rules .now) (start .args .rule-text .now) (start .args .list) (c .before .before .before .before .loop .i) (omega arith) _ (c .before .before .entry-name .ensures) _ _ (c .before .child-named .ensures) (c .before .before .before .before .before .children-of .ensures .count-is (start .args .text .now)) (c .if2 .left)))
 
 returns-3 : tie.Need-returns-3 Inv-loop μ-loop
 returns-3 c =

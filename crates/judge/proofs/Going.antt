@@ -1,0 +1,352 @@
+-- A pair in progress: the steps of a clause.
+--     Going                       a pair in progress: its marks, and the pairs settled
+--     going-clause, going-pair    it begins
+--     going-ready, going-aimed    what judging one of its clauses, or a pair that it applies, asks
+--     going-apply, going-mark     a pair that it applies was judged; its marks were written
+--     going-writes, going-open    what writing its marks, and settling it, asks
+--     Stepped, stepped-none, stepped-go, stepped-skip, stepped-went, stepped-passes, stepped-end     the loop over the steps of a clause
+-- Assumes nothing.
+use mathlib.Core.Bool.{Bool, true, false, _&&_, _||_, cond}
+use mathlib.Core.List.{List, [], _∷_, _++_, List·Memᴰ as Has}
+use mathlib.Core.Logic.{⊎-elim}
+use mathlib.Core.Path.{_≡_, refl, sym, ap, _∙_, subst}
+use Prim.Native.Nat.{ℕ, zero, suc, _+_, _*_, _<_, _≤_}
+use native.Mathlib.Nat.{le-refl, mul-le-mul-right, mul-comm}
+use native.Mathlib.Numerals.{add-one}
+use native.Mathlib.Omega.{arith}
+use lib.Dec.{eqb}
+use lib.ListN.{length, getD}
+use borrow.Author.Tests.{eqb-true}
+use Rattle.laws.proofs.Tests.{decide}
+use Rattle.rulesheet.specs.Ruleset.{Clause}
+use Rattle.meaning.specs.Rules.{Pair, Marks, nothing, _∪_, Result, answer, applied, clause}
+use Rattle.meaning.specs.Settling.{samePair, listed, inTurn}
+use Rattle.meaning.proofs.Settled.{same-pair}
+use Rattle.areas.specs.Cells.{cellOf, verd, bit, mark, column, plus}
+use Rattle.areas.specs.Writers.{Open, Writes, Marked, passed, Passes}
+use Rattle.areas.proofs.Cells.{row-fits, settled-room}
+use Rattle.steps.specs.Folds.{hitsBy, gives, marksBy, doneBy}
+use Rattle.steps.specs.Plan.{stepsOf, aimOf, goOf, finishOf}
+use Rattle.steps.proofs.Folds.{or-no, hits-le, done-picked}
+use Rattle.steps.proofs.Plans.{Aimed, applied-is, holds-is, marks-is, go-is, go-same, aimed}
+use Rattle.judge.specs.declared.cycle.Done.{Done}
+use Rattle.judge.specs.State.{Case, Fits, In, Kid, firstKid, kidCount, rankOf, truthOf, settleOf, clausesOf, clauseAt, beforeOf, cellAt, bitsOf, overlay, doneOf, Areas, Quiet, Ready, Unsettled, Judged, ClauseJudged}
+use Rattle.judge.proofs.Pairs.{settle-self, settle-still, settle-new, settle-grows}
+use Rattle.judge.proofs.State.{cond-else, not-same, overlay-self, overlay-other, areas-done, areas-bits, areas-marks, areas-self, areas-free, areas-unsettled, areas-cell, areas-then, areas-mark}
+
+-- p is in progress: its marks are κ, and `done` are settled. No pair below p that is not settled has marks
+pub record Going (T : Case) (p : Pair) (held : Pair → Marks) (l₀ : List ℕ) (done : List Pair) (κ : Marks) (cells list : List ℕ) (count : ℕ) : Type 0 where
+  pub fit : Fits T
+  pub inside : In T p
+  pub areas : Areas T done (overlay p κ held) l₀ cells list count
+  pub free : listed p done ≡ false
+  pub quiet : Quiet T (rankOf T p) done held
+
+lower-other : (T : Case) (p q : Pair) → rankOf T q < rankOf T p → samePair q p ≡ false
+lower-other T p q h = not-same p q (λ e. let z : rankOf T q ≡ rankOf T p = ap (rankOf T) e in omega arith)
+
+abbrev pub Aim : Case → Pair → Pair → Type 0
+Aim T p q = Aimed (T .doc) (T .rules) (T .n) (T .m) p q
+
+-- ---- a pair comes into progress, and another is judged
+
+pub going-clause : {T : Case} {p : Pair} {c l : List ℕ} {n : ℕ} → Ready T (rankOf T p) p c l n → Unsettled (T .m) p c
+    → Going T p (bitsOf (T .m) c) l (doneOf (T .m) l n) (bitsOf (T .m) c p) c l n
+unfolding Unsettled
+going-clause {T} {p} {c} {l} {n} a u =
+    record {
+      fit = a .fit;
+      inside = a .inside;
+      areas =
+          areas-then (a .areas) (a .areas) (le-refl _)
+          (λ q k i ch e.
+          ⊎-elim
+          (λ d. subst (λ (x : Pair). bitsOf (T .m) c x k ≡ overlay p (bitsOf (T .m) c p) (bitsOf (T .m) c) x k) (sym (same-pair q p d)) (sym (overlay-self p (bitsOf (T .m) c p) (bitsOf (T .m) c) k)))
+          (λ d. sym (overlay-other p q (bitsOf (T .m) c p) (bitsOf (T .m) c) k d))
+          (decide (samePair q p)));
+      free = areas-free (a .areas) p (a .inside) u;
+      quiet = a .quiet;
+    }
+
+pub going-pair : {T : Case} {p : Pair} {c l : List ℕ} {n : ℕ} → Ready T (rankOf T p + 1) p c l n → Unsettled (T .m) p c
+    → Going T p (bitsOf (T .m) c) l (doneOf (T .m) l n) nothing c l n
+unfolding Unsettled Quiet nothing
+going-pair {T} {p} {c} {l} {n} a u =
+    let f = areas-free (a .areas) p (a .inside) u in
+    record {
+      fit = a .fit;
+      inside = a .inside;
+      areas =
+          areas-then (a .areas) (a .areas) (le-refl _)
+          (λ q k i ch e.
+          ⊎-elim
+          (λ d. subst (λ (x : Pair). In T x → Kid T (x .row) k → bitsOf (T .m) c x k ≡ overlay p nothing (bitsOf (T .m) c) x k) (sym (same-pair q p d)) (λ i′ ch′. a .quiet p k i′ (omega arith) f ch′ ∙ sym (overlay-self p nothing (bitsOf (T .m) c) k)) i ch)
+          (λ d. sym (overlay-other p q nothing (bitsOf (T .m) c) k d))
+          (decide (samePair q p)));
+      free = f;
+      quiet = λ q k i h e ch. a .quiet q k i (omega arith) e ch;
+    }
+
+-- a cell's number fits a word
+narrow : (n m k : ℕ) → n ≤ 1024 → m ≤ 1024 → k < n * m → k < 4294967296
+narrow n m k a b h =
+    let x : n * m ≤ 1024 * m = mul-le-mul-right m a in
+    let y : m * 1024 ≤ 1024 * 1024 = mul-le-mul-right 1024 b in
+    let z : m * 1024 ≡ 1024 * m = mul-comm m 1024 in
+    omega arith
+
+module _ {T : Case} {p : Pair} {held : Pair → Marks} {l₀ : List ℕ} {done : List Pair} {κ : Marks} {c l : List ℕ} {n : ℕ} (G : Going T p held l₀ done κ c l n) where
+  pub going-bits : (k : ℕ) → Kid T (p .row) k → bitsOf (T .m) c p k ≡ κ k
+  going-bits k ch = areas-bits (G .areas) p k (G .inside) ch (G .free) ∙ overlay-self p κ held k
+
+  going-quiet : Quiet T (rankOf T p) (doneOf (T .m) l n) (bitsOf (T .m) c)
+  unfolding Quiet
+  going-quiet q k i h e ch =
+      let f : listed q done ≡ false = rw (areas-done (G .areas)) at e in
+      areas-bits (G .areas) q k i ch f ∙ overlay-other p q κ held k (lower-other T p q h) ∙ G .quiet q k i h f ch
+
+  pub going-unsettled : Unsettled (T .m) p c
+  going-unsettled = areas-unsettled (G .areas) p (G .inside) (G .free)
+
+  pub going-ready : Ready T (rankOf T p) p c l n
+  going-ready = record { fit = G .fit; inside = G .inside; areas = areas-self (G .areas); quiet = going-quiet }
+
+  pub going-aimed : {q : Pair} → Aim T p q → Ready T (rankOf T q + 1) q c l n
+  unfolding Quiet
+  going-aimed z =
+      record {
+        fit = G .fit;
+        inside = z .inside;
+        areas = areas-self (G .areas);
+        quiet = λ q k i h e ch. let g = z .lower in going-quiet q k i (omega arith) e ch;
+      }
+
+  pub going-cell : (q : Pair) → In T q → cellAt (T .m) q < length c
+  going-cell q i = areas-cell (G .areas) q i
+
+  -- a pair that p applies was judged
+  pub going-apply : {q : Pair} {c′ l′ : List ℕ} {r : Done} → Aim T p q → Judged T q c l n c′ l′ r → Going T p held l₀ (settleOf T q done) κ c′ l′ (r .count)
+  unfolding Quiet
+  going-apply {q} {c′} {l′} {r} z j =
+      record {
+        fit = G .fit;
+        inside = G .inside;
+        areas =
+            areas-then (G .areas) (rw (areas-done (G .areas)) at (j .areas)) (settle-grows T q done)
+            (λ x k i ch e. areas-bits (G .areas) x k i ch (settle-new T (G .fit) q x done e));
+        free = settle-still T (G .fit) p q done (z .lower) (G .free);
+        quiet = λ x k i h e ch. G .quiet x k i h (settle-new T (G .fit) q x done e) ch;
+      }
+
+  -- marks of p were written
+  pub going-mark : {c′ : List ℕ} {to : Marks} (κ′ : Marks) → Marked (T .m) (firstKid T p) (kidCount T p) (p .rule) to c c′
+      → ((k : ℕ) → Kid T (p .row) k → to k ≡ κ′ k) → Going T p held l₀ done κ′ c′ l n
+  going-mark κ′ M f =
+      record {
+        fit = G .fit;
+        inside = G .inside;
+        areas = areas-mark held κ κ′ (G .fit) (G .inside) (G .areas) (G .free) M f;
+        free = G .free;
+        quiet = G .quiet;
+      }
+
+  -- other words for them
+  pub going-as : (κ′ : Marks) → ((k : ℕ) → Kid T (p .row) k → κ k ≡ κ′ k) → Going T p held l₀ done κ′ c l n
+  going-as κ′ f =
+      record {
+        fit = G .fit;
+        inside = G .inside;
+        areas =
+            let A = G .areas in
+            record {
+              long = A .long;
+              room = A .room;
+              small = A .small;
+              said = A .said;
+              shown =
+                  λ q k i ch.
+                  A .shown q k i ch
+                  ∙ cond-else (listed q done) _ (overlay p κ held q k) (overlay p κ′ held q k)
+                  (λ e.
+                  ⊎-elim
+                  (λ d. subst (λ (x : Pair). Kid T (x .row) k → overlay p κ held x k ≡ overlay p κ′ held x k) (sym (same-pair q p d)) (λ ch′. overlay-self p κ held k ∙ f k ch′ ∙ sym (overlay-self p κ′ held k)) ch)
+                  (λ d. overlay-other p q κ held k d ∙ sym (overlay-other p q κ′ held k d))
+                  (decide (samePair q p)));
+              top = A .top;
+              tidy = A .tidy;
+              lists = A .lists;
+              counts = A .counts;
+              counted = A .counted;
+            };
+        free = G .free;
+        quiet = G .quiet;
+      }
+
+  -- what writing the marks of p asks
+  pub going-writes : (from : ℕ) → from < T .m → Writes (T .m) (firstKid T p) (kidCount T p) (p .rule) from c
+  going-writes from h =
+      record {
+        rule-in = G .inside .rule-in;
+        from-in = h;
+        rows-in =
+            λ k a b.
+            let z = G .fit .rows .child-inside (p .row) k (G .inside .row-in) (record { after = a; within = b }) in
+            let w = row-fits (T .n) (T .m) k z in
+            let e = G .areas .long in
+            omega arith;
+      }
+
+  -- what settling p asks
+  pub going-open : {i : ℕ} → i ≡ cellAt (T .m) p → Open c l n i
+  unfolding Unsettled
+  going-open {i} e =
+      let A = G .areas in
+      let h = areas-cell A p (G .inside) in
+      let u : verd (getD c i 0) ≡ 0 = ap (λ (x : ℕ). verd (getD c x 0)) e ∙ going-unsettled in
+      let s = settled-room c i (omega arith) u in
+      let q = A .counted in
+      let r = A .room in
+      let w = A .long in
+      record {
+        in-cells = omega arith;
+        unsettled = u;
+        in-list = omega arith;
+        narrow = narrow (T .n) (T .m) i (G .fit .rows .few) (G .fit .few) (omega arith);
+      }
+
+-- ---- the steps of a clause
+
+module _ (T : Case) (p : Pair) (cl : ℕ) where
+  abbrev pub aims : ℕ → Pair
+  aims i = aimOf (T .doc) p (beforeOf T p cl) (clauseAt T p cl) i
+
+  abbrev pub goes : Marks → ℕ → Bool
+  goes κ i = goOf (T .doc) p (beforeOf T p cl) (clauseAt T p cl) i (κ (aims i .row))
+
+  abbrev pub many : ℕ
+  many = stepsOf (T .doc) p (beforeOf T p cl) (clauseAt T p cl)
+
+-- i steps of the clause were taken
+pub record Stepped (T : Case) (p : Pair) (cl : ℕ) (c₀ l₀ : List ℕ) (n₀ i : ℕ) (cells list : List ℕ) (count hits : ℕ) : Type 0 where
+  pub going :
+      Going T p (bitsOf (T .m) c₀) l₀ (doneBy (settleOf T) (goes T p cl (bitsOf (T .m) c₀ p)) (aims T p cl) (doneOf (T .m) l₀ n₀) i)
+      (marksBy (truthOf T) p (goes T p cl (bitsOf (T .m) c₀ p)) (aims T p cl) (bitsOf (T .m) c₀ p) i) cells list count
+  pub hit : hits ≡ hitsBy (truthOf T) (goes T p cl (bitsOf (T .m) c₀ p)) (aims T p cl) i
+
+pub stepped-none : {T : Case} {p : Pair} {cl : ℕ} {c l : List ℕ} {n : ℕ} → Ready T (rankOf T p) p c l n → Unsettled (T .m) p c → Stepped T p cl c l n 0 c l n 0
+unfolding doneBy marksBy hitsBy
+stepped-none a u = record { going = going-clause a u; hit = refl }
+
+pub open-bits : (T : Case) (c : List ℕ) (p : Pair) (k : ℕ) {b : Bool} → bitsOf (T .m) c p k ≡ b → column (T .m) c (p .rule) k ≡ b
+unfolding bitsOf
+open-bits T c p k e = e
+
+-- the marks that a pair passes on are those that it gives
+passed-gives : {T : Case} {p q : Pair} {held : Pair → Marks} {l₀ : List ℕ} {done : List Pair} {κ : Marks} {c l : List ℕ} {n : ℕ}
+    → Going T p held l₀ done κ c l n → In T q → listed q done ≡ true → (k : ℕ) → Kid T (p .row) k
+    → passed (T .m) c (p .row) (p .rule) (q .row) (q .rule) k ≡ (κ k || gives (truthOf T) p q k)
+unfolding passed gives
+passed-gives {T} {p} {q} {κ = κ} {c} G i e k ch = rw own-bits (ap (λ (b : Bool). κ k || b) (second (eqb (q .row) (p .row)) refl))
+  where
+    own-bits : column (T .m) c (p .rule) k ≡ κ k
+    own-bits = open-bits T c p k (going-bits G k ch)
+
+    second : (b : Bool) → eqb (q .row) (p .row) ≡ b → cond b (column (T .m) c (q .rule) k) (eqb k (q .row)) ≡ cond b ((truthOf T q) .marks k) (eqb k (q .row))
+    second true d = open-bits T c q k (areas-marks (G .areas) q k i (subst (λ (x : ℕ). Kid T x k) (sym (eqb-true (q .row) (p .row) d)) ch) e)
+    second false d = refl
+
+module _ {T : Case} {p : Pair} {cl : ℕ} {c₀ l₀ : List ℕ} {n₀ i : ℕ} {c l : List ℕ} {n hits : ℕ} (S : Stepped T p cl c₀ l₀ n₀ i c l n hits) where
+  abbrev κ₀ : Marks
+  κ₀ = bitsOf (T .m) c₀ p
+
+  pub stepped-le : hits ≤ i
+  stepped-le = let a = hits-le (truthOf T) (aims T p cl) (goes T p cl κ₀) i in let b = S .hit in omega arith
+
+  -- a step that looks at the cells sees what it would have seen before the clause
+  pub stepped-go : {g : Bool} → i < many T p cl
+      → g ≡ goOf (T .doc) p (beforeOf T p cl) (clauseAt T p cl) i (column (T .m) c (p .rule) (aims T p cl i .row)) → g ≡ goes T p cl κ₀ i
+  stepped-go h w =
+      let G = S .going in
+      w
+      ∙ go-same (T .doc) (T .rules) (T .n) (T .m) (G .fit) p (G .inside .row-in) (beforeOf T p cl) κ₀ (clauseAt T p cl) i _ _ h
+      (λ ch. open-bits T c p (aims T p cl i .row) (going-bits G (aims T p cl i .row) ch))
+      ∙ go-is (T .doc) (T .rules) (T .n) (T .m) (G .fit) p (G .inside .row-in) (beforeOf T p cl) κ₀ (truthOf T) (clauseAt T p cl) i h
+
+  -- where a step that is applied leads
+  pub stepped-aim : {g : Bool} → i < many T p cl → Has (clauseAt T p cl) (clausesOf T p) → g ≡ goes T p cl κ₀ i → g ≡ true → Aim T p (aims T p cl i)
+  stepped-aim h has w e =
+      let G = S .going in
+      aimed (T .doc) (T .rules) (T .n) (T .m) (G .fit) p (G .inside .row-in) (beforeOf T p cl) κ₀ (G .inside .rule-in) (clauseAt T p cl) i has h (sym w ∙ e)
+
+  -- a step that applies nothing
+  pub stepped-skip : {g : Bool} {h : ℕ} → g ≡ false → g ≡ goes T p cl κ₀ i → h ≡ hits + 1 → Stepped T p cl c₀ l₀ n₀ (i + 1) c l n h
+  unfolding doneBy marksBy hitsBy plus
+  stepped-skip {g} {h} e d q =
+      let z : goes T p cl κ₀ i ≡ false = sym d ∙ e in
+      rw (add-one i)
+      (record {
+        going =
+            rw z
+            (going-as (S .going)
+            (λ k. marksBy (truthOf T) p (goes T p cl κ₀) (aims T p cl) κ₀ i k || (goes T p cl κ₀ i && gives (truthOf T) p (aims T p cl i) k))
+            (λ k ch. sym (rw z (or-no _))));
+        hit = q ∙ rw z (ap (λ (y : ℕ). y + 1) (S .hit));
+      })
+
+  -- a step that applies a pair
+  pub stepped-went : {g : Bool} {h : ℕ} {q : Pair} {c₁ c₂ l₁ : List ℕ} {r : Done} → g ≡ true → g ≡ goes T p cl κ₀ i → q ≡ aims T p cl i
+      → Aim T p q → Judged T q c l n c₁ l₁ r
+      → Marked (T .m) (firstKid T p) (kidCount T p) (p .rule) (passed (T .m) c₁ (p .row) (p .rule) (q .row) (q .rule)) c₁ c₂
+      → h ≡ plus hits (r .ok)
+      → Stepped T p cl c₀ l₀ n₀ (i + 1) c₂ l₁ (r .count) h
+  unfolding doneBy marksBy hitsBy
+  stepped-went {g} {h} {q} {c₁} {c₂} {l₁} {r} e d same z j M u =
+      let w : goes T p cl κ₀ i ≡ true = sym d ∙ e in
+      let κ = marksBy (truthOf T) p (goes T p cl κ₀) (aims T p cl) κ₀ i in
+      let G = going-apply (S .going) z j in
+      let D = doneBy (settleOf T) (goes T p cl κ₀) (aims T p cl) (doneOf (T .m) l₀ n₀) i in
+      let H = going-mark G (λ k. κ k || (goes T p cl κ₀ i && gives (truthOf T) p (aims T p cl i) k)) M
+      (λ k ch.
+      passed-gives G (z .inside) (settle-self T (S .going .fit) q D) k ch ∙ ap (λ (x : Pair). κ k || gives (truthOf T) p x k) same ∙ sym (rw w)) in
+      let f : settleOf T q D ≡ cond (goes T p cl κ₀ i) (settleOf T (aims T p cl i) D) D = ap (λ (x : Pair). settleOf T x D) same ∙ sym (rw w) in
+      rw (add-one i)
+      (record {
+        going = subst (λ (x : List Pair). Going T p (bitsOf (T .m) c₀) l₀ x (λ k. κ k || (goes T p cl κ₀ i && gives (truthOf T) p (aims T p cl i) k)) c₂ l₁ (r .count)) f H;
+        hit = u ∙ rw w (rw (S .hit) (ap (λ (y : Bool). plus (hitsBy (truthOf T) (goes T p cl κ₀) (aims T p cl) i) y) (j .said ∙ ap (λ (x : Pair). (truthOf T x) .holds) same)));
+      })
+
+-- what passing on asks
+pub stepped-passes : {T : Case} {p q : Pair} {held : Pair → Marks} {l₀ : List ℕ} {done : List Pair} {κ : Marks} {c l : List ℕ} {n : ℕ}
+    → Going T p held l₀ done κ c l n → Aim T p q → Passes (T .m) (firstKid T p) (kidCount T p) (p .row) (p .rule) (q .row) (q .rule) c
+stepped-passes {T} {p} {q} G z =
+    record {
+      writes = going-writes G (q .rule) (z .inside .rule-in);
+      child = λ f. let k = z .child f in (k .after, k .within);
+    }
+
+-- all steps were taken
+pub stepped-end : {T : Case} {p : Pair} {cl : ℕ} {c₀ l₀ : List ℕ} {n₀ i : ℕ} {c l : List ℕ} {n hits end : ℕ} {r : Done}
+    → Stepped T p cl c₀ l₀ n₀ i c l n hits → end ≡ many T p cl → i ≤ end → end ≤ i
+    → r .ok ≡ finishOf (T .doc) p (clauseAt T p cl) hits end → r .count ≡ n → ClauseJudged T p cl c₀ l₀ n₀ c l r
+unfolding _∪_
+stepped-end {T} {p} {cl} {c₀} {l₀} {n₀} {i} {end = end} S e a b f q =
+    let G = S .going in
+    let κ = bitsOf (T .m) c₀ p in
+    let bf = beforeOf T p cl in
+    let cls = clauseAt T p cl in
+    let u : i ≡ many T p cl = omega arith in
+    let H = going-as G (λ k. κ k || (answer (truthOf T) (clause (T .doc) p bf κ cls)) .marks k)
+    (λ k ch. rw u (sym (marks-is (T .doc) (T .rules) (T .n) (T .m) (G .fit) p (G .inside .row-in) bf κ (truthOf T) cls k))) in
+    let d : doneBy (settleOf T) (goes T p cl κ) (aims T p cl) (doneOf (T .m) l₀ n₀) i ≡ inTurn (settleOf T) (applied (truthOf T) (clause (T .doc) p bf κ cls)) (doneOf (T .m) l₀ n₀) =
+    rw u
+    (sym (ap (λ x. inTurn (settleOf T) x (doneOf (T .m) l₀ n₀)) (applied-is (T .doc) (T .rules) (T .n) (T .m) (G .fit) p (G .inside .row-in) bf κ (truthOf T) cls)
+    ∙ done-picked (settleOf T) (goes T p cl κ) (aims T p cl) (doneOf (T .m) l₀ n₀) (many T p cl))) in
+    record {
+      areas = rw (← d, q) (H .areas);
+      said = f ∙ rw (S .hit, u, e) (sym (holds-is (T .doc) (T .rules) (T .n) (T .m) (G .fit) p (G .inside .row-in) bf κ (truthOf T) cls));
+      free = going-unsettled G;
+    }
+
+pub stepped-to : {T : Case} {p : Pair} {cl : ℕ} {c₀ l₀ : List ℕ} {n₀ i : ℕ} {c l c′ l′ : List ℕ} {n n′ hits hits′ : ℕ}
+    → Stepped T p cl c₀ l₀ n₀ i c l n hits → c′ ≡ c → l′ ≡ l → hits′ ≡ hits → n′ ≡ n → Stepped T p cl c₀ l₀ n₀ i c′ l′ n′ hits′
+stepped-to s e d q f = rw (e, d, q, f) s

@@ -1,0 +1,4 @@
+pub mod State
+pub mod Pairs
+pub mod Going
+pub mod Claused

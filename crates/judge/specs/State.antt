@@ -1,0 +1,132 @@
+-- What the areas show while a record is judged, and what the judging functions ask and leave.
+-- Assumes nothing.
+use Prim.Native.Nat.{ℕ, _+_, _*_, _/_, _%_, _<_}
+use mathlib.Core.Bool.{Bool, true, false, cond}
+use mathlib.Core.List.{List, [], _∷_, _++_, map, List·Memᴰ as Has}
+use mathlib.Core.Path.{_≡_}
+use lib.ListN.{length, getD, take, drop}
+use Rattle.sheet.specs.Doc.{Doc, firstChild, childCount, Child}
+use Rattle.sheet.specs.Record.{rowsWord, docOf}
+use Rattle.rulesheet.specs.Ruleset.{never, Clause, asserts, Ruleset}
+use Rattle.rulesheet.specs.Sheet.{schemasWord, rulesOf}
+use Rattle.meaning.specs.Rules.{Pair, Marks, _∪_, Result, answer, applied, clause, depth, truth}
+use Rattle.meaning.specs.Settling.{samePair, listed, inTurn, settle}
+use Rattle.meaning.specs.Fit.{Fit, Inside, rank}
+use Rattle.areas.specs.Cells.{cellOf, verd, bit, mark, column, settledOf}
+use Rattle.judge.specs.declared.cycle.Done.{Done}
+
+-- what is judged: a record and rules, and how many rows each has
+pub record Case : Type 0 where
+  pub doc : Doc
+  pub rules : Ruleset
+  pub n : ℕ
+  pub m : ℕ
+
+-- that of two sheets
+abbrev pub caseOf : (ws ts rs us : List ℕ) → Case
+caseOf ws ts rs us = record { doc = docOf ws ts; rules = rulesOf rs us; n = rowsWord ws; m = schemasWord rs }
+
+abbrev pub Fits : Case → Type 0
+Fits T = Fit (T .doc) (T .rules) (T .n) (T .m)
+
+abbrev pub In : Case → Pair → Type 0
+In T p = Inside (T .n) (T .m) p
+
+-- k is a child of row j
+abbrev pub Kid : Case → ℕ → ℕ → Type 0
+Kid T j k = Child (T .doc) j k
+
+-- the children of p's row
+abbrev pub firstKid : Case → Pair → ℕ
+firstKid T p = firstChild (T .doc .value (p .row))
+
+abbrev pub kidCount : Case → Pair → ℕ
+kidCount T p = childCount (T .doc .value (p .row))
+
+abbrev pub rankOf : Case → Pair → ℕ
+rankOf T p = rank (T .doc) (T .rules) p
+
+abbrev pub truthOf : Case → Pair → Result
+truthOf T p = truth (T .doc) (T .rules) p
+
+-- the pairs settled once p is applied, where `done` were before
+unfoldable pub settleOf : Case → Pair → List Pair → List Pair
+settleOf T p done = settle (T .doc) (T .rules) depth p done
+
+-- the clauses of p's schema: all, number i, and those before it
+abbrev pub clausesOf : Case → Pair → List Clause
+clausesOf T p = T .rules .clauses (p .rule)
+
+abbrev pub clauseAt : Case → Pair → ℕ → Clause
+clauseAt T p i = getD (clausesOf T p) i (asserts never)
+
+abbrev pub beforeOf : Case → Pair → ℕ → List Clause
+beforeOf T p i = take i (clausesOf T p)
+
+-- ---- the areas
+
+-- the cell of a pair, which is also its word in the list
+abbrev pub cellAt : ℕ → Pair → ℕ
+cellAt m p = cellOf m (p .row) (p .rule)
+
+-- the marks of a pair, as they stand in the cells
+unfoldable pub bitsOf : ℕ → List ℕ → Pair → Marks
+bitsOf m cells q k = column m cells (q .rule) k
+
+-- `held`, but for the pair p, whose marks are κ
+unfoldable pub overlay : Pair → Marks → (Pair → Marks) → Pair → Marks
+overlay p κ held q k = cond (samePair q p) (κ k) (held q k)
+
+-- the pair of a word of the list
+abbrev pub pairOf : ℕ → ℕ → Pair
+pairOf m w = record { row = w / m; rule = w % m }
+
+-- the pairs listed
+unfoldable pub doneOf : ℕ → List ℕ → ℕ → List Pair
+doneOf m list count = map (pairOf m) (take count list)
+
+-- The areas show that the pairs `done` are settled, in this order, and no other; of a pair that is not settled the marks are those of `held`; the list
+-- after them is as in list₀.
+pub record Areas (T : Case) (done : List Pair) (held : Pair → Marks) (list₀ cells list : List ℕ) (count : ℕ) : Type 0 where
+  pub long : length cells ≡ T .n * T .m
+  pub room : length list ≡ length cells
+  pub small : (i : ℕ) → getD cells i 0 < 8
+  pub said : (p : Pair) → In T p → verd (getD cells (cellAt (T .m) p) 0) ≡ cond (listed p done) (mark ((truthOf T p) .holds)) 0
+  pub shown : (p : Pair) (k : ℕ) → In T p → Kid T (p .row) k
+      → column (T .m) cells (p .rule) k ≡ cond (listed p done) ((truthOf T p) .marks k) (held p k)
+  pub top : (s : ℕ) → s < T .m → bit (getD cells s 0) ≡ false
+  pub tidy : (p : Pair) → Has p done → In T p
+  pub lists : list ≡ map (cellAt (T .m)) done ++ drop (length done) list₀
+  pub counts : count ≡ length done
+  pub counted : settledOf cells ≡ count
+
+-- no pair below the rank t has marks before it is settled
+unfoldable pub Quiet : Case → ℕ → List Pair → (Pair → Marks) → Type 0
+Quiet T t done held = (q : Pair) (k : ℕ) → In T q → rankOf T q < t → listed q done ≡ false → Kid T (q .row) k → held q k ≡ false
+
+-- ---- what the judging functions ask and leave
+
+pub record Ready (T : Case) (t : ℕ) (p : Pair) (cells list : List ℕ) (count : ℕ) : Type 0 where
+  pub fit : Fits T
+  pub inside : In T p
+  pub areas : Areas T (doneOf (T .m) list count) (bitsOf (T .m) cells) list cells list count
+  pub quiet : Quiet T t (doneOf (T .m) list count) (bitsOf (T .m) cells)
+
+-- the cells show the pair unsettled
+unfoldable pub Unsettled : ℕ → Pair → List ℕ → Type 0
+Unsettled m p cells = verd (getD cells (cellAt m p) 0) ≡ 0
+
+-- what applying a pair leaves, and judging it: the pair settled, with those that it applies, and the areas otherwise as they were
+pub record Judged (T : Case) (p : Pair) (cells₀ list₀ : List ℕ) (count₀ : ℕ) (cells list : List ℕ) (r : Done) : Type 0 where
+  pub areas : Areas T (settleOf T p (doneOf (T .m) list₀ count₀)) (bitsOf (T .m) cells₀) list₀ cells list (r .count)
+  pub said : r .ok ≡ (truthOf T p) .holds
+  pub settled : verd (getD cells (cellAt (T .m) p) 0) ≡ mark (r .ok)
+
+-- what judging clause i of p leaves, at the marks of p that stood in the cells
+pub record ClauseJudged (T : Case) (p : Pair) (i : ℕ) (cells₀ list₀ : List ℕ) (count₀ : ℕ) (cells list : List ℕ) (r : Done) : Type 0 where
+  pub areas :
+      let κ = bitsOf (T .m) cells₀ p in
+      let J = clause (T .doc) p (beforeOf T p i) κ (clauseAt T p i) in
+      Areas T (inTurn (settleOf T) (applied (truthOf T) J) (doneOf (T .m) list₀ count₀)) (overlay p (κ ∪ (answer (truthOf T) J) .marks) (bitsOf (T .m) cells₀)) list₀ cells list (r .count)
+  pub said : r .ok ≡ (answer (truthOf T) (clause (T .doc) p (beforeOf T p i) (bitsOf (T .m) cells₀ p) (clauseAt T p i))) .holds
+  pub free : Unsettled (T .m) p cells

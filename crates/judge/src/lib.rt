@@ -1,0 +1,2 @@
+// The judge.
+pub mod cycle;
