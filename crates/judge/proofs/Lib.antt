@@ -2,3 +2,4 @@ pub mod State
 pub mod Pairs
 pub mod Going
 pub mod Claused
+pub mod Whole

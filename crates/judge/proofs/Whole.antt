@@ -1,0 +1,241 @@
+-- The whole run: from cleared cells to the specification's cells, list and marked count.
+--     fresh-ready       the root pair can be applied where the cells are cleared
+--     judged-all        what is left once it was
+--     part-exact, part-judged     the same in longer areas, of which the run takes the first n × m places
+-- Assumes nothing.
+use mathlib.Core.Bool.{Bool, true, false, _&&_, _||_, cond}
+use mathlib.Core.List.{List, [], _∷_, _++_, map, append-assoc, append-nil}
+use mathlib.Core.Logic.{⊎-elim}
+use mathlib.Core.Path.{_≡_, refl, sym, ap, _∙_}
+use Prim.Native.Nat.{ℕ, zero, suc, _+_, _*_, _-_, _<_, _≤_}
+use native.Mathlib.Nat.{add-mul, zero-mul}
+use native.Mathlib.Omega.{arith}
+use lib.Dec.{ltb}
+use lib.ListN.{length, getD, take, drop, length-append, length-map, length-drop, take-append-drop}
+use lib.Seq.{ext-getD, getD-take, getD-drop, length-take-le, take-at, drop-at}
+use borrow.Author.Tests.{lt-ltb, le-ltb}
+use Rattle.laws.proofs.Tests.{le-or-lt}
+use Rattle.sheet.specs.Doc.{Value, null, bool, number, string, array, object, Doc, firstChild, childCount}
+use Rattle.meaning.specs.Lists.{range, keep, concatMap}
+use Rattle.meaning.specs.Tests.{members?, elements?, rows}
+use Rattle.meaning.specs.Rules.{Pair, Marks, membersOf, elementsOf}
+use Rattle.meaning.specs.Settling.{listed, root, settled, word, list, cell, cells, marked}
+use Rattle.meaning.specs.Answer.{Left, verdict, judged}
+use Rattle.meaning.specs.Fit.{Inside}
+use Rattle.meaning.proofs.Settled.{once}
+use Rattle.areas.specs.Cells.{cellOf, verd, bit, four, mark, column, markedBy, Cleared}
+use Rattle.areas.proofs.Cells.{whole, zero-verd, zero-bit, settled-blank}
+use Rattle.judge.specs.declared.cycle.Done.{Done}
+use Rattle.judge.specs.declared.cycle.Verdict.{Verdict}
+use Rattle.judge.specs.State.{Case, Fits, In, Kid, firstKid, kidCount, truthOf, settleOf, cellAt, bitsOf, doneOf, Areas, Quiet, Ready, Judged}
+use Rattle.judge.specs.Whole.{Exact, Fresh, Roomy, leftBy, judgedOf}
+use Rattle.judge.proofs.Pairs.{settle-self}
+use Rattle.judge.proofs.State.{areas-marks}
+use Rattle.judge.proofs.Going.{open-bits}
+
+-- ---- the run begins
+
+none-done : (m : ℕ) (l : List ℕ) → doneOf m l 0 ≡ []
+unfolding doneOf
+none-done m l = refl
+
+pub root-in : {T : Case} → Fits T → In T root
+unfolding root
+root-in fit = record { row-in = fit .rows .some; rule-in = fit .some }
+
+pub fresh-ready : {T : Case} {c l : List ℕ} {t : ℕ} → Fresh T c l → Ready T t root c l 0
+unfolding Quiet bitsOf listed
+fresh-ready {T} {c} {l} F =
+    record {
+      fit = F .exact .fit;
+      inside = root-in (F .exact .fit);
+      areas =
+          rw (none-done (T .m) l)
+          (record {
+            long = F .exact .cells-long;
+            room = F .exact .list-long ∙ sym (F .exact .cells-long);
+            small = λ i. let z = F .blank i in omega arith;
+            said = λ p h. zero-verd _ (F .blank _);
+            shown = λ p k h ch. refl;
+            top = λ s h. zero-bit _ (F .blank s);
+            tidy = λ p i. elim i [ ];
+            lists = refl;
+            counts = refl;
+            counted = settled-blank c (F .blank);
+          });
+      quiet = λ q k h g e ch. zero-bit _ (F .blank _);
+    }
+
+pub cleared-fresh : {T : Case} {c₀ c l : List ℕ} → Exact T c₀ l → Cleared c₀ c → Fresh T c l
+cleared-fresh a z =
+    record {
+      exact = record { fit = a .fit; cells-long = z .len ∙ a .cells-long; list-long = a .list-long };
+      blank = z .blank;
+    }
+
+-- ---- the cells
+
+or-four : (j : ℕ) (L M : Bool) (x : ℕ) → 0 < j → bit x ≡ cond L M false → four (bit x) ≡ cond (ltb 0 j && L && M) 4 0
+unfolding four
+or-four j true M x h e = rw (e, lt-ltb 0 j h)
+or-four j false M x h e = rw (e, lt-ltb 0 j h)
+
+no-four : (j : ℕ) (L M : Bool) (x : ℕ) → j ≤ 0 → bit x ≡ false → four (bit x) ≡ cond (ltb 0 j && L && M) 4 0
+unfolding four
+no-four j L M x h e = rw (e, le-ltb 0 j h)
+
+top-row : (j m s : ℕ) → j ≤ 0 → cellOf m j s ≡ s
+top-row j m s h = let z : j ≡ 0 = omega arith in rw z (omega arith)
+
+celled-at : {T : Case} {done : List Pair} {c₀ l₀ c l : List ℕ} {n : ℕ} → Fresh T c₀ l₀ → Areas T done (bitsOf (T .m) c₀) l₀ c l n
+    → (j s : ℕ) → j < T .n → s < T .m → getD c (cellOf (T .m) j s) 0 ≡ cell (T .doc) (T .rules) (T .n) (T .m) done (record { row = j; rule = s })
+unfolding cell bitsOf mark
+celled-at {T} {done} {c₀} {c = c} F A j s h g =
+    let x = getD c (cellOf (T .m) j s) 0 in
+    let up : Pair = record { row = T .doc .owner j; rule = s } in
+    let own : Pair = record { row = j; rule = s } in
+    let a : verd x ≡ cond (listed own done) (mark ((truthOf T own) .holds)) 0 = A .said own (record { row-in = h; rule-in = g }) in
+    let b : four (bit x) ≡ cond (ltb 0 j && listed up done && (truthOf T up) .marks j) 4 0 =
+    ⊎-elim
+    (λ (z : j ≤ 0). no-four j (listed up done) ((truthOf T up) .marks j) x z (ap (λ (y : ℕ). bit (getD c y 0)) (top-row j (T .m) s z) ∙ A .top s g))
+    (λ (z : 0 < j).
+    let before = F .exact .fit .rows .owner-before j z h in
+    or-four j (listed up done) ((truthOf T up) .marks j) x z
+    (A .shown up j (record { row-in = omega arith; rule-in = g }) (F .exact .fit .rows .placed j z h)
+    ∙ ap (cond (listed up done) ((truthOf T up) .marks j)) (zero-bit _ (F .blank _))))
+    (le-or-lt j 0) in
+    whole x (A .small _) ∙ rw (a, b)
+
+length-range : (x n : ℕ) → length (range x n) ≡ n
+unfolding range
+length-range x zero = refl
+length-range x (suc n) = ap suc (length-range (suc x) n)
+
+getD-row : (f : ℕ → ℕ) (x n i : ℕ) → i < n → getD (map f (range x n)) i 0 ≡ f (x + i)
+unfolding range
+getD-row f x zero i h = absurd (omega arith)
+getD-row f x (suc n) zero h = let e : x + 0 ≡ x = omega arith in rw e
+getD-row f x (suc n) (suc i) h = let e : x + suc i ≡ suc x + i = omega arith in rw e (getD-row f (suc x) n i (omega arith))
+
+row-step : (m j s : ℕ) → m + (j * m + s) ≡ suc j * m + s
+row-step m j s =
+    let a : (j + 1) * m ≡ j * m + 1 * m = add-mul j 1 m in
+    let b : suc j ≡ j + 1 = omega arith in
+    rw b (omega arith)
+
+-- a list of n rows of m places, by its places
+by-rows : (g : ℕ → ℕ → ℕ) (m a n : ℕ) (l : List ℕ) → length l ≡ n * m → ((j s : ℕ) → j < n → s < m → getD l (cellOf m j s) 0 ≡ g (a + j) s)
+    → l ≡ concatMap (λ j. map (g j) (range 0 m)) (range a n)
+unfolding concatMap range
+by-rows g m a zero l e f = ext-getD 0 l [] (e ∙ zero-mul m) (λ i h. let z : length l ≡ 0 = e ∙ zero-mul m in absurd (omega arith))
+by-rows g m a (suc n) l e f =
+    let w : length l ≡ m + n * m =
+    e ∙ (let q : suc n ≡ n + 1 = omega arith in let r : (n + 1) * m ≡ n * m + 1 * m = add-mul n 1 m in rw q (omega arith)) in
+    let t : take m l ≡ map (g a) (range 0 m) =
+    ext-getD 0 (take m l) (map (g a) (range 0 m)) (length-take-le m l (omega arith) ∙ sym (length-map (range 0 m) (g a) ∙ length-range 0 m))
+    (λ i h.
+    let k : i < m = (let z = length-take-le m l (omega arith) in omega arith) in
+    getD-take m l i 0 k
+    ∙ (let z : 0 * m + i ≡ i = omega arith in
+    let y : a + 0 ≡ a = omega arith in
+    let x : 0 + i ≡ i = omega arith in
+    sym (ap (λ (u : ℕ). getD l u 0) z) ∙ f 0 i (omega arith) k ∙ ap (λ (u : ℕ). g u i) y ∙ ap (g a) (sym x))
+    ∙ sym (getD-row (g a) 0 m i k)) in
+    let d : drop m l ≡ concatMap (λ j. map (g j) (range 0 m)) (range (suc a) n) =
+    by-rows g m (suc a) n (drop m l) (length-drop m l ∙ (let z : length l - m ≡ n * m = omega arith in z))
+    (λ j s h k.
+    getD-drop m l (j * m + s) 0
+    ∙ ap (λ (u : ℕ). getD l u 0) (row-step m j s)
+    ∙ f (suc j) s (omega arith) k
+    ∙ (let z : a + suc j ≡ suc a + j = omega arith in ap (λ (u : ℕ). g u s) z)) in
+    sym (take-append-drop m l) ∙ rw (t, d)
+
+-- ---- the marks of the root
+
+kids-are : (v : Value) → rows (members? v) ++ rows (elements? v) ≡ range (firstChild v) (childCount v)
+unfolding rows members? elements? range
+kids-are null = refl
+kids-are (bool b) = refl
+kids-are (number z) = refl
+kids-are (string bytes) = refl
+kids-are (array first k) = refl
+kids-are (object first k) = append-nil (range first k)
+
+root-kids : (D : Doc) → membersOf D 0 ++ elementsOf D 0 ≡ range (firstChild (D .value 0)) (childCount (D .value 0))
+unfolding membersOf elementsOf
+root-kids D = kids-are (D .value 0)
+
+kept-same : (g h : ℕ → Bool) (x n : ℕ) → ((k : ℕ) → x ≤ k → k < x + n → g k ≡ h k) → keep g (range x n) ≡ keep h (range x n)
+unfolding keep range
+kept-same g h x zero f = refl
+kept-same g h x (suc n) f = rw (f x (omega arith) (omega arith), kept-same g h (suc x) n (λ k a b. f k (omega arith) (omega arith)))
+
+-- ---- all that is left, in areas of exactly n × m places
+
+verdict-by : (b b′ : Bool) (n n′ k k′ : ℕ) → b ≡ b′ → n ≡ n′ → k ≡ k′ → verdict b n k ≡ verdict b′ n′ k′
+verdict-by b b′ n n′ k k′ e f g = rw (e, f, g)
+
+none-after : (k : ℕ) (l : List ℕ) → length l ≡ k → drop k l ≡ []
+none-after k l e = ext-getD 0 (drop k l) [] (length-drop k l ∙ (let z : length l - k ≡ 0 = omega arith in z)) (λ i h. absurd (none i h))
+  where
+    none : (i : ℕ) → i < length (drop k l) → ⊥
+    none i h = let z = length-drop k l in omega arith
+
+pub judged-all : {T : Case} {c₀ l₀ c l : List ℕ} {d : Done} (r : Verdict) {x y : ℕ} → Fresh T c₀ l₀ → Judged T root c₀ l₀ 0 c l d
+    → r .ok ≡ d .ok → r .count ≡ d .count → x ≡ firstKid T root → y ≡ kidCount T root → r .marked ≡ markedBy (T .m) c x y
+    → leftBy r c l ≡ judgedOf T c₀ l₀
+unfolding judged settled settleOf list word cells markedBy marked root
+judged-all {T} {c₀} {l₀} {c} {l} {d} r {x} {y} F j e f u v w =
+    let A : Areas T (settleOf T root []) (bitsOf (T .m) c₀) l₀ c l (d .count) = rw (none-done (T .m) l₀) at (j .areas) in
+    let done = settleOf T root [] in
+    let fit = F .exact .fit in
+    let marks : r .marked ≡ marked (T .doc) (T .rules) (T .n) (T .m) =
+    w
+    ∙ rw (u, v)
+    (ap length
+    (kept-same (column (T .m) c 0) ((truthOf T root) .marks) (firstKid T root) (kidCount T root)
+    (λ k a b. open-bits T c root k (areas-marks A root k (root-in fit) (record { after = a; within = b }) (settle-self T fit root [])))
+    ∙ ap (keep ((truthOf T root) .marks)) (sym (root-kids (T .doc))))) in
+    let cellsAre : c ≡ cells (T .doc) (T .rules) (T .n) (T .m) ++ drop (T .n * T .m) c₀ =
+    by-rows (λ i s. cell (T .doc) (T .rules) (T .n) (T .m) done (record { row = i; rule = s })) (T .m) 0 (T .n) c (A .long)
+    (λ i s h g. let z : 0 + i ≡ i = omega arith in rw z (celled-at F A i s h g))
+    ∙ sym (rw (none-after (T .n * T .m) c₀ (F .exact .cells-long)) (append-nil _)) in
+    let answers : verdict (r .ok) (r .count) (r .marked) ≡ verdict ((truthOf T root) .holds) (length done) (marked (T .doc) (T .rules) (T .n) (T .m)) =
+    verdict-by _ _ _ _ _ _ (e ∙ j .said) (f ∙ A .counts) marks in
+    λ i. record { answer = answers i; cells = cellsAre i; list = A .lists i }
+
+-- ---- in longer areas
+
+pub part-exact : {T : Case} {k : ℕ} {c l : List ℕ} → k ≡ T .n * T .m → Roomy T c l → Exact T (take k c) (take k l)
+part-exact {T} {k} {c} {l} e a =
+    record {
+      fit = a .fit;
+      cells-long = length-take-le k c (let z = a .cells-long in omega arith) ∙ e;
+      list-long = length-take-le k l (let z = a .list-long in omega arith) ∙ e;
+    }
+
+-- the places of a part, and then those after it
+drop-part : (i k : ℕ) (l : List ℕ) → i ≤ k → k ≤ length l → drop i (take k l) ++ drop k l ≡ drop i l
+drop-part zero k l h g = take-append-drop k l
+drop-part (suc i) zero l h g = absurd (omega arith)
+drop-part (suc i) (suc k) [] h g = absurd (omega arith)
+drop-part (suc i) (suc k) (x ∷ l) h g = drop-part i k l (omega arith) (omega arith)
+
+pub part-judged : {T : Case} {k : ℕ} {c₀ l₀ c l : List ℕ} (r : Verdict) → k ≡ T .n * T .m → Roomy T c₀ l₀ → leftBy r c l ≡ judgedOf T (take k c₀) (take k l₀)
+    → leftBy r (c ++ drop k c₀) (l ++ drop k l₀) ≡ judgedOf T c₀ l₀
+unfolding judged
+part-judged {T} {k} {c₀} {l₀} {c} {l} r e a h =
+    let D = T .doc in
+    let R = T .rules in
+    let few = once D R (T .n) (T .m) (a .fit) .at-most in
+    let room : k ≤ length c₀ = (let z = a .cells-long in omega arith) in
+    let room′ : k ≤ length l₀ = (let z = a .list-long in omega arith) in
+    let none : drop (T .n * T .m) (take k c₀) ≡ [] = rw (← e) (none-after k (take k c₀) (length-take-le k c₀ room)) in
+    let cs : c ++ drop k c₀ ≡ cells D R (T .n) (T .m) ++ drop (T .n * T .m) c₀ =
+    ap (λ (x : Left). x .cells ++ drop k c₀) h ∙ rw none (rw append-nil (ap (λ (i : ℕ). cells D R (T .n) (T .m) ++ drop i c₀) e)) in
+    let ls : l ++ drop k l₀ ≡ list D R (T .n) (T .m) ++ drop (length (settled D R)) l₀ =
+    ap (λ (x : Left). x .list ++ drop k l₀) h
+    ∙ append-assoc (list D R (T .n) (T .m)) (drop (length (settled D R)) (take k l₀)) (drop k l₀)
+    ∙ ap (λ y. list D R (T .n) (T .m) ++ y) (drop-part (length (settled D R)) k l₀ (omega arith) room′) in
+    let answers = ap (λ (x : Left). x .answer) h in
+    λ i. record { answer = answers i; cells = cs i; list = ls i }
