@@ -11,7 +11,7 @@ use lib.Dec.{eqb}
 use borrow.Author.Tests.{lt-ltb, le-ltb}
 use Rattle.laws.specs.Lowest.{lowest}
 use Rattle.sheet.specs.declared.refusal.Refusal.{Refusal}
-use Rattle.sheet.specs.declared.refusal.Refusal.the-variants.{RecordTrailer, RecordLayout, RepeatedName, TooDeep, RuleTrailer, RuleLayout, RepeatedEntry, UnguardedLoop, LongChain}
+use Rattle.sheet.specs.declared.refusal.Refusal.the-variants.{RecordTrailer, RecordLayout, RepeatedName, TooDeep, RuleTrailer, RuleLayout, RepeatedEntry, UnguardedLoop, LongChain, FewCells, ShortList}
 use Rattle.sheet.specs.declared.refusal.Checked.{Checked}
 use Rattle.sheet.specs.declared.refusal.Checked.the-variants.{Accepted, Refused}
 use Rattle.sheet.specs.Refusals.{refusalNumber, refused, outcomeOf, Line, lowestLine, firstLine}
@@ -47,7 +47,10 @@ refusalOf n =
     (pickRefusal (eqb n 4) TooDeep
     (pickRefusal (eqb n 5) RuleTrailer
     (pickRefusal (eqb n 6) RuleLayout
-    (pickRefusal (eqb n 7) RepeatedEntry (pickRefusal (eqb n 8) UnguardedLoop LongChain)))))))
+    (pickRefusal (eqb n 7) RepeatedEntry
+    (pickRefusal (eqb n 8) UnguardedLoop
+    (pickRefusal (eqb n 9) LongChain
+    (pickRefusal (eqb n 10) FewCells ShortList)))))))))
 
 number-back : (f : Refusal) → refusalOf (refusalNumber f) ≡ f
 unfolding refusalOf pickRefusal
@@ -60,8 +63,10 @@ number-back RuleLayout = refl
 number-back RepeatedEntry = refl
 number-back UnguardedLoop = refl
 number-back LongChain = refl
+number-back FewCells = refl
+number-back ShortList = refl
 
-number-one : (f g : Refusal) → refusalNumber f ≡ refusalNumber g → f ≡ g
+pub number-one : (f g : Refusal) → refusalNumber f ≡ refusalNumber g → f ≡ g
 number-one f g e = sym (number-back f) ∙ ap refusalOf e ∙ number-back g
 
 pub outcome-one : (a b : Checked) → outcomeOf a ≡ outcomeOf b → a ≡ b

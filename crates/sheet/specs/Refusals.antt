@@ -6,7 +6,7 @@ use Prim.Native.Nat.{ℕ, _+_}
 use lib.Dec.{ltb}
 use Rattle.laws.specs.Lowest.{lowest}
 use Rattle.sheet.specs.declared.refusal.Refusal.{Refusal}
-use Rattle.sheet.specs.declared.refusal.Refusal.the-variants.{RecordTrailer, RecordLayout, RepeatedName, TooDeep, RuleTrailer, RuleLayout, RepeatedEntry, UnguardedLoop, LongChain}
+use Rattle.sheet.specs.declared.refusal.Refusal.the-variants.{RecordTrailer, RecordLayout, RepeatedName, TooDeep, RuleTrailer, RuleLayout, RepeatedEntry, UnguardedLoop, LongChain, FewCells, ShortList}
 use Rattle.sheet.specs.declared.refusal.Checked.{Checked}
 use Rattle.sheet.specs.declared.refusal.Checked.the-variants.{Accepted, Refused}
 
@@ -21,6 +21,8 @@ refusalNumber RuleLayout = 6
 refusalNumber RepeatedEntry = 7
 refusalNumber UnguardedLoop = 8
 refusalNumber LongChain = 9
+refusalNumber FewCells = 10
+refusalNumber ShortList = 11
 
 -- what a check gives: the number of rows (of the record, or of the rules: the schemas), or a refusal's number and place
 pub data Outcome : Type 0 where

@@ -2,7 +2,7 @@
 ghost use mathlib.Core.Path.{_≡_};
 ghost use Rattle.sheet.specs.Refusals.{refusalNumber};
 
-// Why a sheet is refused.
+// Why a sheet is refused or, the last two, areas that are too small for judging.
 pub enum Refusal {
     RecordTrailer,
     RecordLayout,
@@ -13,6 +13,8 @@ pub enum Refusal {
     RepeatedEntry,
     UnguardedLoop,
     LongChain,
+    FewCells,
+    ShortList,
 }
 
 // What a check gives: the number of rows (of rules, the schemas), or the refusal and its place.
@@ -36,6 +38,8 @@ impl Refusal {
             Refusal::RepeatedEntry => 7,
             Refusal::UnguardedLoop => 8,
             Refusal::LongChain => 9,
+            Refusal::FewCells => 10,
+            Refusal::ShortList => 11,
         }
     }
 }
