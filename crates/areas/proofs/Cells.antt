@@ -3,8 +3,7 @@
 --     verd-settle, bit-settle, settle-small, settle-fits        a verdict that is written over none
 --     mark-some, mark-read                                      the verdict of a settled pair, and reading it back
 --     whole, zero-verd, zero-bit                                a cell is its verdict and its mark
---     cell-in, row-fits, row-low                                the cells of a row among all
---     cell-row, cell-rule, same-row, same-rule                  the row and the schema that a cell is of
+--     row-low, same-row, same-rule                              the cells of a row among all; the row and the schema that a cell is of
 --     settled-le, -room, -set, -same, -blank                    how many pairs are settled
 --     Counted, counted-none, counted-more, counted-end          how many rows are marked, as a loop counts them
 --     cleared-more, cleared-end                                 cells that are cleared one after the other
@@ -14,7 +13,7 @@ use mathlib.Core.List.{List, [], _∷_}
 use mathlib.Core.Logic.{⊎-elim}
 use mathlib.Core.Path.{_≡_, refl, sym, ap, _∙_}
 use Prim.Native.Nat.{ℕ, zero, suc, _+_, _*_, _-_, _/_, _%_, _≤_, _<_}
-use native.Mathlib.Nat.{mul-add-div-right, mul-add-mod-self-right, div-eq-of-lt, mod-eq-of-lt, mul-le-mul-right, add-mul, mul-comm}
+use native.Mathlib.Nat.{mul-le-mul-right, mul-comm}
 use native.Mathlib.Omega.{arith}
 use lib.Dec.{eqb}
 use lib.ListN.{length, getD, set, List·getD-eq-default}
@@ -23,6 +22,7 @@ use borrow.Author.Count.{below-more}
 use borrow.Author.Tests.{eq-eqb, ne-eqb, lt-ltb, le-ltb}
 use Rattle.laws.proofs.Tests.{le-or-lt, decide}
 use Rattle.meaning.specs.Lists.{range, keep}
+use Rattle.meaning.proofs.Words.{row-of, rule-of}
 use Rattle.areas.specs.Cells.{cellOf, verd, bit, four, mark, column, settledOf, markedBy, Cleared, plus}
 
 -- ---- one cell
@@ -90,15 +90,6 @@ zero-bit x e = le-ltb 3 x (omega arith)
 
 -- ---- the cell of a pair
 
-pub row-fits : (rows m row : ℕ) → row < rows → cellOf m row m ≤ rows * m
-row-fits rows m row h =
-    let a : (row + 1) * m ≤ rows * m = mul-le-mul-right m (omega arith) in
-    let b : (row + 1) * m ≡ row * m + 1 * m = add-mul row 1 m in
-    omega arith
-
-pub cell-in : (rows m row rule : ℕ) → row < rows → rule < m → cellOf m row rule < rows * m
-cell-in rows m row rule h g = let a = row-fits rows m row h in omega arith
-
 -- a row that has cells is no higher than their number
 pub row-low : (row m s long : ℕ) → s < m → cellOf m row m ≤ long → row < long
 row-low row m s long g h =
@@ -106,21 +97,12 @@ row-low row m s long g h =
     let b : m * row ≡ row * m = mul-comm m row in
     omega arith
 
-pub cell-row : (m row rule : ℕ) → rule < m → cellOf m row rule / m ≡ row
-cell-row m row rule h =
-    let a : (row * m + rule) / m ≡ row + rule / m = mul-add-div-right (omega arith) row rule in
-    let b : rule / m ≡ 0 = div-eq-of-lt h in
-    omega arith
-
-pub cell-rule : (m row rule : ℕ) → rule < m → cellOf m row rule % m ≡ rule
-cell-rule m row rule h = mul-add-mod-self-right row m rule ∙ mod-eq-of-lt h
-
 module _ (m j s k t : ℕ) (g : s < m) (h : t < m) (e : cellOf m j s ≡ cellOf m k t) where
   pub same-row : j ≡ k
-  same-row = sym (cell-row m j s g) ∙ ap (λ (x : ℕ). x / m) e ∙ cell-row m k t h
+  same-row = sym (row-of m j s g) ∙ ap (λ (x : ℕ). x / m) e ∙ row-of m k t h
 
   pub same-rule : s ≡ t
-  same-rule = sym (cell-rule m j s g) ∙ ap (λ (x : ℕ). x % m) e ∙ cell-rule m k t h
+  same-rule = sym (rule-of m j s g) ∙ ap (λ (x : ℕ). x % m) e ∙ rule-of m k t h
 
 -- ---- how many are settled
 

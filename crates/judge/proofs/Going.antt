@@ -21,10 +21,11 @@ use Rattle.laws.proofs.Tests.{decide}
 use Rattle.rulesheet.specs.Ruleset.{Clause}
 use Rattle.meaning.specs.Rules.{Pair, Marks, nothing, _∪_, Result, answer, applied, clause}
 use Rattle.meaning.specs.Settling.{samePair, listed, inTurn}
+use Rattle.meaning.proofs.Words.{row-inside}
 use Rattle.meaning.proofs.Settled.{same-pair}
 use Rattle.areas.specs.Cells.{cellOf, verd, bit, mark, column, plus}
 use Rattle.areas.specs.Writers.{Open, Writes, Marked, passed, Passes}
-use Rattle.areas.proofs.Cells.{row-fits, settled-room}
+use Rattle.areas.proofs.Cells.{settled-room}
 use Rattle.steps.specs.Folds.{hitsBy, gives, marksBy, doneBy}
 use Rattle.steps.specs.Plan.{stepsOf, aimOf, goOf, finishOf}
 use Rattle.steps.proofs.Folds.{or-no, hits-le, done-picked}
@@ -191,7 +192,7 @@ module _ {T : Case} {p : Pair} {held : Pair → Marks} {l₀ : List ℕ} {done :
         rows-in =
             λ k a b.
             let z = G .fit .rows .child-inside (p .row) k (G .inside .row-in) (record { after = a; within = b }) in
-            let w = row-fits (T .n) (T .m) k z in
+            let w = row-inside (T .n) (T .m) k z in
             let e = G .areas .long in
             omega arith;
       }

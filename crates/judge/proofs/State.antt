@@ -19,11 +19,12 @@ use Rattle.laws.proofs.Tests.{decide}
 use Rattle.sheet.specs.Doc.{firstChild, childCount}
 use Rattle.meaning.specs.Rules.{Pair, Marks, Result}
 use Rattle.meaning.specs.Settling.{samePair, listed}
+use Rattle.meaning.proofs.Words.{row-of, rule-of, row-inside, word-inside}
 use Rattle.meaning.proofs.Settled.{same-pair, self, in-listed, last-in}
 use Rattle.steps.proofs.Folds.{map-append, eq-or}
 use Rattle.areas.specs.Cells.{cellOf, verd, bit, mark, column, settledOf}
 use Rattle.areas.specs.Writers.{Open, Shut, Writes, Marked}
-use Rattle.areas.proofs.Cells.{mark-some, cell-in, row-fits, cell-row, cell-rule, same-row, same-rule, verd-settle, bit-settle, settle-small, settled-set, settled-same}
+use Rattle.areas.proofs.Cells.{mark-some, same-row, same-rule, verd-settle, bit-settle, settle-small, settled-set, settled-same}
 use Rattle.judge.specs.State.{Case, Fits, In, Kid, firstKid, kidCount, rankOf, truthOf, cellAt, pairOf, bitsOf, overlay, doneOf, Areas, Unsettled}
 
 -- ---- tests
@@ -68,7 +69,7 @@ listed-other (x ∷ xs) p q e = rw (listed-other xs p q e)
 words-back : (T : Case) (done : List Pair) → ((p : Pair) → Has p done → In T p) → map (pairOf (T .m)) (map (cellAt (T .m)) done) ≡ done
 words-back T [] h = refl
 words-back T (p ∷ ps) h =
-    rw (cell-row (T .m) (p .row) (p .rule) (h p (at-head refl) .rule-in), cell-rule (T .m) (p .row) (p .rule) (h p (at-head refl) .rule-in))
+    rw (row-of (T .m) (p .row) (p .rule) (h p (at-head refl) .rule-in), rule-of (T .m) (p .row) (p .rule) (h p (at-head refl) .rule-in))
     (ap (λ l. p ∷ l) (words-back T ps (λ q i. h q (in-tail i))))
 
 drop-later : (xs l : List ℕ) (n n′ : ℕ) → length xs ≡ n → n ≤ n′ → drop n′ (xs ++ drop n l) ≡ drop n′ l
@@ -123,7 +124,7 @@ module _ {T : Case} {done : List Pair} {held : Pair → Marks} {l₀ c l : List 
   areas-said q i e = A .said q i ∙ rw e
 
   pub areas-cell : (q : Pair) → In T q → cellAt (T .m) q < length c
-  areas-cell q i = let h = cell-in (T .n) (T .m) (q .row) (q .rule) (i .row-in) (i .rule-in) in let e = A .long in omega arith
+  areas-cell q i = let h = word-inside (T .n) (T .m) (q .row) (q .rule) (i .row-in) (i .rule-in) in let e = A .long in omega arith
 
   -- one run after another
   pub areas-then : {d′ : List Pair} {held′ held₂ : Pair → Marks} {c₂ l₂ : List ℕ} {n₂ : ℕ} → Areas T d′ held′ l c₂ l₂ n₂ → length done ≤ length d′
@@ -253,5 +254,5 @@ pub areas-writes : {T : Case} {done : List Pair} {held : Pair → Marks} {l₀ c
 areas-writes {T} {p = p} A fit i = record {
   rule-in = i .rule-in;
   from-in = i .rule-in;
-  rows-in = λ k a b. let z = fit .rows .child-inside (p .row) k (i .row-in) (record { after = a; within = b }) in let w = row-fits (T .n) (T .m) k z in let e = A .long in omega arith;
+  rows-in = λ k a b. let z = fit .rows .child-inside (p .row) k (i .row-in) (record { after = a; within = b }) in let w = row-inside (T .n) (T .m) k z in let e = A .long in omega arith;
 }

@@ -5,6 +5,7 @@ pub mod Steps
 pub mod Derivations
 pub mod Truth
 pub mod Marks
+pub mod Words
 pub mod Distinct
 pub mod Settled
 pub mod Answers

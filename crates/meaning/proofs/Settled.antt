@@ -8,7 +8,7 @@ use mathlib.Core.List.{List·Memᴰ·cases-cons, List·Memᴰ·append-cases, Lis
 use mathlib.Core.Logic.{_⊎_, inl, inr, ⊎-elim, ⊎-map}
 use mathlib.Core.Path.{_≡_, refl, sym, ap, _∙_, subst}
 use Prim.Native.Nat.{ℕ, zero, suc, _+_, _*_, _/_, _%_, _≤_, _<_}
-use native.Mathlib.Nat.{not-suc-le-zero, mul-le-mul-right, add-mul, mul-add-div-right, mul-add-mod-self-right, div-eq-of-lt, mod-eq-of-lt}
+use native.Mathlib.Nat.{not-suc-le-zero}
 use native.Mathlib.Omega.{arith}
 use lib.Dec.{eqb}
 use lib.ListN.{length, length-map}
@@ -21,6 +21,7 @@ use Rattle.meaning.specs.Settling.{samePair, listed, inTurn, root, settl
 use Rattle.meaning.specs.Fit.{Fit, Inside, rank}
 use Rattle.meaning.specs.Once.{Reached, itself, further, Distinct, Ordered, Once}
 use Rattle.meaning.proofs.Lists.{Every, every-nil, every-cons, every-map, every-in, in-every, every-image}
+use Rattle.meaning.proofs.Words.{row-of, rule-of, word-inside}
 use Rattle.meaning.proofs.Distinct.{distinct-last, distinct-image, few}
 use Rattle.meaning.proofs.Steps.{deep}
 use Rattle.meaning.proofs.Truth.{applies-fall, applies-inside}
@@ -254,29 +255,16 @@ module _ (D : Doc) (R : Ruleset) where
     all-inside : Every (Inside n m) all
     all-inside = every-in (Inside n m) all (λ q i. reached-inside (in-reached q i) inside-root)
 
-    row-of : (row rule : ℕ) → rule < m → (row * m + rule) / m ≡ row
-    row-of row rule h =
-        let a : (row * m + rule) / m ≡ row + rule / m = mul-add-div-right (omega arith) row rule in
-        let b : rule / m ≡ 0 = div-eq-of-lt h in
-        omega arith
-
-    rule-of : (row rule : ℕ) → rule < m → (row * m + rule) % m ≡ rule
-    rule-of row rule h = mul-add-mod-self-right row m rule ∙ mod-eq-of-lt h
-
     pub word-apart : (p q : Pair) → Inside n m p → Inside n m q → word D R n m p ≡ word D R n m q → p ≡ q
     unfolding word
     word-apart p q h g e =
-        let a = sym (row-of (p .row) (p .rule) (h .rule-in)) ∙ ap (λ (x : ℕ). x / m) e ∙ row-of (q .row) (q .rule) (g .rule-in) in
-        let b = sym (rule-of (p .row) (p .rule) (h .rule-in)) ∙ ap (λ (x : ℕ). x % m) e ∙ rule-of (q .row) (q .rule) (g .rule-in) in
+        let a = sym (row-of m (p .row) (p .rule) (h .rule-in)) ∙ ap (λ (x : ℕ). x / m) e ∙ row-of m (q .row) (q .rule) (g .rule-in) in
+        let b = sym (rule-of m (p .row) (p .rule) (h .rule-in)) ∙ ap (λ (x : ℕ). x % m) e ∙ rule-of m (q .row) (q .rule) (g .rule-in) in
         λ i. record { row = a i; rule = b i }
 
     pub word-below : (p : Pair) → Inside n m p → word D R n m p < n * m
     unfolding word
-    word-below p h =
-        let a : suc (p .row) * m ≤ n * m = mul-le-mul-right m (h .row-in) in
-        let b : (p .row + 1) * m ≡ p .row * m + 1 * m = add-mul (p .row) 1 m in
-        let c : suc (p .row) ≡ p .row + 1 = omega arith in
-        omega (arith, rw c at a, h .rule-in)
+    word-below p h = word-inside n m (p .row) (p .rule) (h .row-in) (h .rule-in)
 
     all-few : length all ≤ n * m
     all-few =

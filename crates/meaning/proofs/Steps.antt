@@ -19,6 +19,7 @@ use Rattle.sheet.specs.Doc.{Value, null, bool, number, string, array, object, D
 use Rattle.sheet.specs.Faults.{level-refused}
 use Rattle.rulesheet.specs.Ruleset.{Clause, asserts, inPlace, takes, Reach, properties, additionalProperties, prefixItems, items}
 use Rattle.rulesheet.specs.Ruleset.{unevaluatedProperties, unevaluatedItems, Ruleset, unguarded, guarded, named, next, steps as reaches}
+use Rattle.rulesheet.proofs.Naming.{steps-named}
 use Rattle.unguarded.specs.Graph.{chain-steps, longest}
 use Rattle.meaning.specs.Lists.{range, concatMap}
 use Rattle.meaning.specs.Tests.{elements?, members?, rows}
@@ -164,11 +165,6 @@ module _ (D : Doc) (R : Ruleset) where
         let l = fit .grounds .falls (p .rule) (q .rule) (in-steps i t) in
         rw e (omega arith)
     falls p q (descends c i t k) = omega (arith, level-falls (p .row) (q .row) k, low (q .rule))
-
-    steps-named : (c : Clause) (t : ℕ) → In t (unguarded c) → In t (named c)
-    steps-named (asserts test) t i = i
-    steps-named (inPlace mode schemas) t i = i
-    steps-named (takes reach) t i = elim i [ ]
 
     pub stays-inside : (p q : Pair) → Inside n m p → Step p q → Inside n m q
     stays-inside p q h (stays c i t e) =

@@ -1,4 +1,5 @@
 -- Every schema that an accepted sheet names exists.
+--     steps-named        a clause names the schemas that it steps to
 --     named-inside       each schema that a clause of the rules names is one of the m schemas
 -- Assumes nothing.
 use mathlib.Core.Bool.{true}
@@ -16,7 +17,7 @@ use Rattle.rulesheet.specs.declared.code.Fields.{Fields}
 use Rattle.rulesheet.specs.declared.code.Fields.the-variants.{Unknown, Bare, Types, Number, Positive, Limit, Schema, Values, Names, Schemas, Members}
 use Rattle.rulesheet.specs.declared.form.EntryRow.{EntryRow}
 use Rattle.rulesheet.specs.declared.form.RuleForm.{RuleForm}
-use Rattle.rulesheet.specs.Ruleset.{Clause, named}
+use Rattle.rulesheet.specs.Ruleset.{Clause, inPlace, unguarded, named}
 use Rattle.rulesheet.specs.Codes.{Parts, Line, codes, entryRange, entryName, meansOf, shapeOf}
 use Rattle.rulesheet.specs.Sheet.{schemasWord, clausesWord, textWord, schemaAt, clauseAt, entryAt, run, clauseOf, rulesOf}
 use Rattle.rulesheet.specs.Faults.{isList, fieldsAt, entryOk, clauseFine}
@@ -24,6 +25,9 @@ use Rattle.rulesheet.specs.Read.{RulesLaid}
 use Rattle.rulesheet.proofs.Trailers.{form-m, form-c, form-e}
 use Rattle.rulesheet.proofs.Taking.{schema-within, clause-facts, list-facts, entry-taken}
 use Rattle.rulesheet.proofs.Reaching.{Every, done, and, in-table, partsAt}
+
+pub steps-named : (clause : Clause) (t : ℕ) → In t (unguarded clause) → In t (named clause)
+steps-named (inPlace mode schemas) t i = i
 
 -- ---- by a code's fields
 

@@ -1,20 +1,14 @@
 -- The unguarded steps of a clause lead to schemas, on a sheet whose layout is accepted: a clause names the schemas that it steps to.
 --     target-at, target-inside     the i-th step of a clause, and each of its steps, leads to a schema
 -- Assumes nothing.
-use mathlib.Core.List.{List, [], List·Memᴰ as In, List·Memᴰ·not-nil}
+use mathlib.Core.List.{List, [], List·Memᴰ as In}
 use Prim.Native.Nat.{ℕ, _<_}
 use lib.ListN.{length, getD}
 use Rattle.rulesheet.specs.declared.form.RuleForm.{RuleForm}
-use Rattle.rulesheet.specs.Ruleset.{Clause, asserts, inPlace, takes, unguarded, named}
 use Rattle.rulesheet.specs.Sheet.{schemasWord, clausesWord, clauseOf, targetsOf}
 use Rattle.rulesheet.specs.Read.{RulesLaid}
-use Rattle.rulesheet.proofs.Naming.{clause-inside}
+use Rattle.rulesheet.proofs.Naming.{steps-named, clause-inside}
 use Rattle.unguarded.proofs.Lists.{at-in}
-
-steps-named : (clause : Clause) (t : ℕ) → In t (unguarded clause) → In t (named clause)
-steps-named (asserts test) t i = absurd (List·Memᴰ·not-nil i)
-steps-named (inPlace mode schemas) t i = i
-steps-named (takes reach) t i = absurd (List·Memᴰ·not-nil i)
 
 module _ (ws : List ℕ) (form : RuleForm) (laid : RulesLaid ws form) (k : ℕ) (h : k < clausesWord ws) where
   pub target-inside : {t : ℕ} → In t (targetsOf ws k) → t < schemasWord ws
