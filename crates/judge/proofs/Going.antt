@@ -89,7 +89,7 @@ going-pair {T} {p} {c} {l} {n} a u =
     }
 
 -- a cell's number fits a word
-narrow : (n m k : ℕ) → n ≤ 1024 → m ≤ 1024 → k < n * m → k < 4294967296
+pub narrow : (n m k : ℕ) → n ≤ 1024 → m ≤ 1024 → k < n * m → k < 4294967296
 narrow n m k a b h =
     let x : n * m ≤ 1024 * m = mul-le-mul-right m a in
     let y : m * 1024 ≤ 1024 * 1024 = mul-le-mul-right 1024 b in

@@ -3,3 +3,5 @@ pub mod Pairs
 pub mod Going
 pub mod Claused
 pub mod Whole
+pub mod Reading
+pub mod Calls

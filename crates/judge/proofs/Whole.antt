@@ -24,13 +24,14 @@ use Rattle.meaning.specs.Answer.{Left, verdict, judged}
 use Rattle.meaning.specs.Fit.{Inside}
 use Rattle.meaning.proofs.Settled.{once}
 use Rattle.areas.specs.Cells.{cellOf, verd, bit, four, mark, column, markedBy, Cleared}
+use Rattle.areas.specs.Writers.{Writes}
 use Rattle.areas.proofs.Cells.{whole, zero-verd, zero-bit, settled-blank}
 use Rattle.judge.specs.declared.cycle.Done.{Done}
 use Rattle.judge.specs.declared.cycle.Verdict.{Verdict}
-use Rattle.judge.specs.State.{Case, Fits, In, Kid, firstKid, kidCount, truthOf, settleOf, cellAt, bitsOf, doneOf, Areas, Quiet, Ready, Judged}
+use Rattle.judge.specs.State.{pair, Case, Fits, In, Kid, firstKid, kidCount, truthOf, settleOf, cellAt, bitsOf, doneOf, Areas, Quiet, Ready, Judged}
 use Rattle.judge.specs.Whole.{Exact, Fresh, Roomy, leftBy, judgedOf}
 use Rattle.judge.proofs.Pairs.{settle-self}
-use Rattle.judge.proofs.State.{areas-marks}
+use Rattle.judge.proofs.State.{areas-marks, areas-writes}
 use Rattle.judge.proofs.Going.{open-bits}
 
 -- ---- the run begins
@@ -239,3 +240,26 @@ part-judged {T} {k} {c₀} {l₀} {c} {l} r e a h =
     ∙ ap (λ y. list D R (T .n) (T .m) ++ y) (drop-part (length (settled D R)) k l₀ (omega arith) room′) in
     let answers = ap (λ (x : Left). x .answer) h in
     λ i. record { answer = answers i; cells = cs i; list = ls i }
+
+-- ---- the root pair, as the code names it
+
+pub root-ready : {T : Case} {c l : List ℕ} {t : ℕ} → Fresh T c l → Ready T t (pair 0 0) c l 0
+unfolding root
+root-ready F = fresh-ready F
+
+-- what cells of exactly n × m places held before does not matter
+same-left : (T : Case) (c c₀ l₀ : List ℕ) → length c ≡ T .n * T .m → length c₀ ≡ T .n * T .m → judgedOf T c₀ l₀ ≡ judgedOf T c l₀
+unfolding judged
+same-left T c c₀ l₀ a b =
+    ap (λ rest. record { answer = verdict ((truthOf T root) .holds) (length (settled (T .doc) (T .rules))) (marked (T .doc) (T .rules) (T .n) (T .m)); cells = cells (T .doc) (T .rules) (T .n) (T .m) ++ rest; list = list (T .doc) (T .rules) (T .n) (T .m) ++ drop (length (settled (T .doc) (T .rules))) l₀ })
+    (none-after (T .n * T .m) c₀ b ∙ sym (none-after (T .n * T .m) c a))
+
+pub root-judged : {T : Case} {c₁ c₀ l₀ c l : List ℕ} {d : Done} (r : Verdict) {x y k : ℕ} → Exact T c₁ l₀ → Fresh T c₀ l₀ → Judged T (pair 0 0) c₀ l₀ 0 c l d
+    → r .ok ≡ d .ok → r .count ≡ d .count → x ≡ firstKid T (pair 0 0) → y ≡ kidCount T (pair 0 0) → k ≡ T .m → r .marked ≡ markedBy k c x y
+    → leftBy r c l ≡ judgedOf T c₁ l₀
+unfolding root
+root-judged {T} {c₁} {c₀} {l₀} {c} r {x} {y} E F j e f u v m w =
+    judged-all r F j e f u v (w ∙ ap (λ (i : ℕ). markedBy i c x y) m) ∙ same-left T c₁ c₀ l₀ (E .cells-long) (F .exact .cells-long)
+
+pub root-writes : {T : Case} {c₀ l₀ c l : List ℕ} {d : Done} → Judged T (pair 0 0) c₀ l₀ 0 c l d → Fits T → Writes (T .m) (firstKid T (pair 0 0)) (kidCount T (pair 0 0)) 0 0 c
+root-writes j fit = areas-writes (j .areas) fit (record { row-in = fit .rows .some; rule-in = fit .some })

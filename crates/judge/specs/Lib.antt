@@ -1,2 +1,3 @@
 pub mod State
 pub mod Whole
+pub mod Call

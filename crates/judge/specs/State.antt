@@ -6,12 +6,15 @@ use mathlib.Core.List.{List, [], _∷_, _++_, map, List·Memᴰ as Has}
 use mathlib.Core.Path.{_≡_}
 use lib.ListN.{length, getD, take, drop}
 use Rattle.sheet.specs.Doc.{Doc, firstChild, childCount, Child}
+use Rattle.sheet.specs.declared.record.RecordForm.{RecordForm}
 use Rattle.sheet.specs.Record.{rowsWord, docOf}
+use Rattle.rulesheet.specs.declared.form.RuleForm.{RuleForm}
 use Rattle.rulesheet.specs.Ruleset.{never, Clause, asserts, Ruleset}
 use Rattle.rulesheet.specs.Sheet.{schemasWord, rulesOf}
 use Rattle.meaning.specs.Rules.{Pair, Marks, _∪_, Result, answer, applied, clause, depth, truth}
 use Rattle.meaning.specs.Settling.{samePair, listed, inTurn, settle}
 use Rattle.meaning.specs.Fit.{Fit, Inside, rank}
+use Rattle.clause.specs.Read.{RecordRead, RulesRead}
 use Rattle.areas.specs.Cells.{cellOf, verd, bit, mark, column, settledOf}
 use Rattle.judge.specs.declared.cycle.Done.{Done}
 
@@ -21,6 +24,14 @@ pub record Case : Type 0 where
   pub rules : Ruleset
   pub n : ℕ
   pub m : ℕ
+
+abbrev pub pair : ℕ → ℕ → Pair
+pair j s = record { row = j; rule = s }
+
+-- both sheets are laid out as their readers ask
+pub record Sheets (ws ts rs us : List ℕ) (form : RecordForm) (rules : RuleForm) : Type 0 where
+  pub record-read : RecordRead ws ts form
+  pub rules-read : RulesRead rs us rules
 
 -- that of two sheets
 abbrev pub caseOf : (ws ts rs us : List ℕ) → Case
@@ -79,7 +90,7 @@ overlay p κ held q k = cond (samePair q p) (κ k) (held q k)
 
 -- the pair of a word of the list
 abbrev pub pairOf : ℕ → ℕ → Pair
-pairOf m w = record { row = w / m; rule = w % m }
+pairOf m w = pair (w / m) (w % m)
 
 -- the pairs listed
 unfoldable pub doneOf : ℕ → List ℕ → ℕ → List Pair

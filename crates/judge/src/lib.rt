@@ -1,2 +1,93 @@
-// The judge.
+// The judge: a record sheet and a rule sheet with their texts, and two lent areas, cells and list.
+//
+// `judge` is checks (`sheet`, `rules`), areas, clearing and judging (`run`, `cycle`). Its contract cites
+// `specs/Call.antt`.
+pub mod answer;
 pub mod cycle;
+pub mod run;
+
+ghost use mathlib.Core.Path.{_≡_};
+ghost use Rattle.sheet.specs.Refusals.{accepted};
+ghost use Rattle.sheet.specs.Faults.{recordOutcome};
+ghost use Rattle.rules.specs.Check.{rulesOutcome};
+ghost use Rattle.judge.specs.Call.{callLeaves};
+use answer::Answer;
+use rules::check_rules;
+use rulesheet::form::RuleForm;
+use sheet::check_record;
+use sheet::record::RecordForm;
+use sheet::record::wide;
+use sheet::refusal::Checked;
+use sheet::refusal::Refusal;
+
+// Judges a record by rules, whatever the words, texts and areas: valid, invalid or refused. A refused
+// call leaves the areas as they were. Otherwise the first rows x schemas cells tell what became of each
+// pair, and the first words of the list the settled pairs in order.
+pub fn judge<'a>(
+    record: &'a [u32],
+    text: &'a [u8],
+    rules: &'a [u32],
+    rule_text: &'a [u8],
+    cells: &mut [u8],
+    list: &mut [u32],
+) -> Answer
+    ensures { λ r. ⌜ callLeaves (now («record» .entry)) (now (text .entry)) (now (rules .entry)) (now («rule_text» .entry)) (now (cells .entry)) (now (list .entry)) r (now (cells .exit)) (now (list .exit)) ⌝ }
+{
+    match check_record(record, text) {
+        Checked::Accepted(n) => judge_by_rules(record, text, rules, rule_text, cells, list, n),
+        Checked::Refused(refusal, place) => Answer::Refused(refusal, place),
+    }
+}
+
+// The record is in order, with n rows.
+fn judge_by_rules<'a>(
+    record: &'a [u32],
+    text: &'a [u8],
+    rules: &'a [u32],
+    rule_text: &'a [u8],
+    cells: &mut [u8],
+    list: &mut [u32],
+    n: u32,
+) -> Answer
+    requires { ⌜ recordOutcome (now «record») (now text) ≡ accepted n ⌝ }
+    ensures { λ r. ⌜ callLeaves (now («record» .entry)) (now (text .entry)) (now (rules .entry)) (now («rule_text» .entry)) (now (cells .entry)) (now (list .entry)) r (now (cells .exit)) (now (list .exit)) ⌝ }
+{
+    match check_rules(rules, rule_text) {
+        Checked::Accepted(m) => judge_in_areas(record, text, rules, rule_text, cells, list, n, m),
+        Checked::Refused(refusal, place) => Answer::Refused(refusal, place),
+    }
+}
+
+// The rules are in order too, with m schemas.
+fn judge_in_areas<'a>(
+    record: &'a [u32],
+    text: &'a [u8],
+    rules: &'a [u32],
+    rule_text: &'a [u8],
+    cells: &mut [u8],
+    list: &mut [u32],
+    n: u32,
+    m: u32,
+) -> Answer
+    requires { ⌜ recordOutcome (now «record») (now text) ≡ accepted n ⌝ }
+    requires { ⌜ rulesOutcome (now rules) (now «rule_text») ≡ accepted m ⌝ }
+    ensures { λ r. ⌜ callLeaves (now («record» .entry)) (now (text .entry)) (now (rules .entry)) (now («rule_text» .entry)) (now (cells .entry)) (now (list .entry)) r (now (cells .exit)) (now (list .exit)) ⌝ }
+{
+    let size = wide(n * m);
+    if cells.len() < size {
+        return Answer::Refused(Refusal::FewCells, n * m);
+    }
+    if list.len() < size {
+        return Answer::Refused(Refusal::ShortList, n * m);
+    }
+    let form = RecordForm::of(record);
+    let rule_form = RuleForm::of(rules);
+    let v = run::run(record, text, rules, rule_text, cells, list, form, rule_form);
+    let count = v.count;
+    let marked = v.marked;
+    if v.ok {
+        Answer::Valid(count, marked)
+    } else {
+        Answer::Invalid(count, marked)
+    }
+}

@@ -86,7 +86,7 @@ module _ (ws ts rs us cs ls : List ℕ) where
     unfolding recordOutcome
     past-record = first-accepted (recordLines ws ts) (ruleLines rs us ++ areas) (rowsWord ws) 0 n good
 
-    rows-are : rowsWord ws ≡ n
+    pub rows-are : rowsWord ws ≡ n
     unfolding recordOutcome
     rows-are = given (recordLines ws ts) (rowsWord ws) n good
 
@@ -100,7 +100,7 @@ module _ (ws ts rs us cs ls : List ℕ) where
       unfolding rulesOutcome
       past-rules = past-record ∙ first-accepted (ruleLines rs us) areas (schemasWord rs) 0 m fine
 
-      schemas-are : schemasWord rs ≡ m
+      pub schemas-are : schemasWord rs ≡ m
       unfolding rulesOutcome
       schemas-are = given (ruleLines rs us) (schemasWord rs) m fine
 

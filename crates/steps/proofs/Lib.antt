@@ -1,3 +1,6 @@
 pub mod Folds
 pub mod Picks
 pub mod Plans
+pub mod Earlier
+pub mod Reading
+pub mod Aiming

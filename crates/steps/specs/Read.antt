@@ -2,7 +2,7 @@
 -- Assumes nothing.
 use Prim.Native.Nat.{ℕ, _<_, _≤_}
 use mathlib.Core.Bool.{Bool, true}
-use mathlib.Core.List.{List, []}
+use mathlib.Core.List.{List, [], map}
 use mathlib.Core.Path.{_≡_}
 use lib.ListN.{length, getD, take}
 use Rattle.sheet.specs.Doc.{Doc}
@@ -12,8 +12,8 @@ use Rattle.rulesheet.specs.Ruleset as R
 use Rattle.rulesheet.specs.Ruleset.{never, asserts, takes, additionalProperties, items}
 use Rattle.rulesheet.specs.Sheet.{schemaAt, rulesOf}
 use Rattle.rulesheet.specs.Clauses.{clauseMeans, Tested}
-use Rattle.meaning.specs.Lists.{concatMap}
-use Rattle.meaning.specs.Rules.{Pair, Marks, namesOf, prefixOf}
+use Rattle.meaning.specs.Lists.{any, concatMap}
+use Rattle.meaning.specs.Rules.{Pair, Marks, namesOf, prefixOf, called}
 use Rattle.steps.specs.declared.step.Step.{Step}
 use Rattle.steps.specs.Plan.{aimOf, goOf}
 
@@ -35,7 +35,12 @@ pub record ClauseRead (rs us : List ℕ) (form : RuleForm) (s first i : ℕ) (cl
 -- what the clauses before it tell a clause: `items` how many elements they speak of, `additionalProperties` from which of them on they name members
 pub record Started (before : List R.Clause) (c : R.Clause) (from : ℕ) : Type 0 where
   pub prefix-is : (s : ℕ) → c ≡ takes (items s) → from ≡ length (concatMap prefixOf before)
+  pub within : (s : ℕ) → c ≡ takes (additionalProperties s) → from ≤ length before
   pub names-from : (s : ℕ) → c ≡ takes (additionalProperties s) → concatMap namesOf (take from before) ≡ []
+
+-- one of the names is that of row k
+abbrev pub namedBy : Doc → List (List ℕ) → ℕ → Bool
+namedBy D names k = any (map (λ n. called D n k) names)
 
 -- step x of a clause was read, where κ are the marks that stand in the cells: whether it is applied and, if it is, the pair that it aims at
 pub record StepRead (D : Doc) (p : Pair) (before : List R.Clause) (c : R.Clause) (x : ℕ) (κ : Marks) (r : Step) : Type 0 where

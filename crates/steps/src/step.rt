@@ -1,8 +1,316 @@
-// The steps of a clause.
+// The steps of a clause: how many, what they come to, and each by itself.
+ghost use mathlib.Core.Bool.{true, not, cond};
+ghost use mathlib.Core.List.{List, []};
+ghost use mathlib.Core.Path.{_≡_};
+ghost use Prim.Native.Nat.{ℕ, _+_, _-_, _*_, _≤_, _<_, min};
+ghost use lib.Dec.{eqb};
+ghost use lib.ListN.{length, getD, take};
+ghost use Rattle.sheet.specs.Doc.{Doc};
+ghost use Rattle.sheet.specs.Record.{docOf};
+ghost use Rattle.sheet.specs.Accepted.{Formed, Laid};
+ghost use Rattle.rulesheet.specs.declared.code.Fields.the-variants.{Members};
+ghost use Rattle.rulesheet.specs.Ruleset as R;
+ghost use Rattle.rulesheet.specs.Sheet.{schemaAt};
+ghost use Rattle.rulesheet.specs.Read.{RulesFormed};
+ghost use Rattle.rulesheet.specs.Clauses.{schemasIn, membersIn, clauseMeans, Tested};
+ghost use Rattle.meaning.specs.Lists.{concatMap};
+ghost use Rattle.meaning.specs.Rules.{Pair, Marks, namesOf};
+ghost use Rattle.clause.specs.Read.{RecordRead, RulesRead, ListRead};
+ghost use Rattle.areas.specs.Cells.{cellOf, column};
+ghost use Rattle.steps.specs.Plan.{memberCount, elementCount, unnamed, stepsOf, finishOf};
+ghost use Rattle.steps.specs.Read.{beforeIn, ClauseRead, Started, StepRead};
+use crate::before::unnamed_in;
+use areas::bit_at;
+use areas::cell_of;
+use clause::members::child_named;
+use clause::numbers::is_kind;
+use clause::test::holds;
+use rulesheet::clause::Clause;
+use rulesheet::clause::Entries;
+use rulesheet::clause::entry_name;
+use rulesheet::clause::entry_schema;
+use rulesheet::clause::member_schema;
+use rulesheet::form::RuleForm;
+use sheet::kind::RowKind;
+use sheet::record::RecordForm;
+use sheet::record::RecordRow;
+use sheet::record::RuleRow;
+use sheet::record::children_of;
+use sheet::record::wide;
 
 // A step: whether it is applied and, if it is, the row and the schema that it aims at.
 pub struct Step {
     pub go: bool,
     pub row: u32,
     pub rule: u32,
+}
+
+// ---- how many steps there are
+
+// How many members the row has: none if it is no object.
+pub fn members_of(record: &[u32], form: RecordForm, row: RecordRow) -> u32
+    requires { ⌜ Formed (now «record») form × (row .0 < form .rows) ⌝ }
+    ensures { λ r. ⌜ ((ts : List ℕ) → r ≡ memberCount (docOf (now («record» .entry)) ts .value (row .0))) ⌝ }
+{
+    if !is_kind(record, form, row, RowKind::OBJECT) {
+        return 0;
+    }
+    children_of(record, form, row).count
+}
+
+// How many elements the row has: none if it is no array.
+pub fn elements_of(record: &[u32], form: RecordForm, row: RecordRow) -> u32
+    requires { ⌜ Formed (now «record») form × (row .0 < form .rows) ⌝ }
+    ensures { λ r. ⌜ ((ts : List ℕ) → r ≡ elementCount (docOf (now («record» .entry)) ts .value (row .0))) ⌝ }
+{
+    if !is_kind(record, form, row, RowKind::ARRAY) {
+        return 0;
+    }
+    children_of(record, form, row).count
+}
+
+// The lesser of two numbers.
+fn lesser(a: u32, b: u32) -> u32
+    ensures { λ r. ⌜ r ≡ min a b ⌝ }
+{
+    if a < b { a } else { b }
+}
+
+// What is left of a number after the first `from`.
+fn after(a: u32, from: u32) -> u32
+    ensures { λ r. ⌜ r ≡ a - from ⌝ }
+{
+    if a < from { 0 } else { a - from }
+}
+
+// n, unless there are none to take.
+fn unless_none(all: u32, n: u32) -> u32
+    ensures { λ r. ⌜ r ≡ cond (eqb all 0) 0 n ⌝ }
+{
+    if all == 0 { 0 } else { n }
+}
+
+// How many steps a clause has on a row of so many members and elements.
+fn steps_among(clause: Clause, members: u32, elements: u32, from: u32) -> u32
+    ensures { λ r. ⌜ ((d : Doc) (p : Pair) (before : List R.Clause) (rs us : List ℕ) → members ≡ memberCount (d .value (p .row)) → elements ≡ elementCount (d .value (p .row)) → Started before (clauseMeans rs us clause) from → r ≡ stepsOf d p before (clauseMeans rs us clause)) ⌝ }
+{
+    match clause {
+        Clause::AllOf(es) => es.count,
+        Clause::AnyOf(es) => es.count,
+        Clause::OneOf(es) => es.count,
+        Clause::Not(_) => 1,
+        Clause::Ref(_) => 1,
+        Clause::Properties(es) => unless_none(members, es.count),
+        Clause::AdditionalProperties(_) => members,
+        Clause::PrefixItems(es) => lesser(elements, es.count),
+        Clause::Items(_) => after(elements, from),
+        Clause::UnevaluatedProperties(_) => members,
+        Clause::UnevaluatedItems(_) => elements,
+        _ => 0,
+    }
+}
+
+// How many steps a clause has on the row.
+pub fn steps_of(record: &[u32], form: RecordForm, row: RecordRow, clause: Clause, from: u32) -> u32
+    requires { ⌜ Laid (now «record») form × (row .0 < form .rows) ⌝ }
+    ensures { λ r. ⌜ ((ts rs us : List ℕ) (p : Pair) (before : List R.Clause) → p .row ≡ row .0 → Started before (clauseMeans rs us clause) from → r ≡ stepsOf (docOf (now («record» .entry)) ts) p before (clauseMeans rs us clause)) ⌝ }
+{
+    let members = members_of(record, form, row);
+    let elements = elements_of(record, form, row);
+    steps_among(clause, members, elements, from)
+}
+
+// ---- what a clause says in the end
+
+// Whether the clause holds on the row, where `hits` of its `many` steps hold, or apply nothing.
+pub fn finish_of<'a>(
+    record: &[u32],
+    text: &'a [u8],
+    form: RecordForm,
+    row: RecordRow,
+    rules: &[u32],
+    rule_text: &'a [u8],
+    rule_form: RuleForm,
+    clause: Clause,
+    hits: u32,
+    many: u32,
+) -> bool
+    requires { ⌜ RecordRead (now «record») (now text) form × (row .0 < form .rows) ⌝ }
+    requires { ⌜ RulesRead (now rules) (now «rule_text») «rule_form» × Tested (now rules) «rule_form» clause ⌝ }
+    ensures { λ r. ⌜ ((p : Pair) → p .row ≡ row .0 → r ≡ finishOf (docOf (now («record» .entry)) (now (text .entry))) p (clauseMeans (now (rules .entry)) (now («rule_text» .entry)) clause) hits many) ⌝ }
+{
+    match clause {
+        Clause::AllOf(_) => hits == many,
+        Clause::AnyOf(_) => 0 < hits,
+        Clause::OneOf(_) => hits == 1,
+        Clause::Not(_) => hits == 0,
+        Clause::Ref(_) => hits == many,
+        Clause::Properties(_) => hits == many,
+        Clause::AdditionalProperties(_) => hits == many,
+        Clause::PrefixItems(_) => hits == many,
+        Clause::Items(_) => hits == many,
+        Clause::UnevaluatedProperties(_) => hits == many,
+        Clause::UnevaluatedItems(_) => hits == many,
+        _ => holds(record, text, form, row, rules, rule_text, rule_form, clause),
+    }
+}
+
+// ---- the steps
+
+// A step that is applied.
+fn go_to(row: RecordRow, rule: RuleRow) -> Step
+    ensures { λ r. ⌜ r ≡ record { go = true; row = row .0; rule = rule .0 } ⌝ }
+{
+    Step {
+        go: true,
+        row: row.0,
+        rule: rule.0,
+    }
+}
+
+// One that is applied with the schema of entry x.
+fn listed_step(rules: &[u32], rule_form: RuleForm, row: RecordRow, list: Entries, x: u32) -> Step
+    requires { ⌜ RulesFormed (now rules) «rule_form» × (list .first + list .count ≤ «rule_form» .e) × (x < list .count) ⌝ }
+    ensures { λ r. ⌜ r ≡ record { go = true; row = row .0; rule = getD (schemasIn (now (rules .entry)) list) x 0 } ⌝ }
+{
+    go_to(row, entry_schema(rules, rule_form, list, x))
+}
+
+// Step x of `properties`, on a row that has members: the first that has the name of entry x, if
+// there is one.
+fn named_step<'a>(
+    record: &[u32],
+    text: &'a [u8],
+    form: RecordForm,
+    rules: &[u32],
+    rule_text: &'a [u8],
+    rule_form: RuleForm,
+    row: RecordRow,
+    list: Entries,
+    x: u32,
+) -> Step
+    requires { ⌜ RecordRead (now «record») (now text) form × (row .0 < form .rows) × (0 < memberCount (docOf (now «record») (now text) .value (row .0))) ⌝ }
+    requires { ⌜ RulesRead (now rules) (now «rule_text») «rule_form» × ListRead (now rules) «rule_form» Members list × (x < list .count) ⌝ }
+    ensures { λ r. ⌜ ((p : Pair) (before : List R.Clause) (κ : Marks) → p .row ≡ row .0 → StepRead (docOf (now («record» .entry)) (now (text .entry))) p before (R.takes (R.properties (membersIn (now (rules .entry)) (now («rule_text» .entry)) list))) x κ r) ⌝ }
+{
+    let name = entry_name(rules, rule_form, list, x);
+    let n = child_named(record, text, form, row, rule_text, name);
+    let children = children_of(record, form, row);
+    let schema = member_schema(rules, rule_form, list, x);
+    Step {
+        go: n < children.count,
+        row: children.first + n,
+        rule: schema.0,
+    }
+}
+
+// One that is applied unless the row is marked in column s.
+fn fresh_step(cells: &[u8], m: u32, row: RecordRow, s: RuleRow, rule: RuleRow) -> Step
+    requires { ⌜ cellOf m (row .0) (s .0) < length (now cells) ⌝ }
+    ensures { λ r. ⌜ r ≡ record { go = not (column m (now (cells .entry)) (s .0) (row .0)); row = row .0; rule = rule .0 } ⌝ }
+{
+    let marked = bit_at(cells, cell_of(wide(m), wide(row.0), wide(s.0)));
+    Step {
+        go: !marked,
+        row: row.0,
+        rule: rule.0,
+    }
+}
+
+// One of `additionalProperties`, which is applied unless the clauses before it name the row.
+fn other_step<'a>(
+    record: &[u32],
+    text: &'a [u8],
+    form: RecordForm,
+    rules: &[u32],
+    rule_text: &'a [u8],
+    rule_form: RuleForm,
+    s: RuleRow,
+    first: u32,
+    i: u32,
+    from: u32,
+    row: RecordRow,
+    rule: RuleRow,
+) -> Step
+    requires { ⌜ RecordRead (now «record») (now text) form × (row .0 < form .rows) ⌝ }
+    requires { ⌜ RulesRead (now rules) (now «rule_text») «rule_form» × (s .0 < «rule_form» .m) × (first ≡ schemaAt (now rules) (s .0) .first) × (i ≤ schemaAt (now rules) (s .0) .count) ⌝ }
+    requires { ⌜ (from ≤ i) × (concatMap namesOf (take from (beforeIn (now rules) (now «rule_text») (s .0) i)) ≡ []) ⌝ }
+    ensures { λ r. ⌜ ((p : Pair) → r ≡ record { go = unnamed (docOf (now («record» .entry)) (now (text .entry))) p (beforeIn (now (rules .entry)) (now («rule_text» .entry)) (s .0) i) (row .0); row = row .0; rule = rule .0 }) ⌝ }
+{
+    let go = unnamed_in(
+        record,
+        text,
+        form,
+        rules,
+        rule_text,
+        rule_form,
+        s,
+        first,
+        i,
+        from,
+        row,
+    );
+    Step {
+        go: go,
+        row: row.0,
+        rule: rule.0,
+    }
+}
+
+// Step x of clause i of schema s, whose clauses start at `first`, on the row; `from` is what those
+// before it tell it. A clause that asserts something has no steps.
+pub fn step_at<'a>(
+    record: &[u32],
+    text: &'a [u8],
+    form: RecordForm,
+    rules: &[u32],
+    rule_text: &'a [u8],
+    rule_form: RuleForm,
+    cells: &[u8],
+    row: RecordRow,
+    s: RuleRow,
+    first: u32,
+    i: u32,
+    clause: Clause,
+    from: u32,
+    x: u32,
+) -> Step
+    requires { ⌜ RecordRead (now «record») (now text) form × (row .0 < form .rows) ⌝ }
+    requires { ⌜ RulesRead (now rules) (now «rule_text») «rule_form» × ClauseRead (now rules) (now «rule_text») «rule_form» (s .0) first i clause ⌝ }
+    requires { ⌜ Started (beforeIn (now rules) (now «rule_text») (s .0) i) (clauseMeans (now rules) (now «rule_text») clause) from ⌝ }
+    requires { ⌜ x < stepsOf (docOf (now «record») (now text)) (record { row = row .0; rule = s .0 }) (beforeIn (now rules) (now «rule_text») (s .0) i) (clauseMeans (now rules) (now «rule_text») clause) ⌝ }
+    requires { ⌜ form .rows * «rule_form» .m ≤ length (now cells) ⌝ }
+    ensures { λ r. ⌜ StepRead (docOf (now («record» .entry)) (now (text .entry))) (record { row = row .0; rule = s .0 }) (beforeIn (now (rules .entry)) (now («rule_text» .entry)) (s .0) i) (clauseMeans (now (rules .entry)) (now («rule_text» .entry)) clause) x (column («rule_form» .m) (now (cells .entry)) (s .0)) r ⌝ }
+{
+    let child = children_of(record, form, row).first;
+    let m = rule_form.m;
+    match clause {
+        Clause::AllOf(es) => listed_step(rules, rule_form, row, es, x),
+        Clause::AnyOf(es) => listed_step(rules, rule_form, row, es, x),
+        Clause::OneOf(es) => listed_step(rules, rule_form, row, es, x),
+        Clause::Not(rule) => go_to(row, rule),
+        Clause::Ref(rule) => go_to(row, rule),
+        Clause::Properties(es) => {
+            named_step(record, text, form, rules, rule_text, rule_form, row, es, x)
+        }
+        Clause::AdditionalProperties(rule) => other_step(
+            record,
+            text,
+            form,
+            rules,
+            rule_text,
+            rule_form,
+            s,
+            first,
+            i,
+            from,
+            RecordRow(child + x),
+            rule,
+        ),
+        Clause::PrefixItems(es) => listed_step(rules, rule_form, RecordRow(child + x), es, x),
+        Clause::Items(rule) => go_to(RecordRow(child + from + x), rule),
+        Clause::UnevaluatedProperties(rule) => fresh_step(cells, m, RecordRow(child + x), s, rule),
+        Clause::UnevaluatedItems(rule) => fresh_step(cells, m, RecordRow(child + x), s, rule),
+        _ => go_to(row, s),
+    }
 }

@@ -1,0 +1,102 @@
+-- What the proof of the whole call asks besides.
+--     size-small                      the product of both numbers of rows fits a word
+--     sheets-read                     accepted sheets are laid out as their readers ask
+--     call-roomy                      areas that are long enough
+--     call-valid, call-invalid        the call's answer, by the run's verdict
+--     marks-asked                     what counting the root's marks asks
+-- Assumes nothing.
+use mathlib.Core.Bool.{Bool, true, false}
+use mathlib.Core.List.{List, []}
+use mathlib.Core.Path.{_≡_, refl, sym, ap, _∙_}
+use Prim.Native.Nat.{ℕ, _*_, _≤_, _<_}
+use native.Mathlib.Nat.{mul-le-mul-right, mul-comm}
+use native.Mathlib.Omega.{arith}
+use lib.ListN.{length}
+use Rattle.sheet.specs.declared.record.RecordForm.{RecordForm}
+use Rattle.sheet.specs.Refusals.{accepted}
+use Rattle.sheet.specs.Record as D
+use Rattle.sheet.specs.Record.{rowsWord, docOf}
+use Rattle.sheet.specs.Faults as F
+use Rattle.sheet.specs.Faults.{recordOutcome}
+use Rattle.sheet.specs.Accepted.{AcceptedRecord}
+use Rattle.rulesheet.specs.declared.form.RuleForm.{RuleForm}
+use Rattle.rulesheet.specs.Sheet as C
+use Rattle.rulesheet.specs.Sheet.{schemasWord, rulesOf}
+use Rattle.rulesheet.specs.Faults as G
+use Rattle.rules.specs.Check.{rulesOutcome}
+use Rattle.rules.specs.Accepted.{AcceptedRules}
+use Rattle.meaning.specs.Answer.{valid, invalid, Left, verdict, judged, judge}
+use Rattle.meaning.proofs.Answers.{rows-are, schemas-are, call-judged, fits}
+use Rattle.clause.proofs.Reading.{record-read, rules-read}
+use Rattle.judge.specs.declared.cycle.Verdict.{Verdict}
+use Rattle.judge.specs.State.{caseOf, Sheets, Fits}
+use Rattle.judge.specs.Whole.{Roomy, leftBy, judgedOf}
+
+module _ (ws ts rs us : List ℕ) (n m : ℕ) (good : recordOutcome ws ts ≡ accepted n) (fine : rulesOutcome rs us ≡ accepted m) where
+  rows : rowsWord ws ≡ n
+  rows = rows-are ws ts rs us [] [] n good
+
+  schemas : schemasWord rs ≡ m
+  schemas = schemas-are ws ts rs us [] [] n good m fine
+
+  pub size-small : n * m < 4294967296
+  size-small =
+      let f = fits ws ts rs us [] [] n good m fine in
+      let x : n * m ≤ 1024 * m = mul-le-mul-right m (f .rows .few) in
+      let y : m * 1024 ≤ 1024 * 1024 = mul-le-mul-right 1024 (f .few) in
+      let z : m * 1024 ≡ 1024 * m = mul-comm m 1024 in
+      omega arith
+
+  good′ : recordOutcome ws ts ≡ accepted (rowsWord ws)
+  good′ = good ∙ ap accepted (sym rows)
+
+  fine′ : rulesOutcome rs us ≡ accepted (schemasWord rs)
+  fine′ = fine ∙ ap accepted (sym schemas)
+
+  form-rows : D.formOf ws .rows ≡ rowsWord ws
+  unfolding D.formOf
+  form-rows = refl
+
+  form-m : C.formOf rs .m ≡ schemasWord rs
+  unfolding C.formOf
+  form-m = refl
+
+  pub sheets-read : {form : RecordForm} {rform : RuleForm} → form ≡ D.formOf ws → rform ≡ C.formOf rs → Sheets ws ts rs us form rform
+  sheets-read {form} {rform} a b =
+      record {
+        record-read = record-read ws ts form (record { same-form = a; accepts = rw (a, form-rows) good′ });
+        rules-read = rules-read rs us rform (record { same-form = b; accepts = rw (b, form-m) fine′ });
+      }
+
+  pub record-trailer : F.wordsOk ws ≡ true
+  record-trailer = sheets-read refl refl .record-read .laid .formed .trailer
+
+  pub rules-trailer : G.wordsOk rs ≡ true
+  rules-trailer = sheets-read refl refl .rules-read .laid .clauses-laid .schemas-laid .formed .trailer
+
+  pub call-roomy : {size : ℕ} {cells list : List ℕ} → size ≡ n * m → size ≤ length cells → size ≤ length list → Roomy (caseOf ws ts rs us) cells list
+  call-roomy e a b =
+      record {
+        fit = fits ws ts rs us [] [] (rowsWord ws) good′ (schemasWord rs) fine′;
+        cells-long = rw (rows, schemas) (omega arith);
+        list-long = rw (rows, schemas) (omega arith);
+      }
+
+  -- what the run leaves is what the call leaves
+  run-left : (cs ls : List ℕ) {c l : List ℕ} (v : Verdict) → n * m ≤ length cs → n * m ≤ length ls → leftBy v c l ≡ judgedOf (caseOf ws ts rs us) cs ls
+      → leftBy v c l ≡ judge ws ts rs us cs ls
+  run-left cs ls v a b e =
+      e ∙ ap (λ k. judged (docOf ws ts) (rulesOf rs us) k (schemasWord rs) cs ls) rows ∙ ap (λ k. judged (docOf ws ts) (rulesOf rs us) n k cs ls) schemas
+      ∙ sym (call-judged ws ts rs us cs ls n good m fine a b)
+
+  pub call-valid : (cs ls : List ℕ) {size : ℕ} {c l : List ℕ} (v : Verdict) → size ≡ n * m → size ≤ length cs → size ≤ length ls
+      → leftBy v c l ≡ judgedOf (caseOf ws ts rs us) cs ls → v .ok ≡ true
+      → _≡_ {A = Left} (record { answer = valid (v .count) (v .marked); cells = c; list = l }) (judge ws ts rs us cs ls)
+  call-valid cs ls {c = c} {l} v s a b e t =
+      ap (λ (ok : Bool). record { answer = verdict ok (v .count) (v .marked); cells = c; list = l }) (sym t) ∙ run-left cs ls v (omega arith) (omega arith) e
+
+  pub call-invalid : (cs ls : List ℕ) {size : ℕ} {c l : List ℕ} (v : Verdict) → size ≡ n * m → size ≤ length cs → size ≤ length ls
+      → leftBy v c l ≡ judgedOf (caseOf ws ts rs us) cs ls → v .ok ≡ false
+      → _≡_ {A = Left} (record { answer = invalid (v .count) (v .marked); cells = c; list = l }) (judge ws ts rs us cs ls)
+  call-invalid cs ls {c = c} {l} v s a b e t =
+      ap (λ (ok : Bool). record { answer = verdict ok (v .count) (v .marked); cells = c; list = l }) (sym t) ∙ run-left cs ls v (omega arith) (omega arith) e

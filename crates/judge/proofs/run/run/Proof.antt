@@ -1,0 +1,69 @@
+use mathlib.Core.Path.{_≡_, refl, sym, ap, _∙_}
+use native.Mathlib.Omega.{arith}
+use borrow.Author.Needs.{needs}
+use lib.Seq.{length-take-le}
+use Rattle.judge.proofs.Whole.{part-exact, part-judged}
+use Rattle.judge.proofs.Reading.{size-is, size-fits}
+use borrow.Author.Needs.{needs}
+use Rattle.judge.proofs.run.run.Statement.{statement}
+use Rattle.judge.proofs.run.run.Tie as tie
+use Rattle.judge.proofs.run.run.Reads as reads
+use Rattle.judge.proofs.run.run.Lts as lts
+use Rattle.judge.proofs.run.run_exact.Reads as run-exact-reads
+use Rattle.sheet.proofs.record.wide.Reads as wide-reads
+
+wide-requires : tie.Need-wide-requires
+wide-requires c κs = search needs
+
+wide-requires-2 : tie.Need-wide-requires-2
+wide-requires-2 c κs = search needs
+
+mul-k : tie.Need-mul-k
+mul-k c =
+    omega (arith, size-fits (c .before .before .before .before .before .before .before .before .pre .0) ((c .before .before .before .before .before .before .before .before .pre .1) .fit) (c .before .wide .ensures) (c .wide2 .ensures))
+
+slice-relend-prefix-run-exact : tie.Need-slice-relend-prefix-run-exact
+slice-relend-prefix-run-exact c =
+    let e = (size-is (c .before .before .before .before .before .before .before .before .pre .0) (c .before .wide .ensures) (c .wide2 .ensures)) in let h = (c .before .before .before .before .before .before .before .before .pre .1) .cells-long in omega arith
+
+slice-aggregate-run-exact : tie.Need-slice-aggregate-run-exact
+slice-aggregate-run-exact c =
+    sym (length-take-le _ _ (let e = (size-is (c .before .before .before .before .before .before .before .before .before .pre .0) (c .before .before .wide .ensures) (c .before .wide2 .ensures)) in let h = (c .before .before .before .before .before .before .before .before .before .pre .1) .cells-long in omega arith))
+
+slice-relend-prefix-run-exact-2 : tie.Need-slice-relend-prefix-run-exact-2
+slice-relend-prefix-run-exact-2 c =
+    let e = (size-is (c .before .before .before .before .before .before .before .before .before .pre .0) (c .before .before .wide .ensures) (c .before .wide2 .ensures)) in let h = (c .before .before .before .before .before .before .before .before .before .pre .1) .list-long in omega arith
+
+slice-aggregate-run-exact-2 : tie.Need-slice-aggregate-run-exact-2
+slice-aggregate-run-exact-2 c =
+    sym (length-take-le _ _ (let e = (size-is (c .before .before .before .before .before .before .before .before .before .before .pre .0) (c .before .before .before .wide .ensures) (c .before .before .wide2 .ensures)) in let h = (c .before .before .before .before .before .before .before .before .before .before .pre .1) .list-long in omega arith))
+
+run-exact-requires : tie.Need-run-exact-requires
+run-exact-requires c κs =
+    ((c .before .before .before .before .before .before .before .before .before .before .pre .0), part-exact (size-is (c .before .before .before .before .before .before .before .before .before .before .pre .0) (c .before .before .before .wide .ensures) (c .before .before .wide2 .ensures)) (c .before .before .before .before .before .before .before .before .before .before .pre .1))
+
+same-length : tie.Need-same-length
+same-length c = search needs
+
+same-length-2 : tie.Need-same-length-2
+same-length-2 c = search needs
+
+returns : tie.Need-returns
+returns c =
+    part-judged (c .before .before .before .before .run-exact .result) (size-is (c .before .before .before .before .before .before .before .before .before .before .before .before .before .before .before .pre .0) (c .before .before .before .before .before .before .before .before .wide .ensures) (c .before .before .before .before .before .before .before .wide2 .ensures)) (c .before .before .before .before .before .before .before .before .before .before .before .before .before .before .before .pre .1) (c .before .before .before .before .run-exact .ensures)
+
+pub run-spec : {M : Type 1} → statement M
+run-spec =
+    tie.close
+    (tie.spec
+    wide-requires
+    wide-requires-2
+    mul-k
+    slice-relend-prefix-run-exact
+    slice-aggregate-run-exact
+    slice-relend-prefix-run-exact-2
+    slice-aggregate-run-exact-2
+    run-exact-requires
+    same-length
+    same-length-2
+    returns)

@@ -1,0 +1,80 @@
+// The run after both checks: the cells are cleared, the root pair is applied, its marks are counted.
+ghost use mathlib.Core.Path.{_≡_};
+ghost use Rattle.judge.specs.State.{caseOf, Sheets};
+ghost use Rattle.judge.specs.Whole.{Exact, Roomy, leftBy, judgedOf};
+use crate::cycle::Verdict;
+use crate::cycle::apply;
+use areas::clear;
+use areas::marked_of;
+use rulesheet::form::RuleForm;
+use sheet::record::RecordForm;
+use sheet::record::RecordRow;
+use sheet::record::RuleRow;
+use sheet::record::children_of;
+use sheet::record::wide;
+
+// In areas of exactly as many places as there are pairs.
+fn run_exact<'a>(
+    record: &'a [u32],
+    text: &'a [u8],
+    rules: &'a [u32],
+    rule_text: &'a [u8],
+    cells: &mut [u8],
+    list: &mut [u32],
+    form: RecordForm,
+    rule_form: RuleForm,
+) -> Verdict
+    requires { ⌜ Sheets (now «record») (now text) (now rules) (now «rule_text») form «rule_form» ⌝ }
+    requires { ⌜ Exact (caseOf (now «record») (now text) (now rules) (now «rule_text»)) (now cells) (now list) ⌝ }
+    ensures { λ r. ⌜ leftBy r (now (cells .exit)) (now (list .exit)) ≡ judgedOf (caseOf (now («record» .entry)) (now (text .entry)) (now (rules .entry)) (now («rule_text» .entry))) (now (cells .entry)) (now (list .entry)) ⌝ }
+{
+    clear(cells);
+    let d = apply(
+        record,
+        text,
+        rules,
+        rule_text,
+        cells,
+        list,
+        form,
+        rule_form,
+        0,
+        RecordRow(0),
+        RuleRow(0),
+    );
+    let kids = children_of(record, form, RecordRow(0));
+    let marked = marked_of(cells, wide(rule_form.m), wide(kids.first), wide(kids.count));
+    Verdict {
+        ok: d.ok,
+        count: d.count,
+        marked: marked,
+    }
+}
+
+// In areas of as many places or more, of which the first are used.
+pub fn run<'a>(
+    record: &'a [u32],
+    text: &'a [u8],
+    rules: &'a [u32],
+    rule_text: &'a [u8],
+    cells: &mut [u8],
+    list: &mut [u32],
+    form: RecordForm,
+    rule_form: RuleForm,
+) -> Verdict
+    requires { ⌜ Sheets (now «record») (now text) (now rules) (now «rule_text») form «rule_form» ⌝ }
+    requires { ⌜ Roomy (caseOf (now «record») (now text) (now rules) (now «rule_text»)) (now cells) (now list) ⌝ }
+    ensures { λ r. ⌜ leftBy r (now (cells .exit)) (now (list .exit)) ≡ judgedOf (caseOf (now («record» .entry)) (now (text .entry)) (now (rules .entry)) (now («rule_text» .entry))) (now (cells .entry)) (now (list .entry)) ⌝ }
+{
+    let k = wide(form.rows) * wide(rule_form.m);
+    run_exact(
+        record,
+        text,
+        rules,
+        rule_text,
+        &mut cells[..k],
+        &mut list[..k],
+        form,
+        rule_form,
+    )
+}

@@ -1,0 +1,290 @@
+-- What the clauses before a clause of the same schema tell it.
+--     names-none, prefix-none          the variants that tell nothing of names, or of elements
+--     started-items, started-additional, started-other     what each variant is told
+--     firstClauses, before-is, before-long, before-part    the first clauses of a schema, by where its clauses start
+--     prefix-more, names-more          one clause more
+--     clauses-few, entries-few         how many clauses and entries there are
+--     entry-same, entry-names, none-names     whether an entry of a list names a row
+--     unnamed-from, unnamed-more, named-here, unnamed-is     and whether a clause does
+-- Assumes nothing.
+use mathlib.Core.Bool.{Bool, true, false, not, _||_, or-assoc}
+use mathlib.Core.List.{List, [], _∷_, _++_, map, map-map, append-nil, append-assoc}
+use mathlib.Core.Path.{_≡_, refl, sym, ap, _∙_}
+use Prim.Native.Nat.{ℕ, zero, suc, _+_, _≤_, _<_}
+use native.Mathlib.Nat.{add-zero}
+use native.Mathlib.Numerals.{add-one}
+use native.Mathlib.Omega.{arith}
+use lib.ListN.{length, take, length-append, length-map}
+use borrow.Author.Tests.{lt-ltb}
+use types.Run.{OneOf, miss}
+use denote.Enum.Declared.{tagOf}
+use Rattle.text.specs.declared.Range.{Range}
+use Rattle.text.specs.Part.{part, sameBytes}
+use Rattle.sheet.specs.Doc.{Doc}
+use Rattle.sheet.specs.declared.record.RuleRow.{RuleRow}
+use Rattle.rulesheet.proofs.clause.Clause.{the-type}
+use Rattle.rulesheet.specs.declared.form.RuleForm.{RuleForm}
+use Rattle.rulesheet.specs.declared.clause.Entries.{Entries}
+use Rattle.rulesheet.specs.declared.clause.Clause.{Clause}
+use Rattle.rulesheet.specs.declared.clause.Clause.the-variants.{Never, Types, Enum, Minimum, Maximum, ExclusiveMinimum, ExclusiveMaximum, MultipleOf}
+use Rattle.rulesheet.specs.declared.clause.Clause.the-variants.{MinLength, MaxLength, MinItems, MaxItems, MinProperties, MaxProperties, Required}
+use Rattle.rulesheet.specs.declared.clause.Clause.the-variants.{AllOf, AnyOf, OneOf as Exactly, Not, Ref, Properties, AdditionalProperties, PrefixItems, Items, UnevaluatedProperties, UnevaluatedItems}
+use Rattle.rulesheet.specs.Ruleset as R
+use Rattle.rulesheet.specs.Ruleset.{Reach, properties, additionalProperties, prefixItems, items, unevaluatedProperties, unevaluatedItems, asserts, inPlace, takes}
+use Rattle.rulesheet.specs.Codes.{entryName, entryMember}
+use Rattle.rulesheet.specs.Sheet.{schemasWord, schemaAt, entryAt, run, clauseOf, rulesOf}
+use Rattle.rulesheet.specs.Faults.{parts-max}
+use Rattle.rulesheet.specs.Clauses.{entriesOf, membersIn, clauseMeans, EntryNameRead}
+use Rattle.rulesheet.specs.Read.{RulesLaid}
+use Rattle.rulesheet.proofs.Trailers.{facts, form-m, form-c, form-e}
+use Rattle.rulesheet.proofs.Taking.{schema-within}
+use Rattle.rulesheet.proofs.Reaching.{run-long, item-is}
+use Rattle.meaning.specs.Lists.{any, concatMap}
+use Rattle.meaning.specs.Rules.{Pair, none?, namesOf, prefixOf, called}
+use Rattle.clause.proofs.Having.{never-not}
+use Rattle.clause.proofs.Listing.{any-found, entry-found, entry-nowhere}
+use Rattle.steps.specs.Plan.{unnamed}
+use Rattle.steps.specs.Read.{beforeIn, namedBy, Started}
+
+-- ---- by the variant that was read
+
+-- the clause c of the variant at place `tag`: only `Properties` (20) names members and only `PrefixItems` (22) speaks of elements; only
+-- `AdditionalProperties` (21) and `Items` (23) are told of them
+record Told (tag : ℕ) (c : R.Clause) : Type 0 where
+  no-names : (tag ≡ 20 → ⊥) → namesOf c ≡ []
+  no-additional : (tag ≡ 21 → ⊥) → (s : ℕ) → c ≡ takes (additionalProperties s) → true ≡ false
+  no-prefix : (tag ≡ 22 → ⊥) → prefixOf c ≡ []
+  no-items : (tag ≡ 23 → ⊥) → (s : ℕ) → c ≡ takes (items s) → true ≡ false
+
+told-test : (tag : ℕ) (t : R.Test) → Told tag (asserts t)
+unfolding namesOf prefixOf
+told-test tag t = record { no-names = λ n. refl; no-additional = λ n s e. cc; no-prefix = λ n. refl; no-items = λ n s e. cc }
+
+told-here : (tag : ℕ) (m : R.Mode) (ss : List ℕ) → Told tag (inPlace m ss)
+unfolding namesOf prefixOf
+told-here tag m ss = record { no-names = λ n. refl; no-additional = λ n s e. cc; no-prefix = λ n. refl; no-items = λ n s e. cc }
+
+abbrev place : Reach → ℕ
+place (properties es) = 20
+place (additionalProperties s) = 21
+place (prefixItems ss) = 22
+place (items s) = 23
+place (unevaluatedProperties s) = 24
+place (unevaluatedItems s) = 25
+
+told-child : (c : Reach) → Told (place c) (takes c)
+unfolding namesOf prefixOf
+told-child (properties es) = record { no-names = λ n. absurd (n refl); no-additional = λ n s e. cc; no-prefix = λ n. refl; no-items = λ n s e. cc }
+told-child (additionalProperties s) = record { no-names = λ n. refl; no-additional = λ n s e. absurd (n refl); no-prefix = λ n. refl; no-items = λ n s e. cc }
+told-child (prefixItems ss) = record { no-names = λ n. refl; no-additional = λ n s e. cc; no-prefix = λ n. absurd (n refl); no-items = λ n s e. cc }
+told-child (items s) = record { no-names = λ n. refl; no-additional = λ n s e. cc; no-prefix = λ n. refl; no-items = λ n s e. absurd (n refl) }
+told-child (unevaluatedProperties s) = record { no-names = λ n. refl; no-additional = λ n s e. cc; no-prefix = λ n. refl; no-items = λ n s e. cc }
+told-child (unevaluatedItems s) = record { no-names = λ n. refl; no-additional = λ n s e. cc; no-prefix = λ n. refl; no-items = λ n s e. cc }
+
+told : (rs us : List ℕ) (clause : Clause) → Told (tagOf the-type clause) (clauseMeans rs us clause)
+told rs us Never = told-test _ _
+told rs us (Types mask) = told-test _ _
+told rs us (Enum es) = told-test _ _
+told rs us (Minimum d) = told-test _ _
+told rs us (Maximum d) = told-test _ _
+told rs us (ExclusiveMinimum d) = told-test _ _
+told rs us (ExclusiveMaximum d) = told-test _ _
+told rs us (MultipleOf d) = told-test _ _
+told rs us (MinLength n) = told-test _ _
+told rs us (MaxLength n) = told-test _ _
+told rs us (MinItems n) = told-test _ _
+told rs us (MaxItems n) = told-test _ _
+told rs us (MinProperties n) = told-test _ _
+told rs us (MaxProperties n) = told-test _ _
+told rs us (Required es) = told-test _ _
+told rs us (AllOf es) = told-here _ _ _
+told rs us (AnyOf es) = told-here _ _ _
+told rs us (Exactly es) = told-here _ _ _
+told rs us (Not row) = told-here _ _ _
+told rs us (Ref row) = told-here _ _ _
+told rs us (Properties es) = told-child _
+told rs us (AdditionalProperties row) = told-child _
+told rs us (PrefixItems es) = told-child _
+told rs us (Items row) = told-child _
+told rs us (UnevaluatedProperties row) = told-child _
+told rs us (UnevaluatedItems row) = told-child _
+
+-- the places of the variants that apply no schema to children, and of these others
+abbrev places : List ℕ → List ℕ
+places others = 0 ∷ 1 ∷ 2 ∷ 3 ∷ 4 ∷ 5 ∷ 6 ∷ 7 ∷ 8 ∷ 9 ∷ 10 ∷ 11 ∷ 12 ∷ 13 ∷ 14 ∷ 15 ∷ 16 ∷ 17 ∷ 18 ∷ 19 ∷ others
+
+-- a variant at one of the places is at none that they lack
+lacked : (others : List ℕ) (tag x : ℕ) → OneOf (places others) tag → (OneOf (places others) x → ⊥) → tag ≡ x → ⊥
+lacked others tag x k none e = none (rw e at k)
+
+abbrev no-names-at : List ℕ
+no-names-at = 21 ∷ 22 ∷ 23 ∷ 24 ∷ 25 ∷ []
+
+abbrev no-prefix-at : List ℕ
+no-prefix-at = 20 ∷ 21 ∷ 23 ∷ 24 ∷ 25 ∷ []
+
+abbrev not-told-at : List ℕ
+not-told-at = 20 ∷ 22 ∷ 24 ∷ 25 ∷ []
+
+module _ (rs us : List ℕ) (clause : Clause) where
+  -- any but a `properties`
+  pub names-none : OneOf (places no-names-at) (tagOf the-type clause) → namesOf (clauseMeans rs us clause) ≡ []
+  names-none k = told rs us clause .no-names (lacked no-names-at _ 20 k (miss (places no-names-at) 20 tt))
+
+  -- any but a `prefixItems`
+  pub prefix-none : OneOf (places no-prefix-at) (tagOf the-type clause) → prefixOf (clauseMeans rs us clause) ≡ []
+  prefix-none k = told rs us clause .no-prefix (lacked no-prefix-at _ 22 k (miss (places no-prefix-at) 22 tt))
+
+  -- what the clauses before tell it
+  module _ (before : List R.Clause) (r : ℕ) where
+    pub started-items : (row : RuleRow) → clause ≡ Items row → r ≡ length (concatMap prefixOf before) → Started before (clauseMeans rs us clause) r
+    started-items row e is =
+        rw e (record { prefix-is = λ s f. is; within = λ s f. let z : true ≡ false = cc in absurd (never-not z); names-from = λ s f. let z : true ≡ false = cc in absurd (never-not z) })
+
+    pub started-additional : (row : RuleRow) → clause ≡ AdditionalProperties row → r ≤ length before → concatMap namesOf (take r before) ≡ [] → Started before (clauseMeans rs us clause) r
+    started-additional row e few none =
+        rw e (record { prefix-is = λ s f. let z : true ≡ false = cc in absurd (never-not z); within = λ s f. few; names-from = λ s f. none })
+
+    -- any other
+    pub started-other : OneOf (places not-told-at) (tagOf the-type clause) → Started before (clauseMeans rs us clause) r
+    started-other k =
+        let t = told rs us clause in
+        record {
+          prefix-is = λ s f. absurd (never-not (t .no-items (lacked not-told-at _ 23 k (miss (places not-told-at) 23 tt)) s f));
+          within = λ s f. absurd (never-not (t .no-additional (lacked not-told-at _ 21 k (miss (places not-told-at) 21 tt)) s f));
+          names-from = λ s f. absurd (never-not (t .no-additional (lacked not-told-at _ 21 k (miss (places not-told-at) 21 tt)) s f));
+        }
+
+-- ---- the first clauses of a schema
+
+-- the k clauses from `first` on
+abbrev pub firstClauses : List ℕ → List ℕ → ℕ → ℕ → List R.Clause
+firstClauses rs us first k = map (clauseOf rs us) (run k first)
+
+take-run : {B : Type 0} (g : ℕ → B) (i n a : ℕ) → i ≤ n → take i (map g (run n a)) ≡ map g (run i a)
+unfolding run
+take-run g zero n a h = refl
+take-run g (suc i) zero a h = absurd (omega arith)
+take-run g (suc i) (suc n) a h = ap (λ l. g a ∷ l) (take-run g i n (a + 1) (omega arith))
+
+-- what one clause more adds
+module _ {A B : Type 0} (f : A → List B) (g : ℕ → A) where
+  concat-last : (k a : ℕ) → concatMap f (map g (run (suc k) a)) ≡ concatMap f (map g (run k a)) ++ f (g (a + k))
+  unfolding concatMap run
+  concat-last zero a = rw (add-zero, append-nil)
+  concat-last (suc k) a =
+      let e : (a + 1) + k ≡ a + suc k = omega arith in
+      ap (λ l. f (g a) ++ l) (concat-last k (a + 1))
+      ∙ sym (append-assoc (f (g a)) (concatMap f (map g (run k (a + 1)))) (f (g ((a + 1) + k))))
+      ∙ ap (λ (n : ℕ). (f (g a) ++ concatMap f (map g (run k (a + 1)))) ++ f (g n)) e
+
+  concat-more : (k a : ℕ) → concatMap f (map g (run (k + 1) a)) ≡ concatMap f (map g (run k a)) ++ f (g (a + k))
+  concat-more k a = rw add-one (concat-last k a)
+
+-- clause k was read
+module _ (rs us : List ℕ) (first k : ℕ) (c : R.Clause) (read : c ≡ clauseOf rs us (first + k)) where
+  clause-more : {B : Type 0} (f : R.Clause → List B) → concatMap f (firstClauses rs us first (k + 1)) ≡ concatMap f (firstClauses rs us first k) ++ f c
+  clause-more f = rw read (concat-more f (clauseOf rs us) k first)
+
+  pub prefix-more : (n r : ℕ) → n ≡ length (concatMap prefixOf (firstClauses rs us first k)) → r ≡ length (prefixOf c)
+      → n + r ≡ length (concatMap prefixOf (firstClauses rs us first (k + 1)))
+  prefix-more n r e is =
+      rw (e, is) (sym (ap length (clause-more prefixOf) ∙ length-append (concatMap prefixOf (firstClauses rs us first k)) (prefixOf c)))
+
+  pub names-more : concatMap namesOf (firstClauses rs us first k) ≡ [] → namesOf c ≡ [] → concatMap namesOf (firstClauses rs us first (k + 1)) ≡ []
+  names-more none here = clause-more namesOf ∙ rw (none, here)
+
+-- the first i clauses of schema s, which start at `first`, are asked for
+abbrev Asked : List ℕ → RuleForm → ℕ → ℕ → ℕ → Type 0
+Asked rs form s first i = RulesLaid rs form × (s < form .m) × (first ≡ schemaAt rs s .first) × (i ≤ schemaAt rs s .count)
+
+module _ {rs : List ℕ} {form : RuleForm} (s first i : ℕ) (asked : Asked rs form s first i) where
+  pub before-is : (us : List ℕ) (k : ℕ) → k ≡ i → firstClauses rs us first k ≡ beforeIn rs us s i
+  unfolding rulesOf
+  before-is us k e =
+      let in-sheet : s < schemasWord rs = omega (arith, form-m rs form (asked .0 .clauses-laid .schemas-laid .formed)) in
+      rw (e, lt-ltb s (schemasWord rs) in-sheet, asked .2) (sym (take-run (clauseOf rs us) i (schemaAt rs s .count) (schemaAt rs s .first) (asked .3)))
+
+  pub before-long : (us : List ℕ) → length (beforeIn rs us s i) ≡ i
+  before-long us = ap length (sym (before-is us i refl)) ∙ simp (length-map, run-long)
+
+  pub before-part : (us : List ℕ) (k : ℕ) → k ≤ i → take k (beforeIn rs us s i) ≡ firstClauses rs us first k
+  before-part us k h = ap (take k) (sym (before-is us i refl)) ∙ take-run (clauseOf rs us) k i first h
+
+  -- they are clauses of the sheet, of which there are few
+  pub clauses-few : (first + i ≤ form .c) × (form .c ≤ parts-max)
+  clauses-few =
+      let laid = asked .0 .clauses-laid .schemas-laid in
+      let few = facts rs form (laid .formed) .few-clauses in
+      let within = schema-within rs form laid s (asked .1) in
+      let e = form-c rs form (laid .formed) in
+      (omega arith, omega arith)
+
+pub entries-few : {rs : List ℕ} {form : RuleForm} → RulesLaid rs form → form .e ≤ parts-max
+entries-few {rs} {form} laid =
+    let formed = laid .clauses-laid .schemas-laid .formed in
+    omega (arith, form-e rs form formed, facts rs form formed .few-entries)
+
+-- ---- a row by name
+
+-- the name of entry i was read, and the bytes x compared with it
+pub entry-same : {ws : List ℕ} {list : Entries} {i : ℕ} {name : Range} → EntryNameRead ws list i name → (ts x : List ℕ) (r : Bool) → i < list .count
+    → r ≡ sameBytes x (part ts name) → r ≡ sameBytes x (entryName ts (entryAt ws (list .first + i)))
+entry-same {ws} {list} {i} read ts x r h is =
+    is ∙ ap (sameBytes x) (read .name-is ts ∙ item-is ws (entryName ts) (list .count) (list .first) i [] h)
+
+module _ (d : Doc) (j : ℕ) (ws ts : List ℕ) (list : Entries) where
+  -- one of the members is named as row j is
+  abbrev namedHere : Bool
+  namedHere = namedBy d (map (λ (m : List ℕ × ℕ). m .0) (membersIn ws ts list)) j
+
+  by-names : namedHere ≡ any (map (λ n. called d n j) (map (entryName ts) (entriesOf ws list)))
+  by-names = ap (λ (l : List (List ℕ)). any (map (λ n. called d n j) l)) (map-map (λ (m : List ℕ × ℕ). m .0) (entryMember ts) (entriesOf ws list))
+
+  pub entry-names : (i : ℕ) → i < list .count → called d (entryName ts (entryAt ws (list .first + i))) j ≡ true → namedHere ≡ true
+  entry-names i h t = by-names ∙ entry-found ws list (λ n. called d n j) (entryName ts) i h t
+
+  pub none-names : ((i : ℕ) → i < list .count → called d (entryName ts (entryAt ws (list .first + i))) j ≡ false) → namedHere ≡ false
+  none-names none = by-names ∙ entry-nowhere ws list (λ n. called d n j) (entryName ts) none
+
+module _ (d : Doc) (j : ℕ) where
+  named-append : (xs ys : List (List ℕ)) → namedBy d (xs ++ ys) j ≡ (namedBy d xs j || namedBy d ys j)
+  unfolding any
+  named-append [] ys = refl
+  named-append (x ∷ xs) ys = rw (named-append xs ys) (sym (or-assoc (called d x j) (namedBy d xs j) (namedBy d ys j)))
+
+  module _ (rs us : List ℕ) where
+    -- clause by clause
+    by-clauses : (k a : ℕ) → namedBy d (concatMap namesOf (firstClauses rs us a k)) j ≡ any (map (λ x. namedBy d (namesOf (clauseOf rs us x)) j) (run k a))
+    unfolding any concatMap run
+    by-clauses zero a = refl
+    by-clauses (suc k) a =
+        named-append (namesOf (clauseOf rs us a)) (concatMap namesOf (firstClauses rs us (a + 1) k))
+        ∙ ap (λ (b : Bool). namedBy d (namesOf (clauseOf rs us a)) j || b) (by-clauses k (a + 1))
+
+    -- clause k was read, and tested
+    module _ (first k : ℕ) (c : R.Clause) (read : c ≡ clauseOf rs us (first + k)) (r : Bool) (is : r ≡ namedBy d (namesOf c) j) where
+      pub unnamed-more : namedBy d (concatMap namesOf (firstClauses rs us first k)) j ≡ false → r ≡ false
+          → namedBy d (concatMap namesOf (firstClauses rs us first (k + 1))) j ≡ false
+      unnamed-more none here =
+          ap (λ (names : List (List ℕ)). namedBy d names j) (clause-more rs us first k c read namesOf)
+          ∙ named-append (concatMap namesOf (firstClauses rs us first k)) (namesOf c)
+          ∙ rw (none, ← is, here)
+
+      pub named-here : (i : ℕ) → k < i → r ≡ true → namedBy d (concatMap namesOf (firstClauses rs us first i)) j ≡ true
+      named-here i h t =
+          by-clauses i first
+          ∙ any-found (λ x. namedBy d (namesOf (clauseOf rs us x)) j) i first (first + k) (omega arith) (omega arith) (rw (← read, ← is) t)
+
+  module _ {rs : List ℕ} {form : RuleForm} (s first i : ℕ) (asked : Asked rs form s first i) (us : List ℕ) where
+    -- the clauses before `from` name nothing
+    pub unnamed-from : (from : ℕ) → from ≤ i → concatMap namesOf (take from (beforeIn rs us s i)) ≡ []
+        → namedBy d (concatMap namesOf (firstClauses rs us first from)) j ≡ false
+    unfolding any
+    unnamed-from from h none = rw (← before-part s first i asked us from h, none)
+
+    -- what is found of the first i clauses is found of those before clause i
+    pub unnamed-is : (b : Bool) → namedBy d (concatMap namesOf (firstClauses rs us first i)) j ≡ b → (p : Pair) → not b ≡ unnamed d p (beforeIn rs us s i) j
+    unfolding unnamed none?
+    unnamed-is b e p =
+        sym (ap (λ (cs : List R.Clause). not (namedBy d (concatMap namesOf cs) j)) (sym (before-is s first i asked us i refl)) ∙ ap not e)

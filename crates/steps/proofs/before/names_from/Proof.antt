@@ -1,0 +1,64 @@
+-- `names_from` meets its contract: the clauses passed name nothing. Assumes nothing.
+use mathlib.Core.List.{List, []}
+use mathlib.Core.Path.{_≡_, refl, ap, _∙_}
+use Prim.Native.Nat.{ℕ, _-_, _≤_}
+use native.Mathlib.Omega.{arith}
+use borrow.Author.Needs.{needs}
+use Rattle.rulesheet.specs.Sheet.{run}
+use Rattle.meaning.specs.Lists.{concatMap}
+use Rattle.meaning.specs.Rules.{namesOf}
+use Rattle.steps.proofs.Earlier.{firstClauses, names-more, before-part, clauses-few}
+use Rattle.steps.proofs.before.names_from.Statement.{statement}
+use Rattle.steps.proofs.before.names_from.Tie as tie
+
+abbrev Inv-loop : tie.InvT-loop
+Inv-loop rules form first i k₀ k = (k ≤ i) × ((us : List ℕ) → concatMap namesOf (firstClauses rules us first k) ≡ [])
+
+abbrev μ-loop : tie.MeasureT-loop
+μ-loop rules form first i k₀ k = i - k
+
+loop-holds : tie.Need-loop-holds Inv-loop μ-loop
+unfolding concatMap run
+loop-holds c = (omega arith, λ us. refl)
+
+add-clause-of : tie.Need-add-clause-of Inv-loop μ-loop
+add-clause-of c = omega (arith, clauses-few _ _ _ (c .before .before .before .pre))
+
+clause-of-requires : tie.Need-clause-of-requires Inv-loop μ-loop
+clause-of-requires c κs = (c .before .before .before .pre .0 .clauses-laid .schemas-laid .formed, omega (arith, clauses-few _ _ _ (c .before .before .before .pre)))
+
+has-names-requires : tie.Need-has-names-requires Inv-loop μ-loop
+has-names-requires c κs = tt
+
+returns : tie.Need-returns Inv-loop μ-loop
+returns c = (λ us. ap (concatMap namesOf) (before-part _ _ _ (c .before .before .before .before .before .before .pre) us (c .before .before .before .before .loop .k) (omega arith)) ∙ c .before .before .before .before .loop .inv .1 us, omega arith)
+
+add-k : tie.Need-add-k Inv-loop μ-loop
+add-k c = search needs
+
+loop-less : tie.Need-loop-less Inv-loop μ-loop
+loop-less c = search needs
+
+loop-again : tie.Need-loop-again Inv-loop μ-loop
+loop-again c =
+    let start = c .before .before .before .before .before .before in
+    (omega arith, λ us. names-more (start .args .rules .now) us (start .args .first) (c .before .before .before .before .loop .k) _ (c .before .before .clause-of .ensures .0 us) (c .before .before .before .before .loop .inv .1 us) (c .before .has-names .ensures (c .if1 .left) (start .args .rules .now) us))
+
+returns-2 : tie.Need-returns-2 Inv-loop μ-loop
+returns-2 c = (λ us. ap (concatMap namesOf) (before-part _ _ _ (c .before .before .before .pre) us (c .before .loop .k) (omega arith)) ∙ c .before .loop .inv .1 us, omega arith)
+
+pub names-from-spec : {M : Type 1} → statement M
+names-from-spec =
+    tie.close
+    (tie.spec
+    Inv-loop
+    μ-loop
+    loop-holds
+    add-clause-of
+    clause-of-requires
+    has-names-requires
+    returns
+    add-k
+    loop-less
+    loop-again
+    returns-2)
