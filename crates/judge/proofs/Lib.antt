@@ -5,3 +5,4 @@ pub mod Claused
 pub mod Whole
 pub mod Reading
 pub mod Calls
+pub mod Outcomes
