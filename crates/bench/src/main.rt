@@ -4,6 +4,7 @@
 // trailer of 16 bytes: the four parts' lengths in bytes, as such words.
 ghost use Prim.Native.Nat.{_+_, _*_, _^_, _≤_, _<_};
 ghost use lib.ListN.{length};
+use judge::answer::Answer;
 use libc::STDIN_FILENO;
 use libc::STDOUT_FILENO;
 use sheet::refusal::Checked;
@@ -11,6 +12,11 @@ use sheet::refusal::Checked;
 const BUNDLE_MAX: usize = 65_536;
 
 const TRAILER: usize = 16;
+
+// The most rows and the most schemas that are judged here.
+const SIDE_MAX: u64 = 128;
+
+const AREA: usize = 16_384;
 
 fn main() {
     let mut space = [0u8; BUNDLE_MAX + 1];
@@ -34,10 +40,7 @@ fn judge_bundle(bundle: &[u8]) {
     if a + b + c + d + TRAILER != size {
         return bad_bundle();
     }
-    if a % 4 != 0 {
-        return bad_bundle();
-    }
-    if c % 4 != 0 {
+    if (a % 4 != 0) | (c % 4 != 0) {
         return bad_bundle();
     }
     let rules = a + b;
@@ -55,41 +58,84 @@ fn bad_bundle() {
     io::write_all(STDOUT_FILENO, b"bad bundle\n");
 }
 
-// Writes what the checks of the two sheets give.
-fn judge_parts(record: &[u8], record_text: &[u8], rules: &[u8], rule_text: &[u8])
+// Reads the words of the two sheets, and judges.
+fn judge_parts<'a>(record: &[u8], record_text: &'a [u8], rules: &[u8], rule_text: &'a [u8])
     requires { ⌜ (length (now «record») ≤ 65536) × (length (now rules) ≤ 65536) ⌝ }
 {
-    let rows = checked_record(record, record_text);
-    if rows == 0 {
-        return;
-    }
-    let schemas = checked_rules(rules, rule_text);
-    if schemas == 0 {
-        return;
-    }
-    io::write_all(STDOUT_FILENO, b"rows ");
-    io::print_decimal(STDOUT_FILENO, rows);
-    say_number(b" schemas ", schemas);
+    let mut record_words = [0u32; BUNDLE_MAX / 4];
+    let mut rule_words = [0u32; BUNDLE_MAX / 4];
+    let a = record.len() / 4;
+    let c = rules.len() / 4;
+    read_words(record, &mut record_words, a);
+    read_words(rules, &mut rule_words, c);
+    judge_words(&record_words[..a], record_text, &rule_words[..c], rule_text);
 }
 
-// The number of rows, or 0 where the sheet is refused, which is then written.
-fn checked_record(bytes: &[u8], text: &[u8]) -> u64
-    requires { ⌜ length (now bytes) ≤ 65536 ⌝ }
-{
-    let mut space = [0u32; BUNDLE_MAX / 4];
-    let count = bytes.len() / 4;
-    read_words(bytes, &mut space, count);
-    accepted(sheet::check_record(&space[..count], text))
+// Writes the refusal of a sheet, that the sheets are too large, or the verdict and the settled pairs.
+fn judge_words<'a>(record: &'a [u32], text: &'a [u8], rules: &'a [u32], rule_text: &'a [u8]) {
+    let n = accepted(sheet::check_record(record, text));
+    if n == 0 {
+        return;
+    }
+    let m = accepted(rules::check_rules(rules, rule_text));
+    if m == 0 {
+        return;
+    }
+    if (SIDE_MAX < n) | (SIDE_MAX < m) {
+        return too_large();
+    }
+    let mut cells = [0u8; AREA];
+    let mut list = [0u32; AREA];
+    match judge::judge(record, text, rules, rule_text, &mut cells, &mut list) {
+        Answer::Valid(count, marked) => say_judged(b"valid\n", &cells, &list, m, count, marked),
+        Answer::Invalid(count, marked) => say_judged(b"invalid\n", &cells, &list, m, count, marked),
+        Answer::Refused(refusal, place) => say_refused(refusal.number() as u64, place as u64),
+    }
 }
 
-// The number of schemas, likewise.
-fn checked_rules(bytes: &[u8], text: &[u8]) -> u64
-    requires { ⌜ length (now bytes) ≤ 65536 ⌝ }
+fn too_large() {
+    io::write_all(STDOUT_FILENO, b"too large\n");
+}
+
+// Writes the verdict, how many pairs were settled and how many children of the root are marked, and
+// then each settled pair.
+fn say_judged(verdict: &[u8], cells: &[u8], list: &[u32], m: u64, count: usize, marked: usize)
+    requires { ⌜ 0 < m ⌝ }
 {
-    let mut space = [0u32; BUNDLE_MAX / 4];
-    let count = bytes.len() / 4;
-    read_words(bytes, &mut space, count);
-    accepted(rules::check_rules(&space[..count], text))
+    io::write_all(STDOUT_FILENO, verdict);
+    io::write_all(STDOUT_FILENO, b"pairs ");
+    io::print_decimal(STDOUT_FILENO, count as u64);
+    say_number(b" marked ", marked as u64);
+    let mut i = 0;
+    while i < count {
+        if i < list.len() {
+            say_pair(cells, list[i], m);
+        }
+        i += 1;
+    }
+}
+
+// Writes a pair's row, its schema, and whether it held.
+fn say_pair(cells: &[u8], word: u32, m: u64)
+    requires { ⌜ 0 < m ⌝ }
+{
+    let pair = word as u64;
+    io::print_decimal(STDOUT_FILENO, pair / m);
+    io::write_all(STDOUT_FILENO, b" ");
+    io::print_decimal(STDOUT_FILENO, pair % m);
+    if held(cells, word as usize) {
+        io::write_all(STDOUT_FILENO, b" held\n");
+    } else {
+        io::write_all(STDOUT_FILENO, b" failed\n");
+    }
+}
+
+// Whether the pair of this cell held.
+fn held(cells: &[u8], at: usize) -> bool {
+    if at < cells.len() {
+        return cells[at] % 4 == 1;
+    }
+    false
 }
 
 // The number that a check accepted, or 0 after the line that says what it refused.

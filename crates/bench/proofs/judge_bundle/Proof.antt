@@ -1,13 +1,21 @@
 -- `judge_bundle` stays within the bundle: its lengths add up where its parts are taken. Assumes nothing.
 use native.Mathlib.Omega.{arith}
 use mathlib.Core.Path.{sym}
+use mathlib.Core.List.{List}
 use native.Mathlib.Nat.{min-le-right}
-use lib.ListN.{length, length-take, length-drop}
+use lib.ListN.{length, take, drop, length-take, length-drop}
 use lib.Seq.{length-take-le}
-use Prim.Native.Nat.{_+_, _-_}
+use Prim.Native.Nat.{ℕ, _+_, _-_, _≤_}
 use borrow.Author.Needs.{needs}
 use Rattle.bench.proofs.judge_bundle.Statement.{statement}
 use Rattle.bench.proofs.judge_bundle.Tie as tie
+
+-- a part of a bundle is no longer than bundles may be
+first-within : (k : ℕ) → (xs : List ℕ) → length xs ≤ 65536 → length (take k xs) ≤ 65536
+first-within k xs within = rw (length-take k xs) (omega (arith, min-le-right k (length xs)))
+
+part-within : (k j : ℕ) → (xs : List ℕ) → length xs ≤ 65536 → length (take k (drop j xs)) ≤ 65536
+part-within k j xs within = first-within k (drop j xs) (rw (length-drop j xs) (omega arith))
 
 bad-bundle-requires : tie.Need-bad-bundle-requires
 bad-bundle-requires c κs = search needs
@@ -66,12 +74,6 @@ bad-bundle-requires-4 c κs = search needs
 returns-4 : tie.Need-returns-4
 returns-4 c = search needs
 
-bad-bundle-requires-5 : tie.Need-bad-bundle-requires-5
-bad-bundle-requires-5 c κs = search needs
-
-returns-5 : tie.Need-returns-5
-returns-5 c = search needs
-
 add-rules : tie.Need-add-rules
 add-rules c = search needs
 
@@ -112,10 +114,15 @@ part-judge-parts-end-3 : tie.Need-part-judge-parts-end-3
 part-judge-parts-end-3 c = search needs
 
 judge-parts-requires : tie.Need-judge-parts-requires
-judge-parts-requires c κs = (rw (length-take-le (c .before .before .before .before .before .before .before .before .before .before .number-at .result) (c .before .before .before .before .before .before .before .before .before .before .before .before .before .before .args .bundle .now) (omega arith)) (omega arith), simp (length-take, length-drop) (omega (arith, min-le-right ((c .before .before .before .before .before .before .before .before .before .before .number-at .result + c .before .before .before .before .before .before .before .before .before .number-at2 .result + c .before .before .before .before .before .before .before .before .number-at3 .result) - (c .before .before .before .before .before .before .before .before .before .before .number-at .result + c .before .before .before .before .before .before .before .before .before .number-at2 .result)) (length (c .before .before .before .before .before .before .before .before .before .before .before .before .before .before .args .bundle .now) - (c .before .before .before .before .before .before .before .before .before .before .number-at .result + c .before .before .before .before .before .before .before .before .before .number-at2 .result)))))
+judge-parts-requires c κs =
+    let words = c .before .before .before .before .before .before .before .before .before .number-at .result in
+    let text = c .before .before .before .before .before .before .before .before .number-at2 .result in
+    let rules = c .before .before .before .before .before .before .before .number-at3 .result in
+    let bundle = c .before .before .before .before .before .before .before .before .before .before .before .before .before .args .bundle .now in
+    (first-within words bundle (omega arith), part-within ((words + text + rules) - (words + text)) (words + text) bundle (omega arith))
 
-returns-6 : tie.Need-returns-6
-returns-6 c = search needs
+returns-5 : tie.Need-returns-5
+returns-5 c = search needs
 
 pub judge-bundle-spec : {M : Type 1} → statement M
 judge-bundle-spec =
@@ -140,8 +147,6 @@ judge-bundle-spec =
     returns-3
     bad-bundle-requires-4
     returns-4
-    bad-bundle-requires-5
-    returns-5
     add-rules
     add-rule-text
     add-end
@@ -156,4 +161,4 @@ judge-bundle-spec =
     part-judge-parts-start-3
     part-judge-parts-end-3
     judge-parts-requires
-    returns-6)
+    returns-5)
