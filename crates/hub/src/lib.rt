@@ -1,0 +1,39 @@
+// The entry for the hub's host program, which is written in C: judging, its answer as one number.
+//
+// `include/amphorust.h` says the same to a C programmer. The contracts cite `specs/Entry.antt`.
+ghost use mathlib.Core.Path.{_≡_};
+ghost use Prim.Native.Nat.{_<_, _^_};
+ghost use Rattle.meaning.specs.Answer.{numberOf};
+ghost use Rattle.judge.specs.Call.{answerOf};
+ghost use Rattle.hub.specs.Entry.{Called, counted};
+use judge::answer::Answer;
+
+// Judges a record by rules, whatever the words, texts and areas. The number's lowest byte is 0 for
+// valid, 1 for invalid, and 10 more than the refusal's number for refused; what stands above it is
+// the number of settled pairs or, of a refusal, the place.
+#[no_mangle]
+pub extern "C" fn amphorust_judge<'a>(
+    record: &'a [u32],
+    record_text: &'a [u8],
+    rules: &'a [u32],
+    rule_text: &'a [u8],
+    cells: &mut [u8],
+    list: &mut [u32],
+) -> u64
+    ensures { λ r. ⌜ Called (now («record» .entry)) (now («record_text» .entry)) (now (rules .entry)) (now («rule_text» .entry)) (now (cells .entry)) (now (list .entry)) (now (cells .exit)) (now (list .exit)) r ⌝ }
+{
+    let answer = judge::judge(record, record_text, rules, rule_text, cells, list);
+    number_of(answer)
+}
+
+// The number of an answer whose count fits a word, as that of every call does.
+fn number_of(answer: Answer) -> u64
+    requires { ⌜ counted (answerOf answer) < 2 ^ 32 ⌝ }
+    ensures { λ r. ⌜ r ≡ numberOf (answerOf answer) ⌝ }
+{
+    match answer {
+        Answer::Valid(count, _) => (count as u64) * 256,
+        Answer::Invalid(count, _) => (count as u64) * 256 + 1,
+        Answer::Refused(refusal, place) => (place as u64) * 256 + (10 + refusal.number() as u64),
+    }
+}
