@@ -1,0 +1,206 @@
+/* amphorust.h: judges a record by rules, JSON Schema (Draft 2020-12) as sheets of words.
+ *
+ * One call, `amphorust_judge`, takes a record sheet and a rule sheet, each an array of 32-bit words with
+ * its text in bytes, and two areas that it writes: the cells and the settling list. It answers by one
+ * 64-bit number, for every input whatever; what it gives and leaves is proved, for all of them.
+ *
+ * Link with libhub.a (`rt staticlib hub` writes it to target/staticlib/) and the C library. x86-64 only.
+ * `examples/host.c` is a whole host program.
+ */
+#ifndef AMPHORUST_H
+#define AMPHORUST_H
+
+#include <stddef.h>
+#include <stdint.h>
+
+#ifdef __cplusplus
+extern "C" {
+#endif
+
+/* Judges a record by rules.
+ *
+ * Each array is a pointer and then its length in elements: words of 4 bytes, or bytes. Any contents and
+ * any lengths may be passed; a sheet that is not in order is refused, never followed out of its array.
+ *   - An array of length 0 may have a null pointer.
+ *   - Arrays of words stand at addresses divisible by 4.
+ *   - `cells` and `list` overlap no other array. The four that are only read may overlap each other.
+ *   - Nothing else writes any of the six while the call runs.
+ *
+ * The areas need rows x schemas places each (`amphorust_room` reads that from the two sheets), at most
+ * AMPHORUST_ROOM_MAX; longer ones are fine. What they held before does not matter.
+ *
+ * The call keeps no state, allocates nothing, ends on every input, and may run in several threads at
+ * once, each with its own areas. It recurses over the record's levels and the rules' references: give a
+ * thread that calls it a stack of AMPHORUST_STACK bytes, besides what the thread needs itself. */
+uint64_t amphorust_judge(const uint32_t *record, size_t record_length,
+                         const uint8_t *record_text, size_t record_text_length,
+                         const uint32_t *rules, size_t rules_length,
+                         const uint8_t *rule_text, size_t rule_text_length,
+                         uint8_t *cells, size_t cells_length,
+                         uint32_t *list, size_t list_length);
+
+#define AMPHORUST_ROOM_MAX 1048576 /* 1,024 rows x 1,024 schemas */
+#define AMPHORUST_STACK 1048576    /* measured at the deepest recursion: 900,000 bytes */
+
+/* ---- The answer
+ *
+ * The lowest byte is 0 for valid, 1 for invalid, and 10 more than the refusal's number for refused.
+ * What stands above it is, for valid and invalid, the number of settled pairs; for refused, the place. */
+
+static inline int amphorust_is_valid(uint64_t answer) { return answer % 256 == 0; }
+
+static inline int amphorust_is_invalid(uint64_t answer) { return answer % 256 == 1; }
+
+static inline int amphorust_is_refused(uint64_t answer) { return answer % 256 > 10; }
+
+/* The settled pairs: how many words of the list the call wrote. A refused call wrote none. */
+static inline size_t amphorust_count(uint64_t answer)
+{
+    return amphorust_is_refused(answer) ? 0 : (size_t)(answer / 256);
+}
+
+/* The refusal's number, 1 to 11; 0 if the call was not refused. */
+static inline unsigned amphorust_refusal(uint64_t answer)
+{
+    return amphorust_is_refused(answer) ? (unsigned)(answer % 256 - 10) : 0;
+}
+
+/* Where the refusal was found, see the table; 0 if the call was not refused. */
+static inline uint32_t amphorust_place(uint64_t answer)
+{
+    return amphorust_is_refused(answer) ? (uint32_t)(answer / 256) : 0;
+}
+
+/* ---- Refusals
+ *
+ * They are tested in this order over whole sheets, and the first that applies is given. A refused call
+ * leaves both areas as they were. Rows, schemas, clauses and entries count from 0; a place in the rules
+ * counts the schemas, then the clauses, then the entries. */
+static inline const char *amphorust_refusal_text(unsigned refusal)
+{
+    switch (refusal) {
+    /* place 0 */
+    case 1: return "the record sheet's trailer is wrong";
+    /* the lowest such row; of 3, the lowest whose name an earlier child has */
+    case 2: return "a record row breaks the layout";
+    case 3: return "two children of an object share a name";
+    case 4: return "a record row is deeper than level 32";
+    /* place 0 */
+    case 5: return "the rule sheet's trailer is wrong";
+    /* the lowest such schema, clause or entry; of 7, the lowest entry that an earlier one equals */
+    case 6: return "a schema, clause or entry breaks the layout";
+    case 7: return "two entries of one required or properties share a name";
+    /* the lowest schema on a loop; the lowest that starts a chain of 33 */
+    case 8: return "a schema reaches itself on the same row";
+    case 9: return "more than 32 schemas reach each other in a chain on the same row";
+    /* rows x schemas */
+    case 10: return "too few cells";
+    case 11: return "too short a list";
+    default: return "not refused";
+    }
+}
+
+/* ---- What is left in the areas, if the call was not refused
+ *
+ * A pair is a record row and a schema; its number is row x schemas + schema. The pairs that judging
+ * came to are settled, each once, after all those that it applies; the root pair (0, 0) is the last.
+ *
+ * The list's first `amphorust_count` words are the numbers of the settled pairs, in settling order. All
+ * other words stay as they were.
+ *
+ * The first rows x schemas cells are all written, cell p for pair number p: AMPHORUST_UNSETTLED,
+ * AMPHORUST_HELD or AMPHORUST_FAILED; plus AMPHORUST_MARKED if the pair of the row's owner and the same
+ * schema was settled and marks (evaluates, in JSON Schema's word) the row. Later cells stay. */
+
+#define AMPHORUST_UNSETTLED 0
+#define AMPHORUST_HELD 1
+#define AMPHORUST_FAILED 2
+#define AMPHORUST_MARKED 4
+
+static inline unsigned amphorust_verdict(uint8_t cell) { return cell % AMPHORUST_MARKED; }
+
+static inline int amphorust_is_marked(uint8_t cell) { return cell >= AMPHORUST_MARKED; }
+
+static inline uint32_t amphorust_pair_row(uint32_t pair, uint32_t schemas) { return pair / schemas; }
+
+static inline uint32_t amphorust_pair_schema(uint32_t pair, uint32_t schemas) { return pair % schemas; }
+
+/* The rows of a record sheet and the schemas of a rule sheet, by their trailers; 0 if the trailer is
+ * missing or says a number out of limits, which the call then refuses. */
+
+static inline uint32_t amphorust_rows(const uint32_t *record, size_t record_length)
+{
+    uint32_t n = record_length < 4 ? 0 : record[record_length - 4];
+    return n > 1024 ? 0 : n;
+}
+
+static inline uint32_t amphorust_schemas(const uint32_t *rules, size_t rules_length)
+{
+    uint32_t m = rules_length < 6 ? 0 : rules[rules_length - 6];
+    return m > 1024 ? 0 : m;
+}
+
+/* How many cells, and how many words of the list, judging these sheets needs. */
+static inline size_t amphorust_room(const uint32_t *record, size_t record_length,
+                                    const uint32_t *rules, size_t rules_length)
+{
+    return (size_t)amphorust_rows(record, record_length) * amphorust_schemas(rules, rules_length);
+}
+
+/* ---- Record sheet
+ *
+ * The trailer is the last 4 words:
+ *     rows n (1 to 1,024), words back from the trailer's first word to row 0 (6n),
+ *     text length in bytes (at most 65,535), kind 1
+ * Words before row 0 change nothing. A row is 6 words:
+ *     kind, first, count, owner, label start, label length
+ *
+ *     kind     value                     first, count
+ *     0, 1, 2  null, false, true         0, 0
+ *     3        number first / 10^count   two's complement, -999,999,999 to 999,999,999; 0 to 9
+ *     4        string                    start and length in the text
+ *     5, 6     array, object             first child row and child count; 0, 0 if empty
+ *
+ * Row 0 is the root, with owner 0 and label 0, 0. The children of a row stand together, after it, and
+ * name it as owner. The label of an object's child is the start and length of its name in the text; all
+ * other labels are 0, 0. The root is level 1, and the deepest level is 32.
+ *
+ * ---- Rule sheet
+ *
+ * The trailer is the last 6 words:
+ *     schemas m (1 to 1,024), clauses c (at most 4,096), entries e (at most 4,096),
+ *     words back from the trailer's first word to schema 0 (2m + 3c + 3e),
+ *     text length in bytes (at most 65,535), kind 2
+ * From schema 0 on: m schemas of 2 words (first clause, clause count), c clauses of 3 words (code, first,
+ * count), e entries of 3 words. Schemas take the clauses in order without gap or rest, and clauses with
+ * a list (first entry, entry count) the entries likewise; an empty schema or list still starts where the
+ * last ended. In a schema the codes rise, so none stands twice. Schema 0 judges the root. Words before
+ * schema 0 change nothing, unused words are 0.
+ *
+ *     code           clause                                        first, count or entries
+ *     1              never holds                                   unused
+ *     2              type                                          first: a sum of null 1, boolean 2, integer 4,
+ *                                                                  number 8, string 16, array 32, object 64
+ *     3              enum                                          entries kind, first, count as in a row, kinds 0 to 4
+ *     10, 11         minimum, maximum                              a number as in kind 3
+ *     12, 13         exclusiveMinimum, exclusiveMaximum            a number
+ *     14             multipleOf                                    a number above 0
+ *     20, 21         minLength, maxLength (in bytes)               first
+ *     22, 23         minItems, maxItems                            first
+ *     24, 25         minProperties, maxProperties                  first
+ *     26             required                                      entries start, length of a name, 0
+ *     30, 31, 32     allOf, anyOf, oneOf                           entries schema, 0, 0
+ *     33, 34         not, $ref                                     first: a schema
+ *     40             properties                                    entries start, length of a name, schema
+ *     42, 44         additionalProperties, items                   first: a schema
+ *     43             prefixItems                                   entries schema, 0, 0
+ *     60, 61         unevaluatedProperties, unevaluatedItems       first: a schema
+ *
+ * Lists of 3, 30, 31, 32 and 43 have at least one entry. Names and strings of the rules stand in the rule
+ * text. A chain of schemas that reach each other by 30 to 34 has at most 32 and no loop. */
+
+#ifdef __cplusplus
+}
+#endif
+
+#endif
