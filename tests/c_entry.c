@@ -1,0 +1,142 @@
+/* Calls the entry for C as tests/c_entry.py says on standard input, and writes on standard output what
+ * came of each call.
+ *
+ *     c_entry          every call on this thread
+ *     c_entry BYTES    each on a thread whose stack has that many bytes, nothing mapped below it
+ *
+ * A call is six lengths in elements (record, record text, rules, rule text, cells, list), ABSENT for a
+ * null pointer and length 0, and then the six arrays. What came of it is the answer, whether it is valid,
+ * invalid and refused, the count, the refusal, the place and the room that the header reads from the
+ * sheets, 64 bits each, and then the cells and the list.
+ *
+ * Each array ends where its last mapped page does. Arrays that the call only reads can only be read. */
+#define _GNU_SOURCE
+#include <pthread.h>
+#include <stdio.h>
+#include <stdlib.h>
+#include <string.h>
+#include <sys/mman.h>
+
+#include "amphorust.h"
+
+#define ABSENT UINT32_MAX
+#define PAGE 4096
+#define BELOW (1 << 20) /* unmapped bytes below a stack */
+#define UNTOUCHED 0xA5
+
+enum { RECORD, RECORD_TEXT, RULES, RULE_TEXT, CELLS, LIST, PARTS };
+
+static const size_t element_size[PARTS] = {4, 1, 4, 1, 1, 4};
+
+struct part {
+    size_t length;    /* in elements */
+    uint8_t *pages;   /* what is mapped, and the unmapped page after it */
+    size_t mapped;    /* bytes mapped */
+    uint8_t *array;   /* null, or at the end of what is mapped */
+};
+
+static struct part parts[PARTS];
+static uint64_t answer;
+
+static void give_up(const char *why)
+{
+    fprintf(stderr, "c_entry: %s\n", why);
+    exit(2);
+}
+
+static uint8_t *map(size_t bytes, int protection)
+{
+    void *pages = mmap(NULL, bytes, protection, MAP_PRIVATE | MAP_ANONYMOUS, -1, 0);
+    if (pages == MAP_FAILED)
+        give_up("no memory");
+    return pages;
+}
+
+static void lend(struct part *part, size_t size, int protection)
+{
+    size_t bytes = part->length * size;
+    part->mapped = (bytes / PAGE + 1) * PAGE;
+    part->pages = map(part->mapped + PAGE, PROT_READ | PROT_WRITE);
+    memset(part->pages, UNTOUCHED, part->mapped);
+    part->array = part->pages + part->mapped - bytes;
+    if (bytes > 0 && fread(part->array, bytes, 1, stdin) != 1)
+        give_up("a call is cut short");
+    mprotect(part->pages, part->mapped, protection);
+    mprotect(part->pages + part->mapped, PAGE, PROT_NONE);
+}
+
+/* Whether a call was read; none is where the input ends. */
+static int read_call(void)
+{
+    uint32_t lengths[PARTS];
+    if (fread(lengths, sizeof lengths, 1, stdin) != 1)
+        return 0;
+    for (int i = 0; i < PARTS; i++) {
+        parts[i] = (struct part){0};
+        if (lengths[i] == ABSENT)
+            continue;
+        parts[i].length = lengths[i];
+        lend(&parts[i], element_size[i], i < CELLS ? PROT_READ : PROT_READ | PROT_WRITE);
+    }
+    return 1;
+}
+
+static void *call(void *unused)
+{
+    answer = amphorust_judge((const uint32_t *)parts[RECORD].array, parts[RECORD].length,
+                             parts[RECORD_TEXT].array, parts[RECORD_TEXT].length,
+                             (const uint32_t *)parts[RULES].array, parts[RULES].length,
+                             parts[RULE_TEXT].array, parts[RULE_TEXT].length,
+                             parts[CELLS].array, parts[CELLS].length,
+                             (uint32_t *)parts[LIST].array, parts[LIST].length);
+    return unused;
+}
+
+static void call_on_thread(size_t stack)
+{
+    uint8_t *region = map(BELOW + stack, PROT_READ | PROT_WRITE);
+    pthread_attr_t attributes;
+    pthread_t thread;
+    mprotect(region, BELOW, PROT_NONE);
+    if (pthread_attr_init(&attributes) != 0 || pthread_attr_setstack(&attributes, region + BELOW, stack) != 0
+        || pthread_create(&thread, &attributes, call, NULL) != 0 || pthread_join(thread, NULL) != 0)
+        give_up("no thread");
+    munmap(region, BELOW + stack);
+}
+
+static void write_result(void)
+{
+    const uint64_t told[] = {
+        answer, amphorust_is_valid(answer), amphorust_is_invalid(answer), amphorust_is_refused(answer),
+        amphorust_count(answer), amphorust_refusal(answer), amphorust_place(answer),
+        amphorust_room((const uint32_t *)parts[RECORD].array, parts[RECORD].length,
+                       (const uint32_t *)parts[RULES].array, parts[RULES].length)};
+    fwrite(told, sizeof told, 1, stdout);
+    for (int i = CELLS; i < PARTS; i++)
+        fwrite(parts[i].array, element_size[i], parts[i].length, stdout);
+    fflush(stdout);
+}
+
+static void look_before(const struct part *part)
+{
+    for (const uint8_t *byte = part->pages; byte < part->array; byte++)
+        if (*byte != UNTOUCHED)
+            give_up("bytes before an array were written");
+}
+
+int main(int count, char **arguments)
+{
+    while (read_call()) {
+        if (count > 1)
+            call_on_thread(strtoul(arguments[1], NULL, 10));
+        else
+            call(NULL);
+        for (int i = 0; i < PARTS; i++)
+            look_before(&parts[i]);
+        write_result();
+        for (int i = 0; i < PARTS; i++)
+            if (parts[i].pages != NULL)
+                munmap(parts[i].pages, parts[i].mapped + PAGE);
+    }
+    return 0;
+}

@@ -1,0 +1,269 @@
+#!/usr/bin/env python3
+"""The entry for C against the second program: the number, the cells and the list of every call, compared whole.
+
+Builds the archive and the example host (examples/build-host), then tests/c_entry.c with the archive. That program
+places each array directly before an unmapped page and makes the four that are only read unwritable. Cases are the
+samples, the limits, texts of 65,535 and 65,536 bytes, sheets cut short and random ones; each is called with areas of
+several lengths, full of random bytes. Finds the smallest stack at which the deepest recursion works.
+
+Ends with 'N passed, M failed'. COUNT and SEED may be given."""
+import os
+import random
+import re
+import struct
+import subprocess
+import sys
+
+import second
+import sheets
+
+ROOT = os.path.dirname(os.path.dirname(os.path.abspath(__file__)))
+ARCHIVE = os.path.join(ROOT, 'target', 'staticlib', 'libhub.a')
+CALLER = os.path.join(ROOT, 'target', 'c_entry')
+HOST_PRINTS = b'''\
+{"p": 7}: valid, 2 pairs settled
+{"p": 7, "q": 8}: invalid, 3 pairs settled
+    row 1 by schema 1 held
+    row 2 by schema 2 failed
+    row 0 by schema 0 failed
+{"p": 7, "p": 8}: refused, two children of an object share a name (refusal 3, place 2)
+'''
+
+ABSENT = 2 ** 32 - 1                    # the length that stands for a null pointer
+FROM_C = {'memset', 'memcpy', 'memmove', 'memcmp', 'bcmp'}      # all that the archive may ask of the C library
+TOLD = struct.Struct('<8Q')             # what the caller tells of an answer before the areas
+BATCH = 1 << 24                         # bytes of input that one run of the caller gets, roughly
+STACK_STEP = 4096
+STACK_MOST = 16 << 20
+LONGEST = second.LONGEST_TEXT
+
+
+class Results:
+    def __init__(self):
+        self.passed, self.failed = 0, 0
+
+    def check(self, true, what):
+        if true:
+            self.passed += 1
+            return
+        self.failed += 1
+        if self.failed <= 20:
+            print('failed: ' + what)
+
+
+# ---- calls ----
+
+class Call:
+    """Six arrays, as words or bytes; None is a null pointer. Knows what the second program makes of them."""
+
+    def __init__(self, label, record, record_text, rules, rule_text, cells, list_):
+        self.label = label
+        self.arrays = (record, record_text, rules, rule_text, cells, list_)
+
+    def sent(self):
+        lengths = [ABSENT if array is None else len(array) for array in self.arrays]
+        return struct.pack('<6I', *lengths) + b''.join(in_bytes(array or []) for array in self.arrays)
+
+    def result_size(self):
+        return TOLD.size + len(self.arrays[4] or []) + 4 * len(self.arrays[5] or [])
+
+    def wanted(self):
+        """What the caller must write."""
+        arrays = [empty if array is None else array for array, empty in zip(self.arrays, ([], b'', [], b'', b'', []))]
+        answer, cells, list_ = second.judge(*arrays)
+        refused = answer.verdict == 'refused'
+        told = TOLD.pack(second.number_for_c(answer), answer.verdict == 'valid', answer.verdict == 'invalid', refused,
+                         0 if refused else answer.count, answer.number or 0, answer.place or 0, room(arrays[0], arrays[2]))
+        return told + bytes(cells) + second.to_bytes(list_)
+
+
+def in_bytes(array):
+    return array if isinstance(array, bytes) else second.to_bytes(array)
+
+
+def room(record, rules):
+    """Rows × schemas as the trailers say, 0 where one is missing or beyond its limit."""
+    n = record[-4] if len(record) >= 4 else 0
+    m = rules[-6] if len(rules) >= 6 else 0
+    return n * m if n <= 1024 and m <= 1024 else 0
+
+
+def area_lengths(rng, size):
+    """Labels and lengths of cells and list; None is a null pointer."""
+    more = rng.choice((1, 2, 7, 4096))
+    yield 'exact', size, size
+    yield 'longer', size + more, size + rng.choice((1, 3, more))
+    yield 'one cell short', size - 1, size
+    yield 'one list word short', size, size - 1
+    yield 'both short', size - 1, size - 1
+    yield 'empty', 0, 0
+    yield 'null', None, None
+
+
+def calls_of(rng, label, *parts):
+    """A case with areas of each length; parts of length 0 are null pointers in some calls."""
+    size = room(parts[0], parts[2]) or 6
+    for areas, cells, list_ in area_lengths(rng, size):
+        lent = [None if len(part) == 0 and rng.random() < 0.5 else part for part in parts]
+        yield Call('%s, areas %s' % (label, areas), *lent,
+                   None if cells is None else rng.randbytes(cells),
+                   None if list_ is None else second.to_words(rng.randbytes(4 * list_)))
+
+
+# ---- cases that other tests lack ----
+
+def long_texts():
+    """Texts of the greatest length, and one byte more, which no bundle holds."""
+    for length in (LONGEST - 1, LONGEST, LONGEST + 1):
+        text = bytes(i * i // 251 % 256 for i in range(length))
+        other = text[:-1] + bytes([text[-1] ^ 1])
+        string = second.record_of([(4, 0, length, 0, 0, 0)], text)
+        named = second.record_of([(6, 1, 1, 0, 0, 0), (0, 0, 0, 0, 0, length)], text)
+        null = second.record_of([(0, 0, 0, 0, 0, 0)], b'')
+        same = second.rules_of([(0, 1)], [(3, 0, 1)], [(4, 0, length)], text)
+        sized = second.rules_of([(0, 2)], [(20, length, 0), (21, length, 0)], [], b'')
+        has = second.rules_of([(0, 2), (2, 1)], [(26, 0, 1), (40, 1, 1), (2, 1, 0)], [(0, length, 0), (0, length, 1)], text)
+        label = 'a text of %d bytes: ' % length
+        yield label + 'enum of itself', string, text, same, text
+        yield label + 'enum of another', string, text, same, other
+        yield label + 'its length', string, text, sized, b''
+        yield label + 'a name', named, text, has, text
+        yield label + 'another name', named, text, has, other
+        yield label + 'in the rules alone', null, b'', same, text
+        yield label + 'one byte lent less', string, text[:-1], same, text
+        yield label + 'one byte lent more in the rules', string, text, same, text + b'x'
+
+
+def cut_sheets(rng, label, words, text, rules, rule_text):
+    """Sheets whose trailer speaks of more than is lent."""
+    less = rng.choice((1, 2, 6, rng.randint(1, len(words))))
+    yield label + ', words cut', words[less:], text, rules, rule_text
+    less = rng.choice((1, 2, 6, rng.randint(1, len(rules))))
+    yield label + ', rule words cut', words, text, rules[less:], rule_text
+    if text:
+        yield label + ', text cut', words[:-2] + [len(text) - 1, 1], text[:-1], rules, rule_text
+    if rule_text:
+        yield label + ', rule text cut', words, text, rules[:-2] + [len(rule_text) - 1, 2], rule_text[:-1]
+
+
+def cases(rng, count, seed):
+    for number, rules, record, _ in second.sample_table():
+        yield 'sample %d' % number, *record, *rules
+    yield from sheets.limits()
+    yield from long_texts()
+    for empty in range(16):
+        words, text, rules, rule_text = ([] if empty & 1 else [0] * 4, b'', [] if empty & 4 else [0] * 6, b'')
+        yield 'no sheets %d' % empty, words, text if empty & 2 else b'x', rules, rule_text if empty & 8 else b'x'
+    for label, *parts in sheets.cases(seed, count):
+        yield label, *parts
+        if rng.random() < 0.1:
+            yield from cut_sheets(rng, label, *parts)
+
+
+# ---- the caller ----
+
+def build():
+    """Runs the example, and builds the caller; what the example printed."""
+    printed = subprocess.run([os.path.join(ROOT, 'examples', 'build-host')], stdout=subprocess.PIPE,
+                             stderr=subprocess.DEVNULL).stdout
+    subprocess.run(['gcc', '-std=gnu99', '-Wall', '-Wextra', '-Werror', '-O2', '-pthread',
+                    '-I', os.path.join(ROOT, 'include'), '-o', CALLER,
+                    os.path.join(ROOT, 'tests', 'c_entry.c'), ARCHIVE], check=True)
+    return printed
+
+
+def run_caller(sent, *arguments):
+    return subprocess.run([CALLER, *arguments], input=sent, capture_output=True)
+
+
+def compare(results, calls):
+    """Checks a batch of calls. A call that does not return is a failure, and the next is tried."""
+    while calls:
+        ran = run_caller(b''.join(call.sent() for call in calls))
+        at = 0
+        while calls and at + calls[0].result_size() <= len(ran.stdout):
+            call = calls.pop(0)
+            got = ran.stdout[at:at + call.result_size()]
+            at += len(got)
+            wanted = call.wanted()
+            results.check(got == wanted, '%s: %s' % (call.label, difference(got, wanted)))
+        if calls:
+            results.check(False, '%s: ended with %d %s' % (calls[0].label, ran.returncode, ran.stderr.decode().strip()))
+            calls.pop(0)
+
+
+def difference(got, wanted):
+    if got[:TOLD.size] != wanted[:TOLD.size]:
+        return 'told %s, the second program %s' % (TOLD.unpack_from(got), TOLD.unpack_from(wanted))
+    return 'the areas differ'
+
+
+def check_calls(results, rng, count, seed):
+    batch, size = [], 0
+    for case in cases(rng, count, seed):
+        for call in calls_of(rng, *case):
+            batch.append(call)
+            size += len(call.sent())
+        if size > BATCH:
+            compare(results, batch)
+            batch, size = [], 0
+    compare(results, batch)
+    label, *parts = sheets.full_sheet()
+    areas = room(parts[0], parts[2])
+    compare(results, [Call(label, *parts, rng.randbytes(areas), second.to_words(rng.randbytes(4 * areas)))])
+
+
+# ---- what the header says of the archive ----
+
+def check_archive(results):
+    """No writable data, so no state; nothing asked of C but moving bytes, so no allocation and no input or output."""
+    sections = subprocess.run(['objdump', '-h', ARCHIVE], capture_output=True, text=True).stdout
+    sizes = re.findall(r'^ *\d+ (\.data|\.bss|\.tdata|\.tbss)\S* +([0-9a-f]+)', sections, re.M)
+    results.check('.text' in sections and all(int(size, 16) == 0 for _, size in sizes), 'the archive has data: %s' % sizes)
+    symbols = subprocess.run(['nm', '-u', ARCHIVE], capture_output=True, text=True).stdout
+    asked = set(re.findall(r' U (\S+)', symbols))
+    results.check(asked <= FROM_C, 'the archive asks for %s' % (asked - FROM_C))
+
+
+def deep_cases():
+    """32 levels, each judged by a chain of 32 schemas: 1,024 pairs are open at the deepest."""
+    chain = [(34, s + 1, 0) for s in range(31)]
+    leaf = [(3, 0, 1), (10, 2 ** 32 - 999_999_999, 9), (14, 7, 9)]
+    last = (3, 999_999_999, 9, 30, 0, 1)
+    items = second.rules_of([(s, 1) for s in range(31)] + [(31, 4)], chain + leaf + [(44, 0, 0)], [(3, 1, 0)], b'p')
+    arrays = [(5, j + 1, 1, max(j - 1, 0), 0, 0) for j in range(31)]
+    yield 'items', second.record_of(arrays + [(*last[:4], 0, 0)], b'p'), b'p', items, b'p'
+    named = second.rules_of([(s, 1) for s in range(31)] + [(31, 5)],
+                            chain + leaf + [(40, 1, 1), (60, 0, 0)], [(3, 1, 0), (0, 1, 0)], b'p')
+    objects = [(6, j + 1, 1, max(j - 1, 0), 0, j > 0) for j in range(31)]
+    yield 'properties', second.record_of(objects + [last], b'p'), b'p', named, b'p'
+
+
+def check_stack(results):
+    """The smallest stack at which each deep case is answered rightly is not above what the header asks for."""
+    with open(os.path.join(ROOT, 'include', 'amphorust.h')) as header:
+        said = int(re.search(r'^#define AMPHORUST_STACK (\d+)', header.read(), re.M)[1])
+    for label, *parts in deep_cases():
+        call = Call(label, *parts, bytes(1024), [0] * 1024)
+        low, high = 0, STACK_MOST // STACK_STEP
+        while high - low > 1:
+            middle = (low + high) // 2
+            works = run_caller(call.sent(), str(middle * STACK_STEP)).stdout == call.wanted()
+            low, high = (low, middle) if works else (middle, high)
+        smallest = high * STACK_STEP
+        print('32 levels by chains of 32 through %s: the smallest stack is %d KiB' % (label, smallest // 1024))
+        results.check(smallest <= said, 'deep %s: needs a stack of %d' % (label, smallest))
+
+
+def main(count=1500, seed=1):
+    results, rng = Results(), random.Random(seed)
+    results.check(build() == HOST_PRINTS, 'the example host prints something else')
+    check_calls(results, rng, count, seed)
+    check_archive(results)
+    check_stack(results)
+    print('%d passed, %d failed' % (results.passed, results.failed))
+    return results.failed > 0
+
+
+if __name__ == '__main__':
+    sys.exit(main(*[int(argument) for argument in sys.argv[1:3]]))
