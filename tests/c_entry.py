@@ -7,6 +7,7 @@ samples, the limits, texts of 65,535 and 65,536 bytes, sheets cut short and rand
 several lengths, full of random bytes. Finds the smallest stack at which the deepest recursion works.
 
 Ends with 'N passed, M failed'. COUNT and SEED may be given."""
+import itertools
 import os
 import random
 import re
@@ -73,7 +74,7 @@ class Call:
         answer, cells, list_ = second.judge(*arrays)
         refused = answer.verdict == 'refused'
         told = TOLD.pack(second.number_for_c(answer), answer.verdict == 'valid', answer.verdict == 'invalid', refused,
-                         0 if refused else answer.count, answer.number or 0, answer.place or 0, room(arrays[0], arrays[2]))
+                         answer.count or 0, answer.number or 0, answer.place or 0, room(arrays[0], arrays[2]))
         return told + bytes(cells) + second.to_bytes(list_)
 
 
@@ -122,7 +123,8 @@ def long_texts():
         null = second.record_of([(0, 0, 0, 0, 0, 0)], b'')
         same = second.rules_of([(0, 1)], [(3, 0, 1)], [(4, 0, length)], text)
         sized = second.rules_of([(0, 2)], [(20, length, 0), (21, length, 0)], [], b'')
-        has = second.rules_of([(0, 2), (2, 1)], [(26, 0, 1), (40, 1, 1), (2, 1, 0)], [(0, length, 0), (0, length, 1)], text)
+        has = second.rules_of([(0, 2), (2, 1)], [(26, 0, 1), (40, 1, 1), (2, 1, 0)],
+                              [(0, length, 0), (0, length, 1)], text)
         label = 'a text of %d bytes: ' % length
         yield label + 'enum of itself', string, text, same, text
         yield label + 'enum of another', string, text, same, other
@@ -136,9 +138,9 @@ def long_texts():
 
 def cut_sheets(rng, label, words, text, rules, rule_text):
     """Sheets whose trailer speaks of more than is lent."""
-    less = rng.choice((1, 2, 6, rng.randint(1, len(words))))
+    less = rng.choice((1, 2, 6, rng.randint(0, len(words))))
     yield label + ', words cut', words[less:], text, rules, rule_text
-    less = rng.choice((1, 2, 6, rng.randint(1, len(rules))))
+    less = rng.choice((1, 2, 6, rng.randint(0, len(rules))))
     yield label + ', rule words cut', words, text, rules[less:], rule_text
     if text:
         yield label + ', text cut', words[:-2] + [len(text) - 1, 1], text[:-1], rules, rule_text
@@ -151,9 +153,8 @@ def cases(rng, count, seed):
         yield 'sample %d' % number, *record, *rules
     yield from sheets.limits()
     yield from long_texts()
-    for empty in range(16):
-        words, text, rules, rule_text = ([] if empty & 1 else [0] * 4, b'', [] if empty & 4 else [0] * 6, b'')
-        yield 'no sheets %d' % empty, words, text if empty & 2 else b'x', rules, rule_text if empty & 8 else b'x'
+    for parts in itertools.product(([], [0] * 4), (b'', b'x'), ([], [0] * 6), (b'', b'x')):
+        yield 'no sheets', *parts
     for label, *parts in sheets.cases(seed, count):
         yield label, *parts
         if rng.random() < 0.1:
@@ -219,7 +220,8 @@ def check_archive(results):
     """No writable data, so no state; nothing asked of C but moving bytes, so no allocation and no input or output."""
     sections = subprocess.run(['objdump', '-h', ARCHIVE], capture_output=True, text=True).stdout
     sizes = re.findall(r'^ *\d+ (\.data|\.bss|\.tdata|\.tbss)\S* +([0-9a-f]+)', sections, re.M)
-    results.check('.text' in sections and all(int(size, 16) == 0 for _, size in sizes), 'the archive has data: %s' % sizes)
+    results.check('.text' in sections and all(int(size, 16) == 0 for _, size in sizes),
+                  'the archive has data: %s' % sizes)
     symbols = subprocess.run(['nm', '-u', ARCHIVE], capture_output=True, text=True).stdout
     asked = set(re.findall(r' U (\S+)', symbols))
     results.check(asked <= FROM_C, 'the archive asks for %s' % (asked - FROM_C))
