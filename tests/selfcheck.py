@@ -12,6 +12,7 @@ import sys
 import time
 from collections import Counter, defaultdict
 
+import judged
 import second
 import sheets
 
@@ -111,6 +112,14 @@ def check_areas(results, label, judgement, before, derivation, m):
                                         and derivation.rows[i // m].owner == 0]), 'marked count', label)
 
 
+def cost_without_memory(derivation, order):
+    """About how many derivations: the verdict and the marks of each applied pair are derived afresh."""
+    cost = {}
+    for pair in order:
+        cost[pair] = 1 + 2 * sum(cost[other] for other in derivation.outcome(*pair).applied)
+    return sum(cost.values())
+
+
 def check_without_memory(results, label, derivation, order):
     """The memory of outcomes is a speed-up alone."""
     afresh = second.Derivation(derivation.rows, derivation.record_text, derivation.rules, remember=False)
@@ -136,7 +145,7 @@ def check_accepted(results, rng, label, judgement, before, parts):
     check_marks(results, label, derivation, order)
     check_areas(results, label, judgement, before, derivation, m)
     size = len(derivation.rows) * m
-    if size <= 40:
+    if cost_without_memory(derivation, order) <= 2_000:
         check_without_memory(results, label, derivation, order)
     if rng.random() < 0.05:
         check_short_areas(results, label, parts, size)
@@ -216,6 +225,8 @@ def main(count=5_000, seed=1):
     for what, share in (('all', 6), ('record', 2), ('rules', 2)):
         for label, *parts in sheets.cases(seed, count * share // 10, what):
             check_case(results, rng, label.split(':')[0], label, *parts)
+    for label, *parts in judged.cases(seed, count // 10):
+        check_case(results, rng, label.split(':')[0], label, *parts)
     random_seconds = time.time() - begun
     check_spread(results)
     check_limits(results, rng)

@@ -184,15 +184,23 @@ class Writer:
     def __init__(self, rng, record, m, full=False):
         self.rng, self.record, self.m = rng, record, m
         self.text = Text(rng)
-        self.rank = [0] + rng.sample(range(1, m), m - 1)    # unguarded steps go up in rank
+        self.rank = self.ranks()                            # unguarded steps go up in rank
         self.hubs = rng.sample(range(m), min(m, 3))         # few schemas that many refer to
         self.mild = rng.choice((0.6, 0.85, 0.97))           # how often a clause fits the row in view
-        self.view = [0]
-        for _ in range(1, m):
-            self.view.append(self.near(rng.choice(self.view)))
+        self.view = self.views()
         self.plain = [s > 0 and rng.random() < 0.25 for s in range(m)]
         self.full = self.rank.index(min(1, m - 1)) if full else None
         self.schemas = [self.schema(s) for s in range(m)]
+
+    def ranks(self):
+        return [0] + self.rng.sample(range(1, self.m), self.m - 1)
+
+    def views(self):
+        """The row in view of each schema: of the root's the root, of another's one near a row already in view."""
+        view = [0]
+        for _ in range(1, self.m):
+            view.append(self.near(self.rng.choice(view)))
+        return view
 
     def near(self, j):
         """Row j or one of its children."""
@@ -207,15 +215,18 @@ class Writer:
         elif self.plain[s]:
             codes = self.rng.choice(((), (), (1,)))
         else:
-            kind = self.record.rows[self.view[s]][KIND]
-            count = self.rng.randint(1, 6 if kind >= ARRAY else 3)
-            codes = [self.rng.choice(ABOUT[kind] if self.rng.random() < 0.93 else CODES) for _ in range(count)]
+            codes = self.codes(s)
         return {code: self.fields(code, s) for code in codes if self.may_have(code, s)}
 
+    def codes(self, s):
+        kind = self.record.rows[self.view[s]][KIND]
+        count = self.rng.randint(1, 6 if kind >= ARRAY else 3)
+        return [self.rng.choice(ABOUT[kind] if self.rng.random() < 0.93 else CODES) for _ in range(count)]
+
     def may_have(self, code, s):
-        """The schema of the highest rank has no unguarded step; few never hold, or have enums, on containers."""
+        """Schemas of the highest rank have no unguarded step; few never hold, or have enums, on containers."""
         if code in UNGUARDED:
-            return self.rank[s] < self.m - 1
+            return self.rank[s] < max(self.rank)
         on_container = self.record.rows[self.view[s]][KIND] >= ARRAY
         return code not in (1, 3) or not on_container or self.plain[s] or s == self.full or not self.is_mild()
 
