@@ -15,6 +15,7 @@ import struct
 import subprocess
 import sys
 
+import judged
 import second
 import sheets
 
@@ -159,6 +160,7 @@ def cases(rng, count, seed):
         yield label, *parts
         if rng.random() < 0.1:
             yield from cut_sheets(rng, label, *parts)
+    yield from judged.cases(seed, count // 3)
 
 
 # ---- the caller ----
