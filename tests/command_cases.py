@@ -1,0 +1,196 @@
+"""The tables of tests/command.py: schemas and records, with the line that the command says of each."""
+import json
+
+
+def nested(levels):
+    return '[' * levels + ']' * levels
+
+
+def references(count):
+    """A chain of that many schemas, each applying the next to the same value."""
+    defs = {'s%d' % i: {'$ref': '#/$defs/s%d' % (i + 1)} for i in range(1, count - 1)}
+    return {'$ref': '#/$defs/s1', '$defs': dict(defs, **{'s%d' % (count - 1): {'type': 'null'}})}
+
+
+def many(count):
+    """An object schema with that many different schemas under it."""
+    return {'properties': {'p%d' % i: {'minimum': i} for i in range(count)}}
+
+
+P = {'p': 1}
+LONG = 'x' * 70_000
+WIDTH = 'at most 9 digits, and 9 places after the point'
+BESIDE = {'$ref': '#/$defs/a', 'minimum': 3, '$defs': {'a': {'maximum': 5}}}
+TREE = {'$id': 'tree', 'type': 'object', 'properties': {'below': {'type': 'array', 'items': {'$ref': 'tree'}}},
+        'additionalProperties': False}
+LINKS = {'$id': 'http://a.example/x/root.json',
+         'properties': {'a': {'$ref': '#/$defs/n~1a~0me%20x'}, 'b': {'$ref': '#here'}, 'c': {'$ref': 'other.json'},
+                        'd': {'$ref': '/x/other.json#inner'}, 'e': {'$ref': './y/../other.json#/$defs/deep'},
+                        'f': {'$ref': 'urn:example:four'}, 'g': {'$ref': '#/components/0'}},
+         'components': [{'type': 'null'}],
+         '$defs': {'n/a~me x': {'const': 1}, 'anchored': {'$anchor': 'here', 'const': 2},
+                   'other': {'$id': 'other.json', 'type': 'string',
+                             '$defs': {'deep': {'const': 'deep'}, 'inner': {'$anchor': 'inner', 'const': 'inner'}}},
+                   'urn': {'$id': 'urn:example:four', 'const': 4}}}
+
+# schema, record as JSON text, what is said of the record after its name: 'valid' or 'invalid: ...'.
+VERDICTS = [
+    (True, '1', 'valid'),
+    (False, '1', 'invalid: not allowed here (#)'),
+    ({}, 'null', 'valid'),
+    ({'type': 'integer'}, '1.0', 'valid'),
+    ({'type': 'integer'}, '1e2', 'valid'),
+    ({'type': 'integer'}, '1.5', 'invalid: is number, must be integer (#/type)'),
+    ({'type': 'integer'}, 'true', 'invalid: is boolean, must be integer (#/type)'),
+    ({'type': ['null', 'string']}, '[]', 'invalid: is array, must be null or string (#/type)'),
+    ({'type': 'number'}, '{}', 'invalid: is object, must be number (#/type)'),
+    ({'type': 'object'}, 'null', 'invalid: is null, must be object (#/type)'),
+    ({'enum': [1, 'a', None]}, '1.0', 'valid'),
+    ({'enum': [1, 'a', None]}, 'true', 'invalid: must be 1 or "a" or null (#/enum)'),
+    ({'enum': [1, 'a', None]}, '[1]', 'invalid: must be 1 or "a" or null (#/enum)'),
+    ({'enum': []}, '1', 'invalid: not allowed here (#/enum)'),
+    ({'enum': list(range(60))}, '-1', 'invalid: must be one of 60 values (#/enum)'),
+    ({'const': 'né'}, '"n\\u00e9"', 'valid'),
+    ({'const': 'né'}, '"ne"', 'invalid: must be "né" (#/const)'),
+    ({'enum': [1, 2], 'const': 2}, '2', 'valid'),
+    ({'enum': [1, 2], 'const': 2}, '1', 'invalid: must be 2 (#/const)'),
+    ({'enum': [1, 2], 'const': 3, 'allOf': [True]}, '3', 'invalid: must be 1 or 2 (#/enum)'),
+    ({'minimum': 2}, '2.00', 'valid'),
+    ({'minimum': 2}, '-1', 'invalid: is -1, must be at least 2 (#/minimum)'),
+    ({'maximum': 0.05}, '0.051', 'invalid: is 0.051, must be at most 0.05 (#/maximum)'),
+    ({'exclusiveMinimum': -0.5}, '-0.5', 'invalid: is -0.5, must be above -0.5 (#/exclusiveMinimum)'),
+    ({'exclusiveMaximum': 7}, '7', 'invalid: is 7, must be below 7 (#/exclusiveMaximum)'),
+    ({'exclusiveMaximum': 7}, '"7"', 'valid'),
+    ({'multipleOf': 0.01}, '0.07', 'valid'),
+    ({'multipleOf': 4}, '-6', 'invalid: is -6, must be a multiple of 4 (#/multipleOf)'),
+    ({'maximum': 1}, '1' + '0' * 8, 'invalid: is 100000000, must be at most 1 (#/maximum)'),
+    ({'minimum': 1}, '-0e9999999999999999', 'invalid: is -0e9999999999999999, must be at least 1 (#/minimum)'),
+    ({'maximum': 999999999}, '999999999.000', 'valid'),
+    ({'minLength': 3}, '"ab"', 'invalid: has 2 bytes, must have at least 3 (#/minLength)'),
+    ({'maxLength': 1.0}, '"é"', 'invalid: has 2 bytes, must have at most 1 (#/maxLength)'),
+    ({'minItems': 2}, '[1]', 'invalid: has 1 item, must have at least 2 (#/minItems)'),
+    ({'maxItems': 0}, '[1]', 'invalid: has 1 item, must have at most 0 (#/maxItems)'),
+    ({'maxItems': 4294967295}, '[1]', 'valid'),
+    ({'minProperties': 1}, '{}', 'invalid: has 0 members, must have at least 1 (#/minProperties)'),
+    ({'maxProperties': 1}, '{"a":1,"b":2}', 'invalid: has 2 members, must have at most 1 (#/maxProperties)'),
+    ({'required': ['a', 'b', 'c']}, '{"b":1}', 'invalid: missing "a", "c" (#/required)'),
+    ({'required': []}, '{}', 'valid'),
+    ({'allOf': [{'minimum': 1}, {'maximum': 0}]}, '5', 'invalid: is 5, must be at most 0 (#/allOf/1/maximum)'),
+    ({'allOf': [{'minimum': 9}, {'maximum': 0}]}, '5',
+     'invalid: is 5, must be at least 9 (#/allOf/0/minimum), and 1 more'),
+    ({'anyOf': [{'type': 'null'}, {'minimum': 9}]}, '5', 'invalid: fits none of 2 (#/anyOf): '
+     'is integer, must be null (#/anyOf/0/type); is 5, must be at least 9 (#/anyOf/1/minimum)'),
+    ({'oneOf': [{'type': 'null'}]}, '5',
+     'invalid: fits none of 1 (#/oneOf): is integer, must be null (#/oneOf/0/type)'),
+    ({'oneOf': [{}, {'type': 'null'}, {}]}, '5', 'invalid: fits 0 and 2, must fit only one (#/oneOf)'),
+    ({'not': {'type': 'integer'}}, '5', 'invalid: fits what it must not fit (#/not)'),
+    ({'properties': {'a/b': {'properties': {'~': False}}}}, '{"a/b":{"~":1}}',
+     'invalid: /a~1b/~0: not allowed here (#/properties/a~1b/properties/~0)'),
+    ({'additionalProperties': {'type': 'null'}}, '{"":1}',
+     'invalid: /: is integer, must be null (#/additionalProperties/type)'),
+    ({'properties': {'a': {}}, 'additionalProperties': False}, '{"a":1,"b\\n":2}',
+     'invalid: /b\\n: not allowed here (#/additionalProperties)'),
+    ({'prefixItems': [{'type': 'null'}], 'items': {'type': 'string'}}, '[null,"a",3]',
+     'invalid: /2: is integer, must be string (#/items/type)'),
+    ({'prefixItems': [{'type': 'null'}]}, '[3]', 'invalid: /0: is integer, must be null (#/prefixItems/0/type)'),
+    ({'prefixItems': [True], 'unevaluatedItems': False}, '[1,2]', 'invalid: /1: not allowed here (#/unevaluatedItems)'),
+    ({'anyOf': [{'properties': {'a': {'type': 'null'}}}, True], 'unevaluatedProperties': False}, '{"a":1}',
+     'invalid: /a: not allowed here (#/unevaluatedProperties)'),
+    ({'anyOf': [{'properties': {'a': {'type': 'null'}}}], 'unevaluatedProperties': False}, '{"a":1,"b":2}',
+     'invalid: fits none of 1 (#/anyOf): /a: is integer, must be null (#/anyOf/0/properties/a/type), and 1 more'),
+    (BESIDE, '6', 'invalid: is 6, must be at most 5 (#/$defs/a/maximum)'),
+    (BESIDE, '2', 'invalid: is 2, must be at least 3 (#/minimum)'),
+    (TREE, '{"below":[{},{"below":[{"belwo":[]}]}]}',
+     'invalid: /below/1/below/0/belwo: not allowed here (#/additionalProperties)'),
+    (LINKS, '{"a":1,"b":2,"c":"c","d":"inner","e":"deep","f":4,"g":null}', 'valid'),
+    (LINKS, '{"d":"deep"}', 'invalid: /d: must be "inner" (#/$defs/other/$defs/inner/const)'),
+    (LINKS, '{"g":1}', 'invalid: /g: is integer, must be null (#/components/0/type)'),
+    # A chain of schemas that each apply the next twice is explained in a time that does not double with each.
+    ({'allOf': [{'$ref': '#/$defs/s1'}] * 2, '$defs': dict(
+        {'s%d' % i: {'allOf': [{'$ref': '#/$defs/s%d' % (i + 1)}] * 2} for i in range(1, 15)}, s15={'type': 'null'})},
+     '1', 'invalid: is integer, must be null (#/$defs/s15/type)'),
+    # Annotations, format too, and unknown keywords assert nothing; nor does what is said of nothing.
+    ({'$schema': 'https://json-schema.org/draft/2020-12/schema', '$comment': 'c', 'title': 't', 'description': 'd',
+      'default': 1, 'examples': [1], 'deprecated': True, 'readOnly': True, 'writeOnly': True, 'format': 'ipv4',
+      'contentEncoding': 'base64', 'contentMediaType': 'x', 'contentSchema': {'pattern': 'x'}, 'x-colour': 'red'},
+     '"a"', 'valid'),
+    ({'uniqueItems': False, 'minContains': 3, 'then': False, 'patternProperties': {}}, '[1,1]', 'valid'),
+    ({'$defs': {'unused': {'pattern': 'x'}}}, '"a"', 'valid'),
+    # Just inside the limits; 200 equal schemas share a row.
+    ({}, nested(32), 'valid'),
+    ({}, json.dumps(list(range(127))), 'valid'),
+    (many(127), '{"p9":9}', 'valid'),
+    (references(32), 'null', 'valid'),
+    ({'properties': {'p%d' % i: {'items': {'type': 'null'}} for i in range(200)}}, '{"p199":[1]}',
+     'invalid: /p199/0: is integer, must be null (#/properties/p199/items/type)'),
+]
+
+# record as JSON text or bytes, what is said of it by a schema that allows everything.
+BAD_RECORDS = [
+    ('', 'line 1, column 1: not JSON: expecting value'),
+    ('{"a": 1,\n "b" 2}', "line 2, column 6: not JSON: expecting ':' delimiter"),
+    ('[1, 2] 3', 'line 1, column 8: not JSON: extra data'),
+    ('["a\nb"]', 'line 1, column 4: not JSON: invalid control character'),
+    ('"abc', 'line 1, column 1: not JSON: unterminated string'),
+    ('{"a": "NaN",\n"b": NaN}', 'line 2, column 6: not JSON: NaN is no JSON value'),
+    ('[-Infinity]', 'line 1, column 2: not JSON: -Infinity is no JSON value'),
+    (b'["\xc3\xa9",\n "\xff"]', 'line 2, column 3: not JSON: byte 0xff is not UTF-8'),
+    ('[01]', "line 1, column 3: not JSON: expecting ',' delimiter"),
+    ('{"a": {"b": 1, "c": 2, "b": 1}}', '/a/b: two members of this name'),
+    ('{"a": ["\\ud800"]}', '/a/0: a lone surrogate, which UTF-8 cannot hold'),
+    ('[' * 100_000, 'nested too deeply to be read: a record has at most 32 levels'),
+    ('{"a": 1000000000}', '/a: the number 1000000000 is out of range: ' + WIDTH),
+    ('1e-10', 'the number 1e-10 is out of range: ' + WIDTH),
+    ('1e' + '9' * 5000, 'the number 1e%s... is out of range: ' % ('9' * 35) + WIDTH),
+    (nested(33), '/0' * 32 + ': refused (4): more than 32 levels deep'),
+    (json.dumps(list(range(128))), 'too large: 129 values, and the program judges at most 128'),
+    (json.dumps(list(range(1024))),
+     'refused (1): more than 1024 values, or more than 65535 bytes of names and strings'),
+    (json.dumps(LONG), 'too large: with its schema 70088 bytes of sheets, and the program reads at most 65536'),
+]
+
+# schema, what is said of it after its name.
+BAD_SCHEMAS = [
+    ('x', '#: a schema must be an object, true or false'),
+    ({'items': [{}]}, '#/items: an array of schemas is prefixItems in this draft'),
+    ({'not': 3}, '#/not: a schema must be an object, true or false'),
+    ({'type': 'int'}, '#/type: must be one or more of null, boolean, integer, number, string, array, object'),
+    ({'type': []}, '#/type: must be one or more of null, boolean, integer, number, string, array, object'),
+    ({'enum': 1}, '#/enum: must be an array'),
+    ({'enum': [1, [2]]}, '#/enum/1: the judge compares no arrays or objects'),
+    ({'const': {}}, '#/const: the judge compares no arrays or objects'),
+    ({'const': 12345678901}, '#/const: the number 12345678901 is out of range: ' + WIDTH),
+    ({'minimum': 0.12345678901}, '#/minimum: the number 0.12345678901 is out of range: ' + WIDTH),
+    ({'minimum': '1'}, '#/minimum: must be a number'),
+    ({'multipleOf': 0}, '#/multipleOf: must be above 0'),
+    ({'maxItems': 4294967296}, '#/maxItems: must be a whole number from 0 to 4294967295'),
+    ({'maxItems': 1.5}, '#/maxItems: must be a whole number from 0 to 4294967295'),
+    ({'minLength': -1}, '#/minLength: must be a whole number from 0 to 4294967295'),
+    ({'minLength': True}, '#/minLength: must be a whole number from 0 to 4294967295'),
+    ({'required': 'a'}, '#/required: must be an array of strings'),
+    ({'required': ['a', 1]}, '#/required: must be an array of strings'),
+    ({'properties': []}, '#/properties: must be an object'),
+    ({'allOf': []}, '#/allOf: must be an array of at least one schema'),
+    ({'anyOf': {}}, '#/anyOf: must be an array of at least one schema'),
+    ({'$ref': 1}, '#/$ref: must be a string'),
+    ({'items': {'$ref': '#/$defs/none'}}, '#/items/$ref: refers to nothing: #/$defs/none'),
+    ({'$ref': '#none'}, '#/$ref: refers to nothing: #none'),
+    ({'$ref': 'http://b.example/s'}, '#/$ref: refers outside this document: http://b.example/s'),
+    ({'$id': 'a#b'}, '#/$id: an $id has no fragment'),
+    ({'$anchor': 1}, '#/$anchor: must be a string'),
+    ({'$defs': {'a': {'$anchor': 'x'}, 'b': {'$anchor': 'x'}}}, '#/$defs/b/$anchor: #/$defs/a has this name already'),
+    ({'$schema': 'http://json-schema.org/draft-07/schema#'},
+     '#/$schema: only Draft 2020-12 is read: https://json-schema.org/draft/2020-12/schema'),
+    ({'required': ['a', 'b', 'a']}, '#/required/2: refused (7): this name stands here a second time'),
+    ({'$ref': '#'}, '#: refused (8): this schema applies itself to the same value again, without end'),
+    ({'items': {'$ref': '#/$defs/a'}, '$defs': {'a': {'anyOf': [{'$ref': '#/$defs/a'}]}}},
+     '#/$defs/a/anyOf/0: refused (8): this schema applies itself to the same value again, without end'),
+    (references(33), '#: refused (9): more than 32 schemas, from here on, each apply the next to the same value'),
+    (many(128), 'too large: 129 schemas, and the program judges at most 128'),
+    (many(1024), 'refused (5): more than 1024 schemas, 4096 clauses, 4096 entries or 65535 bytes of names and strings'),
+]
+
+# Keywords that assert and have no clause, with a value that says something.
+NO_CLAUSE = {'pattern': 'x', 'patternProperties': {'x': {}}, 'propertyNames': {}, 'uniqueItems': True, 'contains': {},
+             'if': {}, 'dependentSchemas': P, 'dependentRequired': P, 'dependencies': P, '$dynamicRef': '#x',
+             '$recursiveRef': '#'}
