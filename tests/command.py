@@ -107,7 +107,7 @@ class Tests:
 
     def options(self):
         self.write('s.json', {'$id': 'http://a.example/s', 'properties': {'a b': {'$ref': '#/$defs/n'}},
-                              '$defs': {'n': {'anyOf': [{'type': 'null'}]}}})
+                              '$defs': {'n': {'anyOf': [{'type': 'null'}, {'minimum': 2}]}}})
         good, bad = self.write('good.json', '{}'), self.write('bad.json', '{"a b":1}')
         self.equal('standard input', self.run('check', 's.json', '-', stdin=b'[]'), ('-: valid\n', '', 0))
         self.equal('standard input, not JSON', self.run('check', 's.json', '-', stdin=b'['),
@@ -139,9 +139,11 @@ class Tests:
             {'file': good, 'valid': True},
             {'file': bad, 'valid': False, 'errors': [
                 {'instanceLocation': '/a b', 'keywordLocation': path, 'absoluteKeywordLocation': at,
-                 'error': 'fits none of 1'},
+                 'error': 'fits none of 2'},
                 {'instanceLocation': '/a b', 'keywordLocation': path + '/0/type',
-                 'absoluteKeywordLocation': at + '/0/type', 'error': 'is integer, must be null'}]},
+                 'absoluteKeywordLocation': at + '/0/type', 'error': 'is integer, must be null'},
+                {'instanceLocation': '/a b', 'keywordLocation': path + '/1/minimum',
+                 'absoluteKeywordLocation': at + '/1/minimum', 'error': 'is 1, must be at least 2'}]},
             {'file': 'none.json', 'error': 'no such file or directory', 'place': ''}, '', 2])
 
     def usage(self):

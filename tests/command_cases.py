@@ -80,8 +80,9 @@ VERDICTS = [
      'invalid: is 5, must be at least 9 (#/allOf/0/minimum), and 1 more'),
     ({'anyOf': [{'type': 'null'}, {'minimum': 9}]}, '5', 'invalid: fits none of 2 (#/anyOf): '
      'is integer, must be null (#/anyOf/0/type); is 5, must be at least 9 (#/anyOf/1/minimum)'),
-    ({'oneOf': [{'type': 'null'}]}, '5',
-     'invalid: fits none of 1 (#/oneOf): is integer, must be null (#/oneOf/0/type)'),
+    ({'oneOf': [{'type': 'null'}]}, '5', 'invalid: is integer, must be null (#/oneOf/0/type)'),
+    ({'oneOf': [{'type': 'null'}] * 5}, '5', 'invalid: fits none of 5 (#/oneOf): '
+     + 'is integer, must be null (#/oneOf/0/type); ' * 3 + '...'),
     ({'oneOf': [{}, {'type': 'null'}, {}]}, '5', 'invalid: fits 0 and 2, must fit only one (#/oneOf)'),
     ({'not': {'type': 'integer'}}, '5', 'invalid: fits what it must not fit (#/not)'),
     ({'properties': {'a/b': {'properties': {'~': False}}}}, '{"a/b":{"~":1}}',
@@ -97,7 +98,7 @@ VERDICTS = [
     ({'anyOf': [{'properties': {'a': {'type': 'null'}}}, True], 'unevaluatedProperties': False}, '{"a":1}',
      'invalid: /a: not allowed here (#/unevaluatedProperties)'),
     ({'anyOf': [{'properties': {'a': {'type': 'null'}}}], 'unevaluatedProperties': False}, '{"a":1,"b":2}',
-     'invalid: fits none of 1 (#/anyOf): /a: is integer, must be null (#/anyOf/0/properties/a/type), and 1 more'),
+     'invalid: /a: is integer, must be null (#/anyOf/0/properties/a/type), and 1 more'),
     (BESIDE, '6', 'invalid: is 6, must be at most 5 (#/$defs/a/maximum)'),
     (BESIDE, '2', 'invalid: is 2, must be at least 3 (#/minimum)'),
     (TREE, '{"below":[{},{"below":[{"belwo":[]}]}]}',

@@ -18,6 +18,7 @@ Cause = namedtuple('Cause', 'instance path place words under')
 
 ABOUT = {code: kind for kind, codes in ((Number, (10, 11, 12, 13, 14)), (str, (20, 21)), (list, (22, 23, 43, 44, 61)),
                                         (dict, (24, 25, 26, 40, 42, 60))) for code in codes}
+NO_CHOICE, CHOICES = (30, 34), (31, 32)     # allOf and $ref; anyOf and oneOf
 BOUNDS = {10: ('at least', lambda value, bound: value >= bound), 11: ('at most', lambda value, bound: value <= bound),
           12: ('above', lambda value, bound: value > bound), 13: ('below', lambda value, bound: value < bound),
           14: ('a multiple of', lambda value, bound: (value / bound).denominator == 1)}
@@ -115,7 +116,7 @@ class Walk:
         return causes
 
     def clause_causes(self, j, place, path, clause, marks_are_lost):
-        if clause.code in (30, 34):
+        if clause.code in NO_CHOICE or clause.code in CHOICES and len(clause.entries) == 1:
             return self.below([(j, entry) for entry in clause.entries], path)
         if clause.code in schemas.UNGUARDED:
             return self.choice_causes(j, place, path, clause)
@@ -131,16 +132,15 @@ class Walk:
     def choice_causes(self, j, place, path, clause):
         """anyOf, oneOf and not: what failed is the choice; if nothing fits, the alternatives' causes stand under it."""
         holding = [entry for entry in clause.entries if self.held(j, entry.target)]
-        count = len(clause.entries)
-        if clause.code == 33:
-            words = 'fits what it must not fit' if holding else None
-        elif not holding:
+        if clause.code in CHOICES and not holding:
             under = [self.below([(j, entry)], path) for entry in clause.entries]
-            return [self.cause(j, place, path, clause, 'fits none of %d' % count, under)]
-        else:
+            return [self.cause(j, place, path, clause, 'fits none of %d' % len(under), under)]
+        if clause.code == 33 and holding:
+            return [self.cause(j, place, path, clause, 'fits what it must not fit')]
+        if clause.code == 32 and len(holding) > 1:
             fits = ' and '.join(entry.path[-1] for entry in holding)
-            words = 'fits %s, must fit only one' % fits if clause.code == 32 and len(holding) > 1 else None
-        return [self.cause(j, place, path, clause, words)] if words else []
+            return [self.cause(j, place, path, clause, 'fits %s, must fit only one' % fits)]
+        return []
 
     def cause(self, j, place, path, clause, words, under=()):
         keyword = () if clause.keyword is None else (clause.keyword,)
