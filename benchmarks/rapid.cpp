@@ -1,13 +1,20 @@
 /* One validation by rapidjson's schema validator: the schema compiled and the record parsed beforehand. */
 #include <rapidjson/document.h>
 #include <rapidjson/schema.h>
-#include <time.h>
 
-static double now_ns()
+#include "best.h"
+
+struct Validation {
+    const rapidjson::SchemaDocument *schema;
+    const rapidjson::Document *record;
+    int *valid;
+};
+
+static void validate(void *with)
 {
-    timespec t;
-    clock_gettime(CLOCK_MONOTONIC, &t);
-    return t.tv_sec * 1e9 + t.tv_nsec;
+    Validation *v = static_cast<Validation *>(with);
+    rapidjson::SchemaValidator validator(*v->schema);
+    *v->valid = v->record->Accept(validator) ? 1 : 0;
 }
 
 extern "C" double rapid_ns(const char *schema_text, const char *record_text, int *valid)
@@ -20,14 +27,6 @@ extern "C" double rapid_ns(const char *schema_text, const char *record_text, int
         return 0;
     }
     rapidjson::SchemaDocument schema(schema_document);
-    for (long calls = 1;; calls *= 2) {
-        double start = now_ns();
-        for (long i = 0; i < calls; i++) {
-            rapidjson::SchemaValidator validator(schema);
-            *valid = record.Accept(validator) ? 1 : 0;
-        }
-        double spent = now_ns() - start;
-        if (spent > 2e8)
-            return spent / calls;
-    }
+    Validation v = {&schema, &record, valid};
+    return best_ns(validate, &v);
 }

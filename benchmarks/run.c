@@ -1,8 +1,8 @@
-/* Judges each case until a fifth of a second has passed, five times, and prints the best of them. */
+/* Judges each case through the C entry, and by rapidjson where it can say the same. */
 #include <stdio.h>
-#include <time.h>
 
 #include "amphorust.h"
+#include "best.h"
 #include "cases.h"
 
 double rapid_ns(const char *schema, const char *record, int *valid);
@@ -10,44 +10,25 @@ double rapid_ns(const char *schema, const char *record, int *valid);
 static uint8_t cells[AMPHORUST_ROOM_MAX];
 static uint32_t list[AMPHORUST_ROOM_MAX];
 
-static double now_ns(void)
-{
-    struct timespec t;
-    clock_gettime(CLOCK_MONOTONIC, &t);
-    return t.tv_sec * 1e9 + t.tv_nsec;
-}
+struct call {
+    const struct sample *sample;
+    uint64_t answer;
+};
 
-static uint64_t judge(const struct sample *s)
+static void judge(void *with)
 {
+    struct call *c = with;
+    const struct sample *s = c->sample;
     size_t room = amphorust_room(s->words, s->words_length, s->rules, s->rules_length);
-    return amphorust_judge(s->words, s->words_length, s->text, s->text_length, s->rules, s->rules_length,
-                           s->rule_text, s->rule_text_length, cells, room, list, room);
-}
-
-static double best_ns(const struct sample *s, uint64_t *answer)
-{
-    double best = 0;
-    for (int round = 0; round < 5; round++) {
-        double spent = 0;
-        long calls = 1;
-        for (;; calls *= 2) {
-            double start = now_ns();
-            for (long i = 0; i < calls; i++)
-                *answer = judge(s);
-            spent = now_ns() - start;
-            if (spent > 4e7)
-                break;
-        }
-        if (round == 0 || spent / calls < best)
-            best = spent / calls;
-    }
-    return best;
+    c->answer = amphorust_judge(s->words, s->words_length, s->text, s->text_length, s->rules, s->rules_length,
+                                s->rule_text, s->rule_text_length, cells, room, list, room);
 }
 
 static void say(const struct sample *s)
 {
-    uint64_t answer = 0;
-    double ns = best_ns(s, &answer);
+    struct call c = {s, 0};
+    double ns = best_ns(judge, &c);
+    uint64_t answer = c.answer;
     size_t count = amphorust_count(answer);
     if (amphorust_is_refused(answer))
         printf("%-14s refused %u       %12.0f ns", s->name, amphorust_refusal(answer), ns);
