@@ -146,7 +146,7 @@ pub fn clear(cells: &mut [u8])
 }
 
 // One more, if it is so.
-pub fn add(n: usize, so: bool) -> usize
+fn add(n: usize, so: bool) -> usize
     requires { ⌜ n < 18446744073709551615 ⌝ }
     ensures { λ r. ⌜ r ≡ plus n so ⌝ }
 {

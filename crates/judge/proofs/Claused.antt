@@ -3,25 +3,23 @@
 --     known                                                              a pair that is settled already: its cell answers
 --     cells-kept, list-kept                                              the areas keep their lengths
 -- Assumes nothing.
-use mathlib.Core.Bool.{Bool, true, false, _&&_, _||_, cond}
+use mathlib.Core.Bool.{Bool, true, _&&_, _||_}
 use mathlib.Core.List.{List, [], _∷_, _++_}
 use mathlib.Core.Logic.{⊎-elim}
 use mathlib.Core.Path.{_≡_, refl, sym, ap, _∙_, subst}
-use Prim.Native.Nat.{ℕ, zero, suc, _+_, _<_, _≤_}
+use Prim.Native.Nat.{ℕ, _+_, _≤_}
 use native.Mathlib.Numerals.{add-one}
 use native.Mathlib.Omega.{arith}
-use lib.Dec.{eqb}
 use lib.ListN.{length, getD}
 use Rattle.laws.proofs.Tests.{decide}
-use Rattle.meaning.specs.Rules.{Pair, Marks, nothing, _∪_, Result, answer, applied, clause}
-use Rattle.meaning.specs.Settling.{samePair, listed, inTurn}
+use Rattle.meaning.specs.Rules.{Pair, Marks, _∪_, Result, answer, applied, clause}
+use Rattle.meaning.specs.Settling.{samePair, inTurn}
 use Rattle.meaning.proofs.Settled.{same-pair}
-use Rattle.areas.specs.Cells.{verd, mark, column}
+use Rattle.areas.specs.Cells.{verd}
 use Rattle.areas.specs.Writers.{Shut, Marked, kept}
-use Rattle.areas.proofs.Cells.{mark-read}
 use Rattle.steps.proofs.Plans.{clause-same}
 use Rattle.judge.specs.declared.cycle.Done.{Done}
-use Rattle.judge.specs.State.{Case, Fits, In, Kid, firstKid, kidCount, rankOf, truthOf, settleOf, clausesOf, clauseAt, beforeOf, cellAt, bitsOf, overlay, doneOf, Areas, Quiet, Ready, Unsettled, Judged, ClauseJudged}
+use Rattle.judge.specs.State.{Case, Kid, firstKid, kidCount, rankOf, truthOf, settleOf, clausesOf, clauseAt, beforeOf, cellAt, bitsOf, overlay, doneOf, Areas, Quiet, Ready, Unsettled, Judged, ClauseJudged}
 use Rattle.judge.proofs.Pairs.{both, shut, resAt, doneAt, truth-at, settle-old, settle-at, settle-self, turn-new, turn-grows}
 use Rattle.judge.proofs.State.{overlay-self, overlay-other, areas-done, areas-bits, areas-listed, areas-free, areas-said, areas-then, areas-settle}
 use Rattle.judge.proofs.Going.{Going, going-pair, going-bits, going-mark, going-open, open-bits}
@@ -84,46 +82,35 @@ unfolding shut
 shut-holds r = refl
 
 -- and p is settled
-pub claused-end : {T : Case} {p : Pair} {many : ℕ} {c₀ l₀ : List ℕ} {n₀ i : ℕ} {c l c₁ c₂ l₂ : List ℕ} {n x : ℕ} {r : Done}
+pub claused-end : {T : Case} {p : Pair} {many : ℕ} {c₀ l₀ : List ℕ} {n₀ i : ℕ} {c l c₁ c₂ l₂ : List ℕ} {n x r : ℕ} {ok : Bool}
     → many ≡ length (clausesOf T p) → i ≤ many → many ≤ i
     → Ready T (rankOf T p + 1) p c₀ l₀ n₀ → Unsettled (T .m) p c₀
-    → Claused T p c₀ l₀ n₀ i c l n (r .ok)
-    → Marked (T .m) (firstKid T p) (kidCount T p) (p .rule) (kept (T .m) c (p .rule) (r .ok)) c c₁
-    → x ≡ cellAt (T .m) p → Shut c₁ l n x (r .ok) c₂ l₂ (r .count)
+    → Claused T p c₀ l₀ n₀ i c l n ok
+    → Marked (T .m) (firstKid T p) (kidCount T p) (p .rule) (kept (T .m) c (p .rule) ok) c c₁
+    → x ≡ cellAt (T .m) p → Shut c₁ l n x ok c₂ l₂ r
     → Judged T p c₀ l₀ n₀ c₂ l₂ r
 unfolding Unsettled
-claused-end {T} {p} {many} {c₀} {l₀} {n₀} {i} {x = x} {r} d a b R u C M at S =
+claused-end {T} {p} {many} {c₀} {l₀} {n₀} {i} {ok = ok} d a b R u C M at S =
     let w : i ≡ length (clausesOf T p) = omega arith in
     let G = claused-shut C M in
     let t : truthOf T p ≡ shut (resAt T p i) = rw w (truth-at T (G .fit) p) in
-    let ok : r .ok ≡ (truthOf T p) .holds = C .holds ∙ shut-holds (resAt T p i) ∙ ap (λ (y : Result). y .holds) (sym t) in
+    let h : ok ≡ (truthOf T p) .holds = C .holds ∙ shut-holds (resAt T p i) ∙ ap (λ (y : Result). y .holds) (sym t) in
     let D = doneOf (T .m) l₀ n₀ in
     let f = areas-free (R .areas) p (R .inside) u in
     let s : doneAt T p D i ++ p ∷ [] ≡ settleOf T p D = rw w (sym (settle-at T (G .fit) p D f)) in
-    let A = rw s at (areas-settle (bitsOf (T .m) c₀) ((shut (resAt T p i)) .marks) (G .inside) (G .areas) (G .free) (λ k ch. ap (λ (y : Result). y .marks k) (sym t)) ok at (going-open G at) S) in
-    record {
-      areas = A;
-      said = ok;
-      settled = areas-said A p (G .inside) (settle-self T (G .fit) p D) ∙ ap mark (sym ok);
-    }
+    let A = rw s at (areas-settle (bitsOf (T .m) c₀) ((shut (resAt T p i)) .marks) (G .inside) (G .areas) (G .free) (λ k ch. ap (λ (y : Result). y .marks k) (sym t)) h at (going-open G at) S) in
+    record { areas = A; settled = areas-said A p (G .inside) (settle-self T (G .fit) p D) }
 
 -- a pair that is settled already
-pub known : {T : Case} {p : Pair} {c l : List ℕ} {n x v : ℕ} {r : Done} → Ready T (rankOf T p + 1) p c l n → x ≡ cellAt (T .m) p
-    → v ≡ verd (getD c x 0) → (v ≡ 0 → ⊥) → r .ok ≡ eqb v 1 → r .count ≡ n → Judged T p c l n c l r
-known {T} {p} {c} {l} {n} {x} {v} R e d f g q =
-    let z : v ≡ verd (getD c (cellAt (T .m) p) 0) = d ∙ ap (λ (y : ℕ). verd (getD c y 0)) e in
-    let h = areas-listed (R .areas) p (R .inside) (λ y. f (z ∙ y)) in
-    let s = areas-said (R .areas) p (R .inside) h in
-    let k = mark-read ((truthOf T p) .holds) v (z ∙ s) in
-    record {
-      areas = rw (q, settle-old T (R .fit) p (doneOf (T .m) l n) h) (R .areas);
-      said = g ∙ k;
-      settled = s ∙ ap mark (sym (g ∙ k));
-    }
+pub known : {T : Case} {p : Pair} {c l : List ℕ} {n v : ℕ} → Ready T (rankOf T p + 1) p c l n
+    → v ≡ verd (getD c (cellAt (T .m) p) 0) → (v ≡ 0 → ⊥) → Judged T p c l n c l n
+known {T} {p} {c} {l} {n} {v} R d f =
+    let h = areas-listed (R .areas) p (R .inside) (λ y. f (d ∙ y)) in
+    record { areas = rw (settle-old T (R .fit) p (doneOf (T .m) l n) h) (R .areas); settled = areas-said (R .areas) p (R .inside) h }
 
-pub unsettled-by : (m : ℕ) (p : Pair) (c : List ℕ) {x v : ℕ} → x ≡ cellAt m p → v ≡ verd (getD c x 0) → v ≡ 0 → Unsettled m p c
+pub unsettled-by : (m : ℕ) (p : Pair) (c : List ℕ) {v : ℕ} → v ≡ verd (getD c (cellAt m p) 0) → v ≡ 0 → Unsettled m p c
 unfolding Unsettled
-unsettled-by m p c e d z = sym (d ∙ ap (λ (y : ℕ). verd (getD c y 0)) e) ∙ z
+unsettled-by m p c d z = sym d ∙ z
 
 -- the areas keep their lengths
 module _ {T : Case} {d₀ d : List Pair} {h₀ h : Pair → Marks} {a₀ a c₀ l₀ c l : List ℕ} {n₀ n : ℕ} (A : Areas T d₀ h₀ a₀ c₀ l₀ n₀) (B : Areas T d h a c l n) where

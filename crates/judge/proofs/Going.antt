@@ -4,13 +4,13 @@
 --     going-ready, going-aimed    what judging one of its clauses, or a pair that it applies, asks
 --     going-apply, going-mark     a pair that it applies was judged; its marks were written
 --     going-writes, going-open    what writing its marks, and settling it, asks
---     Stepped, stepped-none, stepped-go, stepped-skip, stepped-went, stepped-passes, stepped-end     the loop over the steps of a clause
+--     Stepped, stepped-none, stepped-go, stepped-skip, stepped-skips, stepped-went, stepped-passes, stepped-end     the steps of a clause
 -- Assumes nothing.
-use mathlib.Core.Bool.{Bool, true, false, _&&_, _||_, cond}
-use mathlib.Core.List.{List, [], _∷_, _++_, List·Memᴰ as Has}
+use mathlib.Core.Bool.{Bool, true, false, not, _&&_, _||_, cond}
+use mathlib.Core.List.{List, List·Memᴰ as Has}
 use mathlib.Core.Logic.{⊎-elim}
 use mathlib.Core.Path.{_≡_, refl, sym, ap, _∙_, subst}
-use Prim.Native.Nat.{ℕ, zero, suc, _+_, _*_, _<_, _≤_}
+use Prim.Native.Nat.{ℕ, zero, suc, _+_, _-_, _*_, _<_, _≤_}
 use native.Mathlib.Nat.{le-refl, mul-le-mul-right, mul-comm}
 use native.Mathlib.Numerals.{add-one}
 use native.Mathlib.Omega.{arith}
@@ -18,17 +18,17 @@ use lib.Dec.{eqb}
 use lib.ListN.{length, getD}
 use borrow.Author.Tests.{eqb-true}
 use Rattle.laws.proofs.Tests.{decide}
-use Rattle.rulesheet.specs.Ruleset.{Clause}
-use Rattle.meaning.specs.Rules.{Pair, Marks, nothing, _∪_, Result, answer, applied, clause}
+use Rattle.meaning.specs.Rules.{Pair, Marks, nothing, _∪_, answer, applied, clause}
 use Rattle.meaning.specs.Settling.{samePair, listed, inTurn}
 use Rattle.meaning.proofs.Words.{row-inside}
 use Rattle.meaning.proofs.Settled.{same-pair}
-use Rattle.areas.specs.Cells.{cellOf, verd, bit, mark, column, plus}
+use Rattle.areas.specs.Cells.{verd, column, plus}
 use Rattle.areas.specs.Writers.{Open, Writes, Marked, passed, Passes}
-use Rattle.areas.proofs.Cells.{settled-room}
+use Rattle.areas.proofs.Cells.{mark-read, settled-room}
 use Rattle.steps.specs.Folds.{hitsBy, gives, marksBy, doneBy}
 use Rattle.steps.specs.Plan.{stepsOf, aimOf, goOf, finishOf}
-use Rattle.steps.proofs.Folds.{or-no, hits-le, done-picked}
+use Rattle.steps.specs.Turns.{Skipped}
+use Rattle.steps.proofs.Folds.{or-no, done-picked}
 use Rattle.steps.proofs.Plans.{Aimed, applied-is, holds-is, marks-is, go-is, go-same, aimed}
 use Rattle.judge.specs.declared.cycle.Done.{Done}
 use Rattle.judge.specs.State.{Case, Fits, In, Kid, firstKid, kidCount, rankOf, truthOf, settleOf, clausesOf, clauseAt, beforeOf, cellAt, bitsOf, overlay, doneOf, Areas, Quiet, Ready, Unsettled, Judged, ClauseJudged}
@@ -126,9 +126,9 @@ module _ {T : Case} {p : Pair} {held : Pair → Marks} {l₀ : List ℕ} {done :
   going-cell q i = areas-cell (G .areas) q i
 
   -- a pair that p applies was judged
-  pub going-apply : {q : Pair} {c′ l′ : List ℕ} {r : Done} → Aim T p q → Judged T q c l n c′ l′ r → Going T p held l₀ (settleOf T q done) κ c′ l′ (r .count)
+  pub going-apply : {q : Pair} {c′ l′ : List ℕ} {n′ : ℕ} → Aim T p q → Judged T q c l n c′ l′ n′ → Going T p held l₀ (settleOf T q done) κ c′ l′ n′
   unfolding Quiet
-  going-apply {q} {c′} {l′} {r} z j =
+  going-apply {q} {c′} {l′} {n′} z j =
       record {
         fit = G .fit;
         inside = G .inside;
@@ -227,16 +227,16 @@ module _ (T : Case) (p : Pair) (cl : ℕ) where
   abbrev pub many : ℕ
   many = stepsOf (T .doc) p (beforeOf T p cl) (clauseAt T p cl)
 
--- i steps of the clause were taken
-pub record Stepped (T : Case) (p : Pair) (cl : ℕ) (c₀ l₀ : List ℕ) (n₀ i : ℕ) (cells list : List ℕ) (count hits : ℕ) : Type 0 where
+-- i steps of the clause were taken, `misses` of which applied a pair that failed
+pub record Stepped (T : Case) (p : Pair) (cl : ℕ) (c₀ l₀ : List ℕ) (n₀ i : ℕ) (cells list : List ℕ) (count misses : ℕ) : Type 0 where
   pub going :
       Going T p (bitsOf (T .m) c₀) l₀ (doneBy (settleOf T) (goes T p cl (bitsOf (T .m) c₀ p)) (aims T p cl) (doneOf (T .m) l₀ n₀) i)
       (marksBy (truthOf T) p (goes T p cl (bitsOf (T .m) c₀ p)) (aims T p cl) (bitsOf (T .m) c₀ p) i) cells list count
-  pub hit : hits ≡ hitsBy (truthOf T) (goes T p cl (bitsOf (T .m) c₀ p)) (aims T p cl) i
+  pub missed : hitsBy (truthOf T) (goes T p cl (bitsOf (T .m) c₀ p)) (aims T p cl) i + misses ≡ i
 
 pub stepped-none : {T : Case} {p : Pair} {cl : ℕ} {c l : List ℕ} {n : ℕ} → Ready T (rankOf T p) p c l n → Unsettled (T .m) p c → Stepped T p cl c l n 0 c l n 0
 unfolding doneBy marksBy hitsBy
-stepped-none a u = record { going = going-clause a u; hit = refl }
+stepped-none a u = record { going = going-clause a u; missed = refl }
 
 pub open-bits : (T : Case) (c : List ℕ) (p : Pair) (k : ℕ) {b : Bool} → bitsOf (T .m) c p k ≡ b → column (T .m) c (p .rule) k ≡ b
 unfolding bitsOf
@@ -256,12 +256,18 @@ passed-gives {T} {p} {q} {κ = κ} {c} G i e k ch = rw own-bits (ap (λ (b : Boo
     second true d = open-bits T c q k (areas-marks (G .areas) q k i (subst (λ (x : ℕ). Kid T x k) (sym (eqb-true (q .row) (p .row) d)) ch) e)
     second false d = refl
 
-module _ {T : Case} {p : Pair} {cl : ℕ} {c₀ l₀ : List ℕ} {n₀ i : ℕ} {c l : List ℕ} {n hits : ℕ} (S : Stepped T p cl c₀ l₀ n₀ i c l n hits) where
+-- a pair that holds is a hit more, and one that fails a miss more
+one-more : (b : Bool) (x y i : ℕ) → x + y ≡ i → plus x b + plus y (not b) ≡ suc i
+unfolding plus
+one-more true x y i e = omega arith
+one-more false x y i e = omega arith
+
+module _ {T : Case} {p : Pair} {cl : ℕ} {c₀ l₀ : List ℕ} {n₀ i : ℕ} {c l : List ℕ} {n misses : ℕ} (S : Stepped T p cl c₀ l₀ n₀ i c l n misses) where
   abbrev κ₀ : Marks
   κ₀ = bitsOf (T .m) c₀ p
 
-  pub stepped-le : hits ≤ i
-  stepped-le = let a = hits-le (truthOf T) (aims T p cl) (goes T p cl κ₀) i in let b = S .hit in omega arith
+  pub stepped-few : misses ≤ i
+  stepped-few = let e = S .missed in omega arith
 
   -- a step that looks at the cells sees what it would have seen before the clause
   pub stepped-go : {g : Bool} → i < many T p cl
@@ -274,16 +280,17 @@ module _ {T : Case} {p : Pair} {cl : ℕ} {c₀ l₀ : List ℕ} {n₀ i : ℕ} 
       ∙ go-is (T .doc) (T .rules) (T .n) (T .m) (G .fit) p (G .inside .row-in) (beforeOf T p cl) κ₀ (truthOf T) (clauseAt T p cl) i h
 
   -- where a step that is applied leads
-  pub stepped-aim : {g : Bool} → i < many T p cl → Has (clauseAt T p cl) (clausesOf T p) → g ≡ goes T p cl κ₀ i → g ≡ true → Aim T p (aims T p cl i)
-  stepped-aim h has w e =
+  pub stepped-aim : i < many T p cl → Has (clauseAt T p cl) (clausesOf T p) → true ≡ goes T p cl κ₀ i → Aim T p (aims T p cl i)
+  stepped-aim h has w =
       let G = S .going in
-      aimed (T .doc) (T .rules) (T .n) (T .m) (G .fit) p (G .inside .row-in) (beforeOf T p cl) κ₀ (G .inside .rule-in) (clauseAt T p cl) i has h (sym w ∙ e)
+      aimed (T .doc) (T .rules) (T .n) (T .m) (G .fit) p (G .inside .row-in) (beforeOf T p cl) κ₀ (G .inside .rule-in) (clauseAt T p cl) i has h (sym w)
 
   -- a step that applies nothing
-  pub stepped-skip : {g : Bool} {h : ℕ} → g ≡ false → g ≡ goes T p cl κ₀ i → h ≡ hits + 1 → Stepped T p cl c₀ l₀ n₀ (i + 1) c l n h
+  pub stepped-skip : false ≡ goes T p cl κ₀ i → Stepped T p cl c₀ l₀ n₀ (i + 1) c l n misses
   unfolding doneBy marksBy hitsBy plus
-  stepped-skip {g} {h} e d q =
-      let z : goes T p cl κ₀ i ≡ false = sym d ∙ e in
+  stepped-skip d =
+      let z : goes T p cl κ₀ i ≡ false = sym d in
+      let e = S .missed in
       rw (add-one i)
       (record {
         going =
@@ -291,18 +298,18 @@ module _ {T : Case} {p : Pair} {cl : ℕ} {c₀ l₀ : List ℕ} {n₀ i : ℕ} 
             (going-as (S .going)
             (λ k. marksBy (truthOf T) p (goes T p cl κ₀) (aims T p cl) κ₀ i k || (goes T p cl κ₀ i && gives (truthOf T) p (aims T p cl i) k))
             (λ k ch. sym (rw z (or-no _))));
-        hit = q ∙ rw z (ap (λ (y : ℕ). y + 1) (S .hit));
+        missed = rw z (omega arith);
       })
 
   -- a step that applies a pair
-  pub stepped-went : {g : Bool} {h : ℕ} {q : Pair} {c₁ c₂ l₁ : List ℕ} {r : Done} → g ≡ true → g ≡ goes T p cl κ₀ i → q ≡ aims T p cl i
-      → Aim T p q → Judged T q c l n c₁ l₁ r
+  pub stepped-went : {v h : ℕ} {q : Pair} {c₁ c₂ l₁ : List ℕ} {n₁ : ℕ} → true ≡ goes T p cl κ₀ i → q ≡ aims T p cl i
+      → Aim T p q → Judged T q c l n c₁ l₁ n₁ → v ≡ verd (getD c₁ (cellAt (T .m) q) 0)
       → Marked (T .m) (firstKid T p) (kidCount T p) (p .rule) (passed (T .m) c₁ (p .row) (p .rule) (q .row) (q .rule)) c₁ c₂
-      → h ≡ plus hits (r .ok)
-      → Stepped T p cl c₀ l₀ n₀ (i + 1) c₂ l₁ (r .count) h
+      → h ≡ plus misses (not (eqb v 1))
+      → Stepped T p cl c₀ l₀ n₀ (i + 1) c₂ l₁ n₁ h
   unfolding doneBy marksBy hitsBy
-  stepped-went {g} {h} {q} {c₁} {c₂} {l₁} {r} e d same z j M u =
-      let w : goes T p cl κ₀ i ≡ true = sym d ∙ e in
+  stepped-went {v} {h} {q} {c₁} {c₂} {l₁} {n₁} d same z j read M u =
+      let w : goes T p cl κ₀ i ≡ true = sym d in
       let κ = marksBy (truthOf T) p (goes T p cl κ₀) (aims T p cl) κ₀ i in
       let G = going-apply (S .going) z j in
       let D = doneBy (settleOf T) (goes T p cl κ₀) (aims T p cl) (doneOf (T .m) l₀ n₀) i in
@@ -310,11 +317,23 @@ module _ {T : Case} {p : Pair} {cl : ℕ} {c₀ l₀ : List ℕ} {n₀ i : ℕ} 
       (λ k ch.
       passed-gives G (z .inside) (settle-self T (S .going .fit) q D) k ch ∙ ap (λ (x : Pair). κ k || gives (truthOf T) p x k) same ∙ sym (rw w)) in
       let f : settleOf T q D ≡ cond (goes T p cl κ₀ i) (settleOf T (aims T p cl i) D) D = ap (λ (x : Pair). settleOf T x D) same ∙ sym (rw w) in
+      let b : eqb v 1 ≡ (truthOf T (aims T p cl i)) .holds = mark-read ((truthOf T q) .holds) v (read ∙ j .settled) ∙ ap (λ (x : Pair). (truthOf T x) .holds) same in
+      let e : h ≡ plus misses (not ((truthOf T (aims T p cl i)) .holds)) = u ∙ ap (λ (x : Bool). plus misses (not x)) b in
       rw (add-one i)
       (record {
-        going = subst (λ (x : List Pair). Going T p (bitsOf (T .m) c₀) l₀ x (λ k. κ k || (goes T p cl κ₀ i && gives (truthOf T) p (aims T p cl i) k)) c₂ l₁ (r .count)) f H;
-        hit = u ∙ rw w (rw (S .hit) (ap (λ (y : Bool). plus (hitsBy (truthOf T) (goes T p cl κ₀) (aims T p cl) i) y) (j .said ∙ ap (λ (x : Pair). (truthOf T x) .holds) same)));
+        going = subst (λ (x : List Pair). Going T p (bitsOf (T .m) c₀) l₀ x (λ k. κ k || (goes T p cl κ₀ i && gives (truthOf T) p (aims T p cl i) k)) c₂ l₁ n₁) f H;
+        missed = rw (w, e) (one-more ((truthOf T (aims T p cl i)) .holds) _ misses i (S .missed));
       })
+
+-- steps that apply nothing
+pub stepped-skips : {T : Case} {p : Pair} {cl : ℕ} {c₀ l₀ : List ℕ} {n₀ x : ℕ} {c l : List ℕ} {n misses : ℕ} (d : ℕ) → Stepped T p cl c₀ l₀ n₀ x c l n misses
+    → x + d ≤ many T p cl → Skipped (T .doc) p (beforeOf T p cl) (clauseAt T p cl) (column (T .m) c (p .rule)) x (x + d)
+    → Stepped T p cl c₀ l₀ n₀ (x + d) c l n misses
+stepped-skips {T} {p} {cl} {c₀} {l₀} {n₀} {x} {c} {l} {n} {misses} zero S h f = subst (λ (y : ℕ). Stepped T p cl c₀ l₀ n₀ y c l n misses) (omega arith) S
+stepped-skips {T} {p} {cl} {c₀} {l₀} {n₀} {x} {c} {l} {n} {misses} (suc d) S h f =
+    let R = stepped-skips d S (omega arith) (record { idle = λ k a b. f .idle k a (omega arith) }) in
+    let g : false ≡ goes T p cl (bitsOf (T .m) c₀ p) (x + d) = stepped-go R (omega arith) (sym (f .idle (x + d) (omega arith) (omega arith))) in
+    subst (λ (y : ℕ). Stepped T p cl c₀ l₀ n₀ y c l n misses) (omega arith) (stepped-skip R g)
 
 -- what passing on asks
 pub stepped-passes : {T : Case} {p q : Pair} {held : Pair → Marks} {l₀ : List ℕ} {done : List Pair} {κ : Marks} {c l : List ℕ} {n : ℕ}
@@ -326,28 +345,24 @@ stepped-passes {T} {p} {q} G z =
     }
 
 -- all steps were taken
-pub stepped-end : {T : Case} {p : Pair} {cl : ℕ} {c₀ l₀ : List ℕ} {n₀ i : ℕ} {c l : List ℕ} {n hits end : ℕ} {r : Done}
-    → Stepped T p cl c₀ l₀ n₀ i c l n hits → end ≡ many T p cl → i ≤ end → end ≤ i
-    → r .ok ≡ finishOf (T .doc) p (clauseAt T p cl) hits end → r .count ≡ n → ClauseJudged T p cl c₀ l₀ n₀ c l r
+pub stepped-end : {T : Case} {p : Pair} {cl : ℕ} {c₀ l₀ : List ℕ} {n₀ : ℕ} {c l : List ℕ} {n misses : ℕ} {r : Done}
+    → Stepped T p cl c₀ l₀ n₀ (many T p cl) c l n misses
+    → r .ok ≡ finishOf (T .doc) p (clauseAt T p cl) (many T p cl - misses) (many T p cl) → r .count ≡ n → ClauseJudged T p cl c₀ l₀ n₀ c l r
 unfolding _∪_
-stepped-end {T} {p} {cl} {c₀} {l₀} {n₀} {i} {end = end} S e a b f q =
+stepped-end {T} {p} {cl} {c₀} {l₀} {n₀} {misses = misses} S f q =
     let G = S .going in
     let κ = bitsOf (T .m) c₀ p in
     let bf = beforeOf T p cl in
     let cls = clauseAt T p cl in
-    let u : i ≡ many T p cl = omega arith in
     let H = going-as G (λ k. κ k || (answer (truthOf T) (clause (T .doc) p bf κ cls)) .marks k)
-    (λ k ch. rw u (sym (marks-is (T .doc) (T .rules) (T .n) (T .m) (G .fit) p (G .inside .row-in) bf κ (truthOf T) cls k))) in
-    let d : doneBy (settleOf T) (goes T p cl κ) (aims T p cl) (doneOf (T .m) l₀ n₀) i ≡ inTurn (settleOf T) (applied (truthOf T) (clause (T .doc) p bf κ cls)) (doneOf (T .m) l₀ n₀) =
-    rw u
-    (sym (ap (λ x. inTurn (settleOf T) x (doneOf (T .m) l₀ n₀)) (applied-is (T .doc) (T .rules) (T .n) (T .m) (G .fit) p (G .inside .row-in) bf κ (truthOf T) cls)
-    ∙ done-picked (settleOf T) (goes T p cl κ) (aims T p cl) (doneOf (T .m) l₀ n₀) (many T p cl))) in
+    (λ k ch. sym (marks-is (T .doc) (T .rules) (T .n) (T .m) (G .fit) p (G .inside .row-in) bf κ (truthOf T) cls k)) in
+    let d : doneBy (settleOf T) (goes T p cl κ) (aims T p cl) (doneOf (T .m) l₀ n₀) (many T p cl) ≡ inTurn (settleOf T) (applied (truthOf T) (clause (T .doc) p bf κ cls)) (doneOf (T .m) l₀ n₀) =
+    sym (ap (λ x. inTurn (settleOf T) x (doneOf (T .m) l₀ n₀)) (applied-is (T .doc) (T .rules) (T .n) (T .m) (G .fit) p (G .inside .row-in) bf κ (truthOf T) cls)
+    ∙ done-picked (settleOf T) (goes T p cl κ) (aims T p cl) (doneOf (T .m) l₀ n₀) (many T p cl)) in
+    let e = S .missed in
+    let h : many T p cl - misses ≡ hitsBy (truthOf T) (goes T p cl κ) (aims T p cl) (many T p cl) = omega arith in
     record {
       areas = rw (← d, q) (H .areas);
-      said = f ∙ rw (S .hit, u, e) (sym (holds-is (T .doc) (T .rules) (T .n) (T .m) (G .fit) p (G .inside .row-in) bf κ (truthOf T) cls));
+      said = f ∙ ap (λ (x : ℕ). finishOf (T .doc) p cls x (many T p cl)) h ∙ sym (holds-is (T .doc) (T .rules) (T .n) (T .m) (G .fit) p (G .inside .row-in) bf κ (truthOf T) cls);
       free = going-unsettled G;
     }
-
-pub stepped-to : {T : Case} {p : Pair} {cl : ℕ} {c₀ l₀ : List ℕ} {n₀ i : ℕ} {c l c′ l′ : List ℕ} {n n′ hits hits′ : ℕ}
-    → Stepped T p cl c₀ l₀ n₀ i c l n hits → c′ ≡ c → l′ ≡ l → hits′ ≡ hits → n′ ≡ n → Stepped T p cl c₀ l₀ n₀ i c′ l′ n′ hits′
-stepped-to s e d q f = rw (e, d, q, f) s

@@ -1,6 +1,7 @@
 pub mod State
 pub mod Pairs
 pub mod Going
+pub mod Turning
 pub mod Claused
 pub mod Whole
 pub mod Reading

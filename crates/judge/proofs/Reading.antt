@@ -1,7 +1,7 @@
 -- What the proof of the cycle asks besides: the sheets that were read and the case that they are, cell numbers, and a clause and a step as they were read.
 -- Assumes nothing.
-use mathlib.Core.Bool.{Bool, true, false}
-use mathlib.Core.List.{List, List·Memᴰ as Has, List·Memᴰ·head as at-head, List·Memᴰ·tail as in-tail, [], _∷_}
+use mathlib.Core.Bool.{Bool, true}
+use mathlib.Core.List.{List, [], List·Memᴰ as Has, List·Memᴰ·head as at-head, List·Memᴰ·tail as in-tail, _∷_}
 use mathlib.Core.Path.{_≡_, refl, sym, ap, _∙_, subst}
 use Prim.Native.Nat.{ℕ, zero, suc, _+_, _*_, _≤_, _<_}
 use native.Mathlib.Nat.{mul-le-mul-right, mul-comm}
@@ -9,30 +9,42 @@ use native.Mathlib.Omega.{arith}
 use lib.ListN.{length, getD}
 use Rattle.sheet.specs.declared.record.RecordForm.{RecordForm}
 use Rattle.sheet.specs.declared.record.Children.{Children}
-use Rattle.sheet.specs.Record.{rowsWord, docOf}
-use Rattle.sheet.specs.Accepted.{Laid, ChildrenRead}
+use Rattle.sheet.specs.Record.{rowsWord, formOf, docOf}
+use Rattle.sheet.specs.Accepted.{ChildrenRead}
 use Rattle.sheet.proofs.Trailers.{form-rows}
 use Rattle.rulesheet.specs.declared.form.RuleForm.{RuleForm}
-use Rattle.rulesheet.specs.declared.form.SchemaRow.{SchemaRow}
 use Rattle.rulesheet.specs.declared.clause.Clause.{Clause}
 use Rattle.rulesheet.specs.Ruleset as R
 use Rattle.rulesheet.specs.Ruleset.{never, asserts}
-use Rattle.rulesheet.specs.Sheet.{schemasWord, clausesWord, schemaAt, clauseOf, rulesOf}
-use Rattle.rulesheet.specs.Faults.{parts-max}
-use Rattle.rulesheet.specs.Read.{RulesFormed, RulesLaid}
+use Rattle.rulesheet.specs.Sheet as RS
+use Rattle.rulesheet.specs.Sheet.{schemasWord, schemaAt, clauseOf}
+use Rattle.rulesheet.specs.Faults.{wordsOk}
+use Rattle.rulesheet.specs.Read.{RulesFormed}
 use Rattle.rulesheet.specs.Clauses.{clauseMeans, Tested}
 use Rattle.rulesheet.proofs.Trailers.{form-m, form-c, trailer-facts}
 use Rattle.rulesheet.proofs.Taking.{schema-within}
 use Rattle.rulesheet.proofs.Items.{clauses-long, clause-item}
-use Rattle.meaning.specs.Rules.{Pair, Marks}
+use Rattle.meaning.specs.Rules.{Pair}
 use Rattle.areas.specs.Cells.{cellOf, column}
 use Rattle.areas.specs.Writers.{Passes, Marked, Writes, passed, kept}
-use Rattle.steps.specs.declared.step.Step.{Step}
-use Rattle.steps.specs.Plan.{stepsOf, aimOf, goOf, finishOf}
-use Rattle.steps.specs.Read.{clauseIn, beforeIn, ClauseRead, Started, StepRead}
-use Rattle.judge.specs.State.{pair, Case, caseOf, Sheets, Fits, In, firstKid, kidCount, clausesOf, clauseAt, beforeOf, cellAt, rankOf, Ready}
-use Rattle.judge.proofs.State.{areas-cell}
-use Rattle.judge.proofs.Going.{Aim, aims, many, narrow}
+use Rattle.steps.specs.declared.turn.Turn.{Turn}
+use Rattle.steps.specs.Plan.{stepsOf}
+use Rattle.steps.specs.Read.{beforeIn, ClauseRead, Started}
+use Rattle.steps.specs.Turns.{Turned}
+use Rattle.judge.specs.State.{Case, caseOf, Sheets, Fits, In, firstKid, kidCount, clausesOf, clauseAt, beforeOf, cellAt, rankOf, Advances}
+use Rattle.judge.proofs.Going.{Aim}
+
+-- the rules' trailer is in order, and the form is its
+pub formed-by : {rs : List ℕ} {rform : RuleForm} → wordsOk rs ≡ true → rform ≡ RS.formOf rs → RulesFormed rs rform
+formed-by a e = record { trailer = a; same-form = e }
+
+-- how many schemas the rules have
+pub schemas-by : {rs : List ℕ} {rform : RuleForm} {m : ℕ} → RulesFormed rs rform → m ≡ rform .m → m ≡ schemasWord rs
+schemas-by {rs} {rform} F e = e ∙ form-m rs rform F
+
+-- a cell by its numbers
+pub cell-by : {m k row rule : ℕ} {p : Pair} → m ≡ k → row ≡ p .row → rule ≡ p .rule → cellOf m row rule ≡ cellAt k p
+cell-by u v w = rw (u, v, w)
 
 module _ {ws ts rs us : List ℕ} {form : RecordForm} {rform : RuleForm} (S : Sheets ws ts rs us form rform) where
   abbrev T : Case
@@ -41,39 +53,20 @@ module _ {ws ts rs us : List ℕ} {form : RecordForm} {rform : RuleForm} (S : Sh
   formed : RulesFormed rs rform
   formed = S .rules-read .laid .clauses-laid .schemas-laid .formed
 
+  pub rules-ok : wordsOk rs ≡ true
+  rules-ok = formed .trailer
+
   pub rows-are : form .rows ≡ rowsWord ws
   rows-are = form-rows ws form (S .record-read .laid .formed)
 
   pub schemas-are : rform .m ≡ schemasWord rs
   schemas-are = form-m rs rform formed
 
-  -- ---- the pair that is judged
+  pub row-low : {p : Pair} → In T p → p .row < form .rows
+  row-low I = omega (arith, rows-are, I .row-in)
 
-  module _ {t j s : ℕ} {c l : List ℕ} {n : ℕ} (R : Ready T t (pair j s) c l n) where
-    pub row-low : j < form .rows
-    row-low = omega (arith, rows-are, R .inside .row-in)
-
-    pub rule-low : s < rform .m
-    rule-low = omega (arith, schemas-are, R .inside .rule-in)
-
-    module _ {m row rule : ℕ} (a : m ≡ rform .m) (b : row ≡ j) (d : rule ≡ s) where
-      pub cell-number : cellOf m row rule ≡ cellAt (T .m) (pair j s)
-      cell-number = rw (a, b, d, schemas-are)
-
-      pub cell-small : cellOf m row rule < 18446744073709551616
-      cell-small =
-          let h = areas-cell (R .areas) (pair j s) (R .inside) in
-          let k = narrow (T .n) (T .m) (cellAt (T .m) (pair j s)) (R .fit .rows .few) (R .fit .few) (omega (arith, R .areas .long)) in
-          rw cell-number (omega arith)
-
-      pub cell-is : {x : ℕ} → x ≡ cellOf m row rule → x ≡ cellAt (T .m) (pair j s)
-      cell-is e = e ∙ cell-number
-
-      pub cell-below : {x : ℕ} → x ≡ cellOf m row rule → x < length c
-      cell-below e = let h = areas-cell (R .areas) (pair j s) (R .inside) in let k = cell-is e in omega arith
-
-    pub areas-long : form .rows * rform .m ≤ length c
-    areas-long = rw (rows-are, schemas-are) (omega (arith, R .areas .long))
+  pub rule-low : {p : Pair} → In T p → p .rule < rform .m
+  rule-low I = omega (arith, schemas-are, I .rule-in)
 
   -- ---- the clauses of a schema
 
@@ -84,17 +77,6 @@ module _ {ws ts rs us : List ℕ} {form : RecordForm} {rform : RuleForm} (S : Sh
     pub clause-small : first + i < 4294967296
     clause-small = let a = trailer-facts rs (formed .trailer) in omega (arith, clause-low, form-c rs rform formed, a .few-clauses)
 
-    low-word : s < schemasWord rs
-    low-word = omega (arith, schemas-are)
-
-    pub clause-has : (j : ℕ) → Has (clauseAt T (pair j s) i) (clausesOf T (pair j s))
-    clause-has j = has (clausesOf T (pair j s)) i (omega (arith, clauses-long rs us s low-word))
-      where
-        has : (l : List R.Clause) (k : ℕ) → k < length l → Has (getD l k (asserts never)) l
-        has [] k g = absurd (omega arith)
-        has (x ∷ l) zero g = at-head refl
-        has (x ∷ l) (suc k) g = in-tail (has l k (omega arith))
-
     pub clause-read : {clause : Clause} → ((vs : List ℕ) → clauseMeans rs vs clause ≡ clauseOf rs vs (first + i)) → Tested rs rform clause
         → ClauseRead rs us rform s first i clause
     clause-read means tested =
@@ -102,46 +84,74 @@ module _ {ws ts rs us : List ℕ} {form : RecordForm} {rform : RuleForm} (S : Sh
           schema-in = low;
           first-is = at;
           clause-in = h;
-          means = means us ∙ rw at (sym (clause-item rs us s low-word i (asserts never) h));
+          means = means us ∙ rw at (sym (clause-item rs us s (omega (arith, schemas-are)) i (asserts never) h));
           tested = tested;
         }
 
-  pub clauses-many : (j : ℕ) {s : ℕ} {row : SchemaRow} → s < rform .m → row ≡ schemaAt rs s → row .count ≡ length (clausesOf T (pair j s))
-  clauses-many j {s = s} low e = ap (λ (x : SchemaRow). x .count) e ∙ sym (clauses-long rs us s (omega (arith, schemas-are)))
+  pub clauses-many : {p : Pair} {many : ℕ} → In T p → many ≡ schemaAt rs (p .rule) .count → many ≡ length (clausesOf T p)
+  clauses-many {p} I e = e ∙ sym (clauses-long rs us (p .rule) (I .rule-in))
 
-  -- ---- a clause and a step, as they were read
-
-  module _ (j : ℕ) {s first i from : ℕ} {clause : Clause} (C : ClauseRead rs us rform s first i clause) (B : Started (beforeIn rs us s i) (clauseMeans rs us clause) from) where
-    pub many-is : {k : ℕ}
-        → ((ts₁ rs₁ us₁ : List ℕ) (p : Pair) (before : List R.Clause) → p .row ≡ j → Started before (clauseMeans rs₁ us₁ clause) from → k ≡ stepsOf (docOf ws ts₁) p before (clauseMeans rs₁ us₁ clause))
-        → k ≡ many T (pair j s) i
-    many-is f = f ts rs us (pair j s) (beforeIn rs us s i) refl B ∙ ap (λ c. stepsOf (docOf ws ts) (pair j s) (beforeIn rs us s i) c) (C .means)
-
-    pub below : {k x : ℕ} → k ≡ many T (pair j s) i → x < k → x < stepsOf (docOf ws ts) (pair j s) (beforeIn rs us s i) (clauseMeans rs us clause)
-    below {k} {x} e h = rw (C .means) (let z : x < many T (pair j s) i = omega arith in z)
-
-    pub finish-is : (hits k : ℕ) {ok : Bool} → ((p : Pair) → p .row ≡ j → ok ≡ finishOf (docOf ws ts) p (clauseMeans rs us clause) hits k)
-        → ok ≡ finishOf (T .doc) (pair j s) (clauseAt T (pair j s) i) hits k
-    finish-is hits k f = f (pair j s) refl ∙ ap (λ c. finishOf (docOf ws ts) (pair j s) c hits k) (C .means)
-
-    module _ (x : ℕ) (c : List ℕ) {r : Step} (read : StepRead (docOf ws ts) (pair j s) (beforeIn rs us s i) (clauseMeans rs us clause) x (column (rform .m) c s) r) where
-      pub step-go : r .go ≡ goOf (T .doc) (pair j s) (beforeOf T (pair j s) i) (clauseAt T (pair j s) i) x (column (T .m) c s (aims T (pair j s) i x .row))
-      step-go =
-          read .go-is
-          ∙ ap (λ cl. goOf (docOf ws ts) (pair j s) (beforeIn rs us s i) cl x (column (rform .m) c s (aimOf (docOf ws ts) (pair j s) (beforeIn rs us s i) cl x .row))) (C .means)
-          ∙ rw schemas-are
-
-      pub step-aim : r .go ≡ true → pair (r .row) (r .rule) ≡ aims T (pair j s) i x
-      step-aim g = read .aim-is g ∙ ap (λ cl. aimOf (docOf ws ts) (pair j s) (beforeIn rs us s i) cl x) (C .means)
+  pub clause-has : {p : Pair} {i : ℕ} → In T p → i < schemaAt rs (p .rule) .count → Has (clauseAt T p i) (clausesOf T p)
+  clause-has {p} {i} I h = has (clausesOf T p) i (omega (arith, clauses-long rs us (p .rule) (I .rule-in)))
+    where
+      has : (l : List R.Clause) (k : ℕ) → k < length l → Has (getD l k (asserts never)) l
+      has [] k g = absurd (omega arith)
+      has (x ∷ l) zero g = at-head refl
+      has (x ∷ l) (suc k) g = in-tail (has l k (omega arith))
 
   -- ---- the children
 
-  module _ {j : ℕ} (s : ℕ) {kids : Children} (K : ChildrenRead ws j kids) where
-    pub kid-first : {x : ℕ} → x ≡ kids .first → x ≡ firstKid T (pair j s)
+  module _ (p : Pair) {kids : Children} (K : ChildrenRead ws (p .row) kids) where
+    pub kid-first : {x : ℕ} → x ≡ kids .first → x ≡ firstKid T p
     kid-first e = e ∙ K .first-is ts
 
-    pub kid-many : {x : ℕ} → x ≡ kids .count → x ≡ kidCount T (pair j s)
+    pub kid-many : {x : ℕ} → x ≡ kids .count → x ≡ kidCount T p
     kid-many e = e ∙ K .count-is ts
+
+-- ---- a clause between two of its steps, as it was read
+
+-- the sheets by their own forms
+pub own-sheets : {ws ts rs us : List ℕ} {form : RecordForm} {rform : RuleForm} → Sheets ws ts rs us form rform → Sheets ws ts rs us (formOf ws) (RS.formOf rs)
+own-sheets S = rw (S .record-read .laid .formed .same-form, formed S .same-form) at S
+
+pub lent-sheets : {ws ts rs us : List ℕ} {form : RecordForm} {rform : RuleForm} → Sheets ws ts rs us (formOf ws) (RS.formOf rs) → form ≡ formOf ws → rform ≡ RS.formOf rs
+    → Sheets ws ts rs us form rform
+lent-sheets S e f = rw (e, f) S
+
+pub sheets-by : {ws ts rs us cells : List ℕ} {form : RecordForm} {rform : RuleForm} {p q : Pair} {i from x misses : ℕ}
+    → Advances ws ts rs us cells p i from x misses q → form ≡ formOf ws → rform ≡ RS.formOf rs → Sheets ws ts rs us form rform
+sheets-by A = lent-sheets (A .sheets)
+
+module _ {ws ts rs us c₀ : List ℕ} {form : RecordForm} {rform : RuleForm} {clause : Clause} {p q : Pair} {first i from x misses : ℕ}
+    (A : Advances ws ts rs us c₀ p i from x misses q) (S : Sheets ws ts rs us form rform) (C : ClauseRead rs us rform (p .rule) first i clause) where
+  pub started-in : 0 < x → Started (beforeIn rs us (p .rule) i) (clauseMeans rs us clause) from
+  started-in h = rw (C .means) (A .started h)
+
+  pub low-in : x ≤ stepsOf (docOf ws ts) p (beforeIn rs us (p .rule) i) (clauseMeans rs us clause)
+  low-in = rw (C .means) (A .low)
+
+  pub long-in : (c : List ℕ) → length c ≡ length c₀ → form .rows * rform .m ≤ length c
+  long-in c e = rw (rows-are S, schemas-are S) (omega (arith, A .long))
+
+  pub turned-in : (c : List ℕ) {r : Turn} → Turned (docOf ws ts) p (beforeIn rs us (p .rule) i) (clauseMeans rs us clause) x misses (column (rform .m) c (p .rule)) r
+      → Turned (T S .doc) p (beforeOf (T S) p i) (clauseAt (T S) p i) x misses (column (T S .m) c (p .rule)) r
+  turned-in c t = rw (C .means, schemas-are S) at t
+
+-- what was passed on, if anything was
+pub record Given (T : Case) (p q : Pair) (x : ℕ) (c₀ c : List ℕ) : Type 0 where
+  pub unchanged : x ≡ 0 → c ≡ c₀
+  pub given : 0 < x → Marked (T .m) (firstKid T p) (kidCount T p) (p .rule) (passed (T .m) c₀ (p .row) (p .rule) (q .row) (q .rule)) c₀ c
+
+pub given-none : {T : Case} {p q : Pair} {x : ℕ} {c₀ c : List ℕ} → x ≤ 0 → c ≡ c₀ → Given T p q x c₀ c
+given-none h e = record { unchanged = λ z. e; given = λ g. absurd (omega arith) }
+
+pub given-some : {T : Case} {p q : Pair} {x : ℕ} {c₀ c d : List ℕ} → 0 < x
+    → Marked (T .m) (firstKid T p) (kidCount T p) (p .rule) (passed (T .m) c₀ (p .row) (p .rule) (q .row) (q .rule)) c₀ d → c ≡ d → Given T p q x c₀ c
+given-some h m e = record { unchanged = λ z. absurd (omega arith); given = λ g. rw e m }
+
+pub given-long : {T : Case} {p q : Pair} {x : ℕ} {c₀ c : List ℕ} → Given T p q x c₀ c → length c ≡ length c₀
+given-long {x = zero} g = ap length (g .unchanged refl)
+given-long {x = suc x} g = g .given (omega arith) .len
 
 pub aim-by : {T : Case} {p q r : Pair} → q ≡ r → Aim T p r → Aim T p q
 aim-by {T} {p} e a = subst (Aim T p) (sym e) a

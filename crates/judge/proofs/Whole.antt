@@ -3,32 +3,30 @@
 --     judged-all        what is left once it was
 --     part-exact, part-judged     the same in longer areas, of which the run takes the first n × m places
 -- Assumes nothing.
-use mathlib.Core.Bool.{Bool, true, false, _&&_, _||_, cond}
+use mathlib.Core.Bool.{Bool, true, false, _&&_, cond}
 use mathlib.Core.List.{List, [], _∷_, _++_, map, append-assoc, append-nil}
 use mathlib.Core.Logic.{⊎-elim}
 use mathlib.Core.Path.{_≡_, refl, sym, ap, _∙_}
 use Prim.Native.Nat.{ℕ, zero, suc, _+_, _*_, _-_, _<_, _≤_}
 use native.Mathlib.Nat.{add-mul, zero-mul}
 use native.Mathlib.Omega.{arith}
-use lib.Dec.{ltb}
-use lib.ListN.{length, getD, take, drop, length-append, length-map, length-drop, take-append-drop}
-use lib.Seq.{ext-getD, getD-take, getD-drop, length-take-le, take-at, drop-at}
+use lib.Dec.{eqb, ltb}
+use lib.ListN.{length, getD, take, drop, length-map, length-drop, take-append-drop}
+use lib.Seq.{ext-getD, getD-take, getD-drop, length-take-le}
 use borrow.Author.Tests.{lt-ltb, le-ltb}
 use Rattle.laws.proofs.Tests.{le-or-lt}
 use Rattle.sheet.specs.Doc.{Value, null, bool, number, string, array, object, Doc, firstChild, childCount}
 use Rattle.meaning.specs.Lists.{range, keep, concatMap}
 use Rattle.meaning.specs.Tests.{members?, elements?, rows}
-use Rattle.meaning.specs.Rules.{Pair, Marks, membersOf, elementsOf}
+use Rattle.meaning.specs.Rules.{Pair, membersOf, elementsOf}
 use Rattle.meaning.specs.Settling.{listed, root, settled, word, list, cell, cells, marked}
 use Rattle.meaning.specs.Answer.{Left, verdict, judged}
-use Rattle.meaning.specs.Fit.{Inside}
 use Rattle.meaning.proofs.Settled.{once}
 use Rattle.areas.specs.Cells.{cellOf, verd, bit, four, mark, column, markedBy, Cleared}
 use Rattle.areas.specs.Writers.{Writes}
-use Rattle.areas.proofs.Cells.{whole, zero-verd, zero-bit, settled-blank}
-use Rattle.judge.specs.declared.cycle.Done.{Done}
+use Rattle.areas.proofs.Cells.{mark-read, whole, zero-verd, zero-bit, settled-blank}
 use Rattle.judge.specs.declared.cycle.Verdict.{Verdict}
-use Rattle.judge.specs.State.{pair, Case, Fits, In, Kid, firstKid, kidCount, truthOf, settleOf, cellAt, bitsOf, doneOf, Areas, Quiet, Ready, Judged}
+use Rattle.judge.specs.State.{pair, Case, Fits, In, firstKid, kidCount, truthOf, settleOf, cellAt, bitsOf, doneOf, Areas, Quiet, Ready, Judged}
 use Rattle.judge.specs.Whole.{Exact, Fresh, Roomy, leftBy, judgedOf}
 use Rattle.judge.proofs.Pairs.{settle-self}
 use Rattle.judge.proofs.State.{areas-marks, areas-writes}
@@ -182,12 +180,12 @@ none-after k l e = ext-getD 0 (drop k l) [] (length-drop k l ∙ (let z : length
     none : (i : ℕ) → i < length (drop k l) → ⊥
     none i h = let z = length-drop k l in omega arith
 
-pub judged-all : {T : Case} {c₀ l₀ c l : List ℕ} {d : Done} (r : Verdict) {x y : ℕ} → Fresh T c₀ l₀ → Judged T root c₀ l₀ 0 c l d
-    → r .ok ≡ d .ok → r .count ≡ d .count → x ≡ firstKid T root → y ≡ kidCount T root → r .marked ≡ markedBy (T .m) c x y
+pub judged-all : {T : Case} {c₀ l₀ c l : List ℕ} {n : ℕ} (r : Verdict) {x y : ℕ} → Fresh T c₀ l₀ → Judged T root c₀ l₀ 0 c l n
+    → r .ok ≡ (truthOf T root) .holds → r .count ≡ n → x ≡ firstKid T root → y ≡ kidCount T root → r .marked ≡ markedBy (T .m) c x y
     → leftBy r c l ≡ judgedOf T c₀ l₀
 unfolding judged settled settleOf list word cells markedBy marked root
-judged-all {T} {c₀} {l₀} {c} {l} {d} r {x} {y} F j e f u v w =
-    let A : Areas T (settleOf T root []) (bitsOf (T .m) c₀) l₀ c l (d .count) = rw (none-done (T .m) l₀) at (j .areas) in
+judged-all {T} {c₀} {l₀} {c} {l} {n} r {x} {y} F j e f u v w =
+    let A : Areas T (settleOf T root []) (bitsOf (T .m) c₀) l₀ c l n = rw (none-done (T .m) l₀) at (j .areas) in
     let done = settleOf T root [] in
     let fit = F .exact .fit in
     let marks : r .marked ≡ marked (T .doc) (T .rules) (T .n) (T .m) =
@@ -202,7 +200,7 @@ judged-all {T} {c₀} {l₀} {c} {l} {d} r {x} {y} F j e f u v w =
     (λ i s h g. let z : 0 + i ≡ i = omega arith in rw z (celled-at F A i s h g))
     ∙ sym (rw (none-after (T .n * T .m) c₀ (F .exact .cells-long)) (append-nil _)) in
     let answers : verdict (r .ok) (r .count) (r .marked) ≡ verdict ((truthOf T root) .holds) (length done) (marked (T .doc) (T .rules) (T .n) (T .m)) =
-    verdict-by _ _ _ _ _ _ (e ∙ j .said) (f ∙ A .counts) marks in
+    verdict-by _ _ _ _ _ _ e (f ∙ A .counts) marks in
     λ i. record { answer = answers i; cells = cellsAre i; list = A .lists i }
 
 -- ---- in longer areas
@@ -254,12 +252,12 @@ same-left T c c₀ l₀ a b =
     ap (λ rest. record { answer = verdict ((truthOf T root) .holds) (length (settled (T .doc) (T .rules))) (marked (T .doc) (T .rules) (T .n) (T .m)); cells = cells (T .doc) (T .rules) (T .n) (T .m) ++ rest; list = list (T .doc) (T .rules) (T .n) (T .m) ++ drop (length (settled (T .doc) (T .rules))) l₀ })
     (none-after (T .n * T .m) c₀ b ∙ sym (none-after (T .n * T .m) c a))
 
-pub root-judged : {T : Case} {c₁ c₀ l₀ c l : List ℕ} {d : Done} (r : Verdict) {x y k : ℕ} → Exact T c₁ l₀ → Fresh T c₀ l₀ → Judged T (pair 0 0) c₀ l₀ 0 c l d
-    → r .ok ≡ d .ok → r .count ≡ d .count → x ≡ firstKid T (pair 0 0) → y ≡ kidCount T (pair 0 0) → k ≡ T .m → r .marked ≡ markedBy k c x y
+pub root-judged : {T : Case} {c₁ c₀ l₀ c l : List ℕ} {n z : ℕ} (r : Verdict) {x y k : ℕ} → Exact T c₁ l₀ → Fresh T c₀ l₀ → Judged T (pair 0 0) c₀ l₀ 0 c l n
+    → z ≡ verd (getD c (cellAt (T .m) (pair 0 0)) 0) → r .ok ≡ eqb z 1 → r .count ≡ n → x ≡ firstKid T (pair 0 0) → y ≡ kidCount T (pair 0 0) → k ≡ T .m → r .marked ≡ markedBy k c x y
     → leftBy r c l ≡ judgedOf T c₁ l₀
 unfolding root
-root-judged {T} {c₁} {c₀} {l₀} {c} r {x} {y} E F j e f u v m w =
-    judged-all r F j e f u v (w ∙ ap (λ (i : ℕ). markedBy i c x y) m) ∙ same-left T c₁ c₀ l₀ (E .cells-long) (F .exact .cells-long)
+root-judged {T} {c₁} {c₀} {l₀} {c} {z = z} r {x} {y} E F j read e f u v m w =
+    judged-all r F j (e ∙ mark-read ((truthOf T (pair 0 0)) .holds) z (read ∙ j .settled)) f u v (w ∙ ap (λ (i : ℕ). markedBy i c x y) m) ∙ same-left T c₁ c₀ l₀ (E .cells-long) (F .exact .cells-long)
 
-pub root-writes : {T : Case} {c₀ l₀ c l : List ℕ} {d : Done} → Judged T (pair 0 0) c₀ l₀ 0 c l d → Fits T → Writes (T .m) (firstKid T (pair 0 0)) (kidCount T (pair 0 0)) 0 0 c
+pub root-writes : {T : Case} {c₀ l₀ c l : List ℕ} {n : ℕ} → Judged T (pair 0 0) c₀ l₀ 0 c l n → Fits T → Writes (T .m) (firstKid T (pair 0 0)) (kidCount T (pair 0 0)) 0 0 c
 root-writes j fit = areas-writes (j .areas) fit (record { row-in = fit .rows .some; rule-in = fit .some })

@@ -1,21 +1,28 @@
 -- What the areas show while a record is judged, and what the judging functions ask and leave.
 -- Assumes nothing.
-use Prim.Native.Nat.{ℕ, _+_, _*_, _/_, _%_, _<_}
-use mathlib.Core.Bool.{Bool, true, false, cond}
-use mathlib.Core.List.{List, [], _∷_, _++_, map, List·Memᴰ as Has}
+use Prim.Native.Nat.{ℕ, _+_, _*_, _/_, _%_, _≤_, _<_}
+use mathlib.Core.Bool.{false, cond}
+use mathlib.Core.List.{List, [], _++_, map, List·Memᴰ as Has}
 use mathlib.Core.Path.{_≡_}
+use denote.Ref.{RefT}
 use lib.ListN.{length, getD, take, drop}
 use Rattle.sheet.specs.Doc.{Doc, firstChild, childCount, Child}
 use Rattle.sheet.specs.declared.record.RecordForm.{RecordForm}
-use Rattle.sheet.specs.Record.{rowsWord, docOf}
+use Rattle.sheet.specs.Record.{rowsWord, formOf, docOf}
 use Rattle.rulesheet.specs.declared.form.RuleForm.{RuleForm}
 use Rattle.rulesheet.specs.Ruleset.{never, Clause, asserts, Ruleset}
-use Rattle.rulesheet.specs.Sheet.{schemasWord, rulesOf}
+use Rattle.rulesheet.specs.Sheet as S
+use Rattle.rulesheet.specs.Sheet.{schemasWord, schemaAt, rulesOf}
 use Rattle.meaning.specs.Rules.{Pair, Marks, _∪_, Result, answer, applied, clause, depth, truth}
 use Rattle.meaning.specs.Settling.{samePair, listed, inTurn, settle}
 use Rattle.meaning.specs.Fit.{Fit, Inside, rank}
 use Rattle.clause.specs.Read.{RecordRead, RulesRead}
 use Rattle.areas.specs.Cells.{cellOf, verd, bit, mark, column, settledOf}
+use Rattle.areas.specs.Writers.{Marked, passed, Passes}
+use Rattle.steps.specs.declared.turn.Turn.{Turn}
+use Rattle.steps.specs.Plan.{stepsOf}
+use Rattle.steps.specs.Read.{Started}
+use Rattle.steps.specs.Turns.{Turned}
 use Rattle.judge.specs.declared.cycle.Done.{Done}
 
 -- what is judged: a record and rules, and how many rows each has
@@ -36,6 +43,17 @@ pub record Sheets (ws ts rs us : List ℕ) (form : RecordForm) (rules : RuleForm
 -- that of two sheets
 abbrev pub caseOf : (ws ts rs us : List ℕ) → Case
 caseOf ws ts rs us = record { doc = docOf ws ts; rules = rulesOf rs us; n = rowsWord ws; m = schemasWord rs }
+
+-- number k of two slices that are lent in an array: the record's, then the rules'
+abbrev pub lent : List (RefT (List ℕ)) → ℕ → List ℕ
+lent slices k = (getD slices k (record { ptr = (0, 0); name = 0; now = [] })) .now
+
+-- the sheets of those arrays are read by their own forms
+abbrev pub Lent : (words texts : List (RefT (List ℕ))) → Type 0
+Lent words texts = Sheets (lent words 0) (lent texts 0) (lent words 1) (lent texts 1) (formOf (lent words 0)) (S.formOf (lent words 1))
+
+abbrev pub lentCase : (words texts : List (RefT (List ℕ))) → Case
+lentCase words texts = caseOf (lent words 0) (lent texts 0) (lent words 1) (lent texts 1)
 
 abbrev pub Fits : Case → Type 0
 Fits T = Fit (T .doc) (T .rules) (T .n) (T .m)
@@ -128,10 +146,9 @@ unfoldable pub Unsettled : ℕ → Pair → List ℕ → Type 0
 Unsettled m p cells = verd (getD cells (cellAt m p) 0) ≡ 0
 
 -- what applying a pair leaves, and judging it: the pair settled, with those that it applies, and the areas otherwise as they were
-pub record Judged (T : Case) (p : Pair) (cells₀ list₀ : List ℕ) (count₀ : ℕ) (cells list : List ℕ) (r : Done) : Type 0 where
-  pub areas : Areas T (settleOf T p (doneOf (T .m) list₀ count₀)) (bitsOf (T .m) cells₀) list₀ cells list (r .count)
-  pub said : r .ok ≡ (truthOf T p) .holds
-  pub settled : verd (getD cells (cellAt (T .m) p) 0) ≡ mark (r .ok)
+pub record Judged (T : Case) (p : Pair) (cells₀ list₀ : List ℕ) (count₀ : ℕ) (cells list : List ℕ) (count : ℕ) : Type 0 where
+  pub areas : Areas T (settleOf T p (doneOf (T .m) list₀ count₀)) (bitsOf (T .m) cells₀) list₀ cells list count
+  pub settled : verd (getD cells (cellAt (T .m) p) 0) ≡ mark ((truthOf T p) .holds)
 
 -- what judging clause i of p leaves, at the marks of p that stood in the cells
 pub record ClauseJudged (T : Case) (p : Pair) (i : ℕ) (cells₀ list₀ : List ℕ) (count₀ : ℕ) (cells list : List ℕ) (r : Done) : Type 0 where
@@ -141,3 +158,23 @@ pub record ClauseJudged (T : Case) (p : Pair) (i : ℕ) (cells₀ list₀ : List
       Areas T (inTurn (settleOf T) (applied (truthOf T) J) (doneOf (T .m) list₀ count₀)) (overlay p (κ ∪ (answer (truthOf T) J) .marks) (bitsOf (T .m) cells₀)) list₀ cells list (r .count)
   pub said : r .ok ≡ (answer (truthOf T) (clause (T .doc) p (beforeOf T p i) (bitsOf (T .m) cells₀ p) (clauseAt T p i))) .holds
   pub free : Unsettled (T .m) p cells
+
+-- ---- a clause of p between two of its steps
+
+-- p is not settled, and x steps of its clause i were taken, the last of which applied q; `misses` of them applied a pair that failed
+pub record Advances (ws ts rs us : List ℕ) (cells : List ℕ) (p : Pair) (i from x misses : ℕ) (q : Pair) : Type 0 where
+  pub sheets : Sheets ws ts rs us (formOf ws) (S.formOf rs)
+  pub inside : In (caseOf ws ts rs us) p
+  pub free : Unsettled (schemasWord rs) p cells
+  pub clause-in : i < schemaAt rs (p .rule) .count
+  pub long : rowsWord ws * schemasWord rs ≤ length cells
+  pub few : misses ≤ x
+  pub low : let T = caseOf ws ts rs us in x ≤ stepsOf (T .doc) p (beforeOf T p i) (clauseAt T p i)
+  pub started : let T = caseOf ws ts rs us in 0 < x → Started (beforeOf T p i) (clauseAt T p i) from
+  pub passes : let T = caseOf ws ts rs us in 0 < x → Passes (T .m) (firstKid T p) (kidCount T p) (p .row) (p .rule) (q .row) (q .rule) cells
+
+-- what q has to give is passed on, and r tells where the clause stands
+pub record Advanced (T : Case) (p : Pair) (i x misses : ℕ) (q : Pair) (cells₀ cells : List ℕ) (r : Turn) : Type 0 where
+  pub unchanged : x ≡ 0 → cells ≡ cells₀
+  pub given : 0 < x → Marked (T .m) (firstKid T p) (kidCount T p) (p .rule) (passed (T .m) cells₀ (p .row) (p .rule) (q .row) (q .rule)) cells₀ cells
+  pub turned : Turned (T .doc) p (beforeOf T p i) (clauseAt T p i) x misses (column (T .m) cells (p .rule)) r

@@ -3,12 +3,19 @@
 // goes down in the record or along an unguarded chain: the rank of a pair is levels left x 33 + its
 // schema's longest unguarded chain.
 //
+// 1,024 pairs can be open at once, so an open pair keeps little: the sheets lie behind one address,
+// and where a clause stands is worked out by `next`, which has no pair open.
+//
 // The contracts cite `specs/State.antt`.
+ghost use mathlib.Core.Bool.{true};
 ghost use mathlib.Core.Path.{_≡_};
 ghost use Prim.Native.Nat.{_+_, _<_};
+ghost use lib.ListN.{length, getD};
 ghost use Rattle.rulesheet.specs.Sheet.{schemasWord, schemaAt};
-ghost use Rattle.areas.specs.Cells.{plus};
-ghost use Rattle.judge.specs.State.{pair, caseOf, Sheets, rankOf, Ready, Unsettled, Judged, ClauseJudged};
+ghost use Rattle.rulesheet.specs.Faults.{wordsOk};
+ghost use Rattle.areas.specs.Cells.{plus, verd};
+ghost use Rattle.steps.specs.Turns.{pairIs};
+ghost use Rattle.judge.specs.State.{lent, caseOf, lentCase, Lent, cellAt, rankOf, Ready, Unsettled, Judged, ClauseJudged, Advances, Advanced};
 use areas::cell_of;
 use areas::pass_on;
 use areas::settle;
@@ -17,17 +24,15 @@ use areas::verdict_at;
 use rulesheet::clause::clause_of;
 use rulesheet::form::RuleForm;
 use rulesheet::form::schema_at;
+use sheet::record::Pair;
 use sheet::record::RecordForm;
-use sheet::record::RecordRow;
 use sheet::record::RuleRow;
 use sheet::record::children_of;
 use sheet::record::wide;
-use steps::before::start_of;
-use steps::step::finish_of;
-use steps::step::step_at;
-use steps::step::steps_of;
+use steps::turn::Turn;
+use steps::turn::turn_of;
 
-// What judging a pair or a clause gives: whether it holds, and how many pairs are settled by then.
+// What judging a clause gives: whether it holds, and how many pairs are settled by then.
 pub struct Done {
     pub ok: bool,
     pub count: usize,
@@ -41,6 +46,11 @@ pub struct Verdict {
     pub marked: usize,
 }
 
+// Which of the two sheets, and of their texts, is the record's and which the rules'.
+const RECORD: usize = 0;
+
+const RULES: usize = 1;
+
 // One more if so.
 fn more(n: u32, so: bool) -> u32
     requires { ⌜ n < 4294967295 ⌝ }
@@ -49,190 +59,195 @@ fn more(n: u32, so: bool) -> u32
     if so { n + 1 } else { n }
 }
 
-// Applies a pair: its cell answers if it is settled, and else it is judged.
-pub fn apply<'a>(
-    record: &'a [u32],
-    text: &'a [u8],
-    rules: &'a [u32],
-    rule_text: &'a [u8],
+// The verdict in the pair's cell.
+pub fn verdict_of(rules: &[u32], cells: &[u8], p: Pair) -> u8
+    requires { ⌜ wordsOk (now rules) ≡ true ⌝ }
+    requires { ⌜ (cellAt (schemasWord (now rules)) (pairIs p) < length (now cells)) × (length (now cells) < 4294967296) ⌝ }
+    ensures { λ r. ⌜ r ≡ verd (getD (now (cells .entry)) (cellAt (schemasWord (now (rules .entry))) (pairIs p)) 0) ⌝ }
+{
+    let m = wide(RuleForm::of(rules).m);
+    verdict_at(cells, cell_of(m, wide(p.row.0), wide(p.rule.0)))
+}
+
+// How many clauses the schema has.
+fn clauses_of(rules: &[u32], s: RuleRow) -> u32
+    requires { ⌜ (wordsOk (now rules) ≡ true) × (s .0 < schemasWord (now rules)) ⌝ }
+    ensures { λ r. ⌜ r ≡ schemaAt (now (rules .entry)) (s .0) .count ⌝ }
+{
+    schema_at(rules, RuleForm::of(rules), s).count
+}
+
+// Applies a pair: its cell answers if it is settled, and else it is judged. The answer is how many
+// pairs are settled then.
+pub fn apply<'a, 'b>(
+    sheets: &'a [&'b [u32]; 2],
+    texts: &'a [&'b [u8]; 2],
     cells: &mut [u8],
     list: &mut [u32],
-    form: RecordForm,
-    rule_form: RuleForm,
     count: usize,
-    j: RecordRow,
-    s: RuleRow,
-) -> Done
-    requires { ⌜ Sheets (now «record») (now text) (now rules) (now «rule_text») form «rule_form» ⌝ }
-    requires { ⌜ Ready (caseOf (now «record») (now text) (now rules) (now «rule_text»)) (rankOf (caseOf (now «record») (now text) (now rules) (now «rule_text»)) (pair (j .0) (s .0)) + 1) (pair (j .0) (s .0)) (now cells) (now list) count ⌝ }
-    ensures { λ r. ⌜ Judged (caseOf (now («record» .entry)) (now (text .entry)) (now (rules .entry)) (now («rule_text» .entry))) (pair (j .0) (s .0)) (now (cells .entry)) (now (list .entry)) count (now (cells .exit)) (now (list .exit)) r ⌝ }
+    p: Pair,
+) -> usize
+    requires { ⌜ Lent (now sheets) (now texts) ⌝ }
+    requires { ⌜ Ready (lentCase (now sheets) (now texts)) (rankOf (lentCase (now sheets) (now texts)) (pairIs p) + 1) (pairIs p) (now cells) (now list) count ⌝ }
+    ensures { λ r. ⌜ Judged (lentCase (now (sheets .entry)) (now (texts .entry))) (pairIs p) (now (cells .entry)) (now (list .entry)) count (now (cells .exit)) (now (list .exit)) r ⌝ }
 {
-    let v = verdict_at(cells, cell_of(wide(rule_form.m), wide(j.0), wide(s.0)));
-    if v != 0 {
-        return Done { ok: v == 1, count };
+    if verdict_of(sheets[RULES], cells, p) != 0 {
+        return count;
     }
-    judge_pair(
-        record,
-        text,
-        rules,
-        rule_text,
-        cells,
-        list,
-        form,
-        rule_form,
-        count,
-        j,
-        s,
-    )
+    judge_pair(sheets, texts, cells, list, count, p)
 }
 
 // Judges the clauses of a pair that is not settled, and settles it.
-fn judge_pair<'a>(
-    record: &'a [u32],
-    text: &'a [u8],
-    rules: &'a [u32],
-    rule_text: &'a [u8],
+fn judge_pair<'a, 'b>(
+    sheets: &'a [&'b [u32]; 2],
+    texts: &'a [&'b [u8]; 2],
     cells: &mut [u8],
     list: &mut [u32],
-    form: RecordForm,
-    rule_form: RuleForm,
     count: usize,
-    j: RecordRow,
-    s: RuleRow,
-) -> Done
-    requires { ⌜ Sheets (now «record») (now text) (now rules) (now «rule_text») form «rule_form» ⌝ }
-    requires { ⌜ Ready (caseOf (now «record») (now text) (now rules) (now «rule_text»)) (rankOf (caseOf (now «record») (now text) (now rules) (now «rule_text»)) (pair (j .0) (s .0)) + 1) (pair (j .0) (s .0)) (now cells) (now list) count ⌝ }
-    requires { ⌜ Unsettled (schemasWord (now rules)) (pair (j .0) (s .0)) (now cells) ⌝ }
-    ensures { λ r. ⌜ Judged (caseOf (now («record» .entry)) (now (text .entry)) (now (rules .entry)) (now («rule_text» .entry))) (pair (j .0) (s .0)) (now (cells .entry)) (now (list .entry)) count (now (cells .exit)) (now (list .exit)) r ⌝ }
+    p: Pair,
+) -> usize
+    requires { ⌜ Lent (now sheets) (now texts) ⌝ }
+    requires { ⌜ Ready (lentCase (now sheets) (now texts)) (rankOf (lentCase (now sheets) (now texts)) (pairIs p) + 1) (pairIs p) (now cells) (now list) count ⌝ }
+    requires { ⌜ Unsettled (schemasWord (lent (now sheets) 1)) (pairIs p) (now cells) ⌝ }
+    ensures { λ r. ⌜ Judged (lentCase (now (sheets .entry)) (now (texts .entry))) (pairIs p) (now (cells .entry)) (now (list .entry)) count (now (cells .exit)) (now (list .exit)) r ⌝ }
 {
-    let m = wide(rule_form.m);
-    let row = wide(j.0);
-    let rule = wide(s.0);
-    let schema = schema_at(rules, rule_form, s);
-    let first = schema.first;
-    let many = schema.count;
+    let many = clauses_of(sheets[RULES], p.rule);
     let mut ok = true;
     let mut now = count;
     let mut i = 0;
     while i < many {
-        let d = judge_clause(
-            record,
-            text,
-            rules,
-            rule_text,
-            cells,
-            list,
-            form,
-            rule_form,
-            now,
-            j,
-            s,
-            first,
-            i,
-        );
+        let d = judge_clause(sheets, texts, cells, list, now, p, i);
         now = d.count;
         ok = ok & d.ok;
         i += 1;
     }
-    let kids = children_of(record, form, j);
+    let m = wide(RuleForm::of(sheets[RULES]).m);
+    let rule = wide(p.rule.0);
+    let kids = children_of(sheets[RECORD], RecordForm::of(sheets[RECORD]), p.row);
     shut_marks(cells, m, wide(kids.first), wide(kids.count), rule, ok);
-    let end = settle(cells, list, cell_of(m, row, rule), ok, now);
-    Done { ok, count: end }
+    settle(cells, list, cell_of(m, wide(p.row.0), rule), ok, now)
 }
 
-// Judges clause i of a pair that is not settled: each of its steps in turn.
-fn judge_clause<'a>(
-    record: &'a [u32],
-    text: &'a [u8],
-    rules: &'a [u32],
-    rule_text: &'a [u8],
+// Judges clause i of a pair that is not settled: applies one pair after the other.
+fn judge_clause<'a, 'b>(
+    sheets: &'a [&'b [u32]; 2],
+    texts: &'a [&'b [u8]; 2],
     cells: &mut [u8],
     list: &mut [u32],
-    form: RecordForm,
-    rule_form: RuleForm,
     count: usize,
-    j: RecordRow,
-    s: RuleRow,
-    first: u32,
+    p: Pair,
     i: u32,
 ) -> Done
-    requires { ⌜ Sheets (now «record») (now text) (now rules) (now «rule_text») form «rule_form» ⌝ }
-    requires { ⌜ Ready (caseOf (now «record») (now text) (now rules) (now «rule_text»)) (rankOf (caseOf (now «record») (now text) (now rules) (now «rule_text»)) (pair (j .0) (s .0))) (pair (j .0) (s .0)) (now cells) (now list) count ⌝ }
-    requires { ⌜ Unsettled (schemasWord (now rules)) (pair (j .0) (s .0)) (now cells) ⌝ }
-    requires { ⌜ (first ≡ schemaAt (now rules) (s .0) .first) × (i < schemaAt (now rules) (s .0) .count) ⌝ }
-    ensures { λ r. ⌜ ClauseJudged (caseOf (now («record» .entry)) (now (text .entry)) (now (rules .entry)) (now («rule_text» .entry))) (pair (j .0) (s .0)) i (now (cells .entry)) (now (list .entry)) count (now (cells .exit)) (now (list .exit)) r ⌝ }
+    requires { ⌜ Lent (now sheets) (now texts) ⌝ }
+    requires { ⌜ Ready (lentCase (now sheets) (now texts)) (rankOf (lentCase (now sheets) (now texts)) (pairIs p)) (pairIs p) (now cells) (now list) count ⌝ }
+    requires { ⌜ Unsettled (schemasWord (lent (now sheets) 1)) (pairIs p) (now cells) ⌝ }
+    requires { ⌜ i < schemaAt (lent (now sheets) 1) (p .rule .0) .count ⌝ }
+    ensures { λ r. ⌜ ClauseJudged (lentCase (now (sheets .entry)) (now (texts .entry))) (pairIs p) i (now (cells .entry)) (now (list .entry)) count (now (cells .exit)) (now (list .exit)) r ⌝ }
 {
-    let m = wide(rule_form.m);
-    let row = wide(j.0);
-    let rule = wide(s.0);
-    let clause = clause_of(rules, rule_form, first + i);
-    let from = start_of(rules, rule_form, s, first, i, clause);
-    let many = steps_of(record, form, j, clause, from);
-    let kids = children_of(record, form, j);
-    let kid = wide(kids.first);
-    let kid_count = wide(kids.count);
-    let mut hits = 0;
+    let mut at = next(sheets, texts, cells, p, i, 0, 0, 0, p);
+    let mut misses = 0;
     let mut now = count;
-    let mut x = 0;
-    while x < many {
-        let a = step_at(
-            record,
-            text,
-            form,
-            rules,
-            rule_text,
-            rule_form,
+    while at.go {
+        now = apply(sheets, texts, cells, list, now, at.pair);
+        misses = more(misses, verdict_of(sheets[RULES], cells, at.pair) != 1);
+        at = next(
+            sheets,
+            texts,
             cells,
-            j,
-            s,
-            first,
+            p,
             i,
-            clause,
-            from,
-            x,
+            at.from,
+            at.step + 1,
+            misses,
+            at.pair,
         );
-        if a.go {
-            let d = apply(
-                record,
-                text,
-                rules,
-                rule_text,
-                cells,
-                list,
-                form,
-                rule_form,
-                now,
-                RecordRow(a.row),
-                RuleRow(a.rule),
-            );
-            now = d.count;
-            hits = more(hits, d.ok);
-            pass_on(
-                cells,
-                m,
-                kid,
-                kid_count,
-                row,
-                rule,
-                wide(a.row),
-                wide(a.rule),
-            );
-        } else {
-            hits += 1;
-        }
-        x += 1;
     }
-    let ok = finish_of(
+    Done {
+        ok: at.ok,
+        count: now,
+    }
+}
+
+// Where clause i of the pair p stands once its first x steps are taken, the last of which applied
+// the pair q: what q has to give is passed on first.
+fn next<'a, 'b>(
+    sheets: &'a [&'b [u32]; 2],
+    texts: &'a [&'b [u8]; 2],
+    cells: &mut [u8],
+    p: Pair,
+    i: u32,
+    from: u32,
+    x: u32,
+    misses: u32,
+    q: Pair,
+) -> Turn
+    requires { ⌜ Advances (lent (now sheets) 0) (lent (now texts) 0) (lent (now sheets) 1) (lent (now texts) 1) (now cells) (pairIs p) i from x misses (pairIs q) ⌝ }
+    ensures { λ r. ⌜ Advanced (lentCase (now (sheets .entry)) (now (texts .entry))) (pairIs p) i x misses (pairIs q) (now (cells .entry)) (now (cells .exit)) r ⌝ }
+{
+    next_in(
+        sheets[RECORD],
+        texts[RECORD],
+        sheets[RULES],
+        texts[RULES],
+        cells,
+        p,
+        i,
+        from,
+        x,
+        misses,
+        q,
+    )
+}
+
+// The same over slices by themselves.
+fn next_in<'a>(
+    record: &[u32],
+    text: &'a [u8],
+    rules: &[u32],
+    rule_text: &'a [u8],
+    cells: &mut [u8],
+    p: Pair,
+    i: u32,
+    from: u32,
+    x: u32,
+    misses: u32,
+    q: Pair,
+) -> Turn
+    requires { ⌜ Advances (now «record») (now text) (now rules) (now «rule_text») (now cells) (pairIs p) i from x misses (pairIs q) ⌝ }
+    ensures { λ r. ⌜ Advanced (caseOf (now («record» .entry)) (now (text .entry)) (now (rules .entry)) (now («rule_text» .entry))) (pairIs p) i x misses (pairIs q) (now (cells .entry)) (now (cells .exit)) r ⌝ }
+{
+    let form = RecordForm::of(record);
+    let rule_form = RuleForm::of(rules);
+    let first = schema_at(rules, rule_form, p.rule).first;
+    let clause = clause_of(rules, rule_form, first + i);
+    if 0 < x {
+        let kids = children_of(record, form, p.row);
+        pass_on(
+            cells,
+            wide(rule_form.m),
+            wide(kids.first),
+            wide(kids.count),
+            wide(p.row.0),
+            wide(p.rule.0),
+            wide(q.row.0),
+            wide(q.rule.0),
+        );
+    }
+    turn_of(
         record,
         text,
         form,
-        j,
         rules,
         rule_text,
         rule_form,
+        cells,
+        p.row,
+        p.rule,
+        first,
+        i,
         clause,
-        hits,
-        many,
-    );
-    Done { ok, count: now }
+        from,
+        x,
+        misses,
+    )
 }

@@ -4,9 +4,11 @@ ghost use Rattle.judge.specs.State.{caseOf, Sheets};
 ghost use Rattle.judge.specs.Whole.{Exact, Roomy, leftBy, judgedOf};
 use crate::cycle::Verdict;
 use crate::cycle::apply;
+use crate::cycle::verdict_of;
 use areas::clear;
 use areas::marked_of;
 use rulesheet::form::RuleForm;
+use sheet::record::Pair;
 use sheet::record::RecordForm;
 use sheet::record::RecordRow;
 use sheet::record::RuleRow;
@@ -29,24 +31,19 @@ fn run_exact<'a>(
     ensures { λ r. ⌜ leftBy r (now (cells .exit)) (now (list .exit)) ≡ judgedOf (caseOf (now («record» .entry)) (now (text .entry)) (now (rules .entry)) (now («rule_text» .entry))) (now (cells .entry)) (now (list .entry)) ⌝ }
 {
     clear(cells);
-    let d = apply(
-        record,
-        text,
-        rules,
-        rule_text,
-        cells,
-        list,
-        form,
-        rule_form,
-        0,
-        RecordRow(0),
-        RuleRow(0),
-    );
+    let sheets = [record, rules];
+    let texts = [text, rule_text];
+    let root = Pair {
+        row: RecordRow(0),
+        rule: RuleRow(0),
+    };
+    let count = apply(&sheets, &texts, cells, list, 0, root);
+    let ok = verdict_of(rules, cells, root) == 1;
     let kids = children_of(record, form, RecordRow(0));
     let marked = marked_of(cells, wide(rule_form.m), wide(kids.first), wide(kids.count));
     Verdict {
-        ok: d.ok,
-        count: d.count,
+        ok: ok,
+        count: count,
         marked: marked,
     }
 }

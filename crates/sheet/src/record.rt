@@ -18,6 +18,12 @@ pub struct RecordRow(pub u32);
 // A row of the rules, which is a schema: never a row of the record.
 pub struct RuleRow(pub u32);
 
+// A row and a schema that judges it.
+pub struct Pair {
+    pub row: RecordRow,
+    pub rule: RuleRow,
+}
+
 // Where row 0 stands among the words, and how many rows there are.
 pub struct RecordForm {
     pub start: usize,

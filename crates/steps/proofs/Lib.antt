@@ -4,3 +4,4 @@ pub mod Plans
 pub mod Earlier
 pub mod Reading
 pub mod Aiming
+pub mod Turns

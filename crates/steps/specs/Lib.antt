@@ -2,3 +2,4 @@
 pub mod Folds
 pub mod Plan
 pub mod Read
+pub mod Turns

@@ -2,3 +2,4 @@
 // and what the clause says in the end.
 pub mod before;
 pub mod step;
+pub mod turn;

@@ -1,30 +1,27 @@
-use mathlib.Core.Path.{_≡_, refl, sym, ap, _∙_}
-use native.Mathlib.Omega.{arith}
-use borrow.Author.Needs.{needs}
-use Rattle.judge.proofs.State.{areas-writes}
-use Rattle.judge.proofs.Whole.{root-in, cleared-fresh, root-ready, root-writes, root-judged}
-use Rattle.judge.proofs.Reading.{schemas-are, row-low, kid-first, kid-many, writes-by}
+-- `run_exact` meets its contract. Assumes nothing.
+use mathlib.Core.Path.{refl, _∙_}
+use Rattle.judge.specs.State.{pair}
+use Rattle.judge.proofs.Whole.{cleared-fresh, root-ready, root-writes, root-judged}
+use Rattle.judge.proofs.Turning.{cell-asks}
+use Rattle.judge.proofs.Reading.{rules-ok, schemas-are, row-low, kid-first, kid-many, own-sheets, writes-by}
 use borrow.Author.Needs.{needs}
 use Rattle.judge.proofs.run.run_exact.Statement.{statement}
 use Rattle.judge.proofs.run.run_exact.Tie as tie
-use Rattle.judge.proofs.run.run_exact.Reads as reads
-use Rattle.judge.proofs.run.run_exact.Lts as lts
-use Rattle.areas.proofs.clear.Reads as clear-reads
-use Rattle.areas.proofs.marked_of.Reads as marked-of-reads
-use Rattle.judge.proofs.cycle.apply.Reads as apply-reads
-use Rattle.sheet.proofs.record.children_of.Reads as children-of-reads
-use Rattle.sheet.proofs.record.wide.Reads as wide-reads
 
 clear-requires : tie.Need-clear-requires
 clear-requires c κs = search needs
 
 apply-requires : tie.Need-apply-requires
 apply-requires c κs =
-    ((c .before .before .before .before .before .before .before .before .before .before .before .before .pre .0), root-ready (cleared-fresh (c .before .before .before .before .before .before .before .before .before .before .before .before .pre .1) (c .before .before .before .before .clear .ensures)))
+    (own-sheets (c .before .before .before .before .before .before .before .before .before .before .before .before .before .before .pre .0), root-ready (cleared-fresh (c .before .before .before .before .before .before .before .before .before .before .before .before .before .before .pre .1) (c .before .before .before .before .before .before .clear .ensures)))
+
+verdict-of-requires : tie.Need-verdict-of-requires
+verdict-of-requires c κs =
+    (rules-ok (c .before .before .before .before .before .before .before .before .before .before .before .before .before .before .before .before .before .before .before .before .pre .0), cell-asks ((c .before .before .before .before .before .before .before .before .before .before .before .before .before .before .before .before .before .before .before .before .pre .1) .fit) ((root-ready {t = 0} (cleared-fresh (c .before .before .before .before .before .before .before .before .before .before .before .before .before .before .before .before .before .before .before .before .pre .1) (c .before .before .before .before .before .before .before .before .before .before .before .before .clear .ensures))) .inside) (c .before .before .before .before .before .apply .ensures .areas))
 
 children-of-requires : tie.Need-children-of-requires
 children-of-requires c κs =
-    ((c .before .before .before .before .before .before .before .before .before .before .before .before .before .before .before .before .before .pre .0) .record-read .laid .formed, row-low (c .before .before .before .before .before .before .before .before .before .before .before .before .before .before .before .before .before .pre .0) (root-ready {t = 0} (cleared-fresh (c .before .before .before .before .before .before .before .before .before .before .before .before .before .before .before .before .before .pre .1) (c .before .before .before .before .before .before .before .before .before .clear .ensures))))
+    ((c .before .before .before .before .before .before .before .before .before .before .before .before .before .before .before .before .before .before .before .before .before .pre .0) .record-read .laid .formed, row-low (c .before .before .before .before .before .before .before .before .before .before .before .before .before .before .before .before .before .before .before .before .before .pre .0) ((root-ready {t = 0} (cleared-fresh (c .before .before .before .before .before .before .before .before .before .before .before .before .before .before .before .before .before .before .before .before .before .pre .1) (c .before .before .before .before .before .before .before .before .before .before .before .before .before .clear .ensures))) .inside))
 
 wide-requires : tie.Need-wide-requires
 wide-requires c κs = search needs
@@ -37,7 +34,7 @@ wide-requires-3 c κs = search needs
 
 marked-of-requires : tie.Need-marked-of-requires
 marked-of-requires c κs =
-    writes-by (c .before .before .wide .ensures ∙ schemas-are (c .before .before .before .before .before .before .before .before .before .before .before .before .before .before .before .before .before .before .before .before .before .before .pre .0)) (kid-first (c .before .before .before .before .before .before .before .before .before .before .before .before .before .before .before .before .before .before .before .before .before .before .pre .0) 0 (c .before .before .before .before .children-of .ensures) (c .before .wide2 .ensures)) (kid-many (c .before .before .before .before .before .before .before .before .before .before .before .before .before .before .before .before .before .before .before .before .before .before .pre .0) 0 (c .before .before .before .before .children-of .ensures) (c .wide3 .ensures)) refl (root-writes (c .before .before .before .before .before .before .before .before .before .apply .ensures) ((c .before .before .before .before .before .before .before .before .before .before .before .before .before .before .before .before .before .before .before .before .before .before .pre .1) .fit))
+    writes-by (c .before .before .wide .ensures ∙ schemas-are (c .before .before .before .before .before .before .before .before .before .before .before .before .before .before .before .before .before .before .before .before .before .before .before .before .before .before .pre .0)) (kid-first (c .before .before .before .before .before .before .before .before .before .before .before .before .before .before .before .before .before .before .before .before .before .before .before .before .before .before .pre .0) (pair 0 0) (c .before .before .before .before .children-of .ensures) (c .before .wide2 .ensures)) (kid-many (c .before .before .before .before .before .before .before .before .before .before .before .before .before .before .before .before .before .before .before .before .before .before .before .before .before .before .pre .0) (pair 0 0) (c .before .before .before .before .children-of .ensures) (c .wide3 .ensures)) refl (root-writes (c .before .before .before .before .before .before .before .before .before .before .before .apply .ensures) ((c .before .before .before .before .before .before .before .before .before .before .before .before .before .before .before .before .before .before .before .before .before .before .before .before .before .before .pre .1) .fit))
 
 same-length : tie.Need-same-length
 same-length c = search needs
@@ -47,7 +44,7 @@ same-length-2 c = search needs
 
 returns : tie.Need-returns
 returns c =
-    root-judged _ (c .before .before .before .before .before .before .before .before .before .before .before .before .before .before .before .before .before .before .before .before .before .before .before .pre .1) (cleared-fresh (c .before .before .before .before .before .before .before .before .before .before .before .before .before .before .before .before .before .before .before .before .before .before .before .pre .1) (c .before .before .before .before .before .before .before .before .before .before .before .before .before .before .before .clear .ensures)) (c .before .before .before .before .before .before .before .before .before .before .apply .ensures) refl refl (kid-first (c .before .before .before .before .before .before .before .before .before .before .before .before .before .before .before .before .before .before .before .before .before .before .before .pre .0) 0 (c .before .before .before .before .before .children-of .ensures) (c .before .before .wide2 .ensures)) (kid-many (c .before .before .before .before .before .before .before .before .before .before .before .before .before .before .before .before .before .before .before .before .before .before .before .pre .0) 0 (c .before .before .before .before .before .children-of .ensures) (c .before .wide3 .ensures)) (c .before .before .before .wide .ensures ∙ schemas-are (c .before .before .before .before .before .before .before .before .before .before .before .before .before .before .before .before .before .before .before .before .before .before .before .pre .0)) (c .marked-of .ensures)
+    root-judged _ (c .before .before .before .before .before .before .before .before .before .before .before .before .before .before .before .before .before .before .before .before .before .before .before .before .before .before .before .pre .1) (cleared-fresh (c .before .before .before .before .before .before .before .before .before .before .before .before .before .before .before .before .before .before .before .before .before .before .before .before .before .before .before .pre .1) (c .before .before .before .before .before .before .before .before .before .before .before .before .before .before .before .before .before .before .before .clear .ensures)) (c .before .before .before .before .before .before .before .before .before .before .before .before .apply .ensures) (c .before .before .before .before .before .before .verdict-of .ensures) refl refl (kid-first (c .before .before .before .before .before .before .before .before .before .before .before .before .before .before .before .before .before .before .before .before .before .before .before .before .before .before .before .pre .0) (pair 0 0) (c .before .before .before .before .before .children-of .ensures) (c .before .before .wide2 .ensures)) (kid-many (c .before .before .before .before .before .before .before .before .before .before .before .before .before .before .before .before .before .before .before .before .before .before .before .before .before .before .before .pre .0) (pair 0 0) (c .before .before .before .before .before .children-of .ensures) (c .before .wide3 .ensures)) (c .before .before .before .wide .ensures ∙ schemas-are (c .before .before .before .before .before .before .before .before .before .before .before .before .before .before .before .before .before .before .before .before .before .before .before .before .before .before .before .pre .0)) (c .marked-of .ensures)
 
 pub run-exact-spec : {M : Type 1} → statement M
 run-exact-spec =
@@ -55,6 +52,7 @@ run-exact-spec =
     (tie.spec
     clear-requires
     apply-requires
+    verdict-of-requires
     children-of-requires
     wide-requires
     wide-requires-2
