@@ -8,3 +8,4 @@ pub mod Repeating
 pub mod Items
 pub mod Naming
 pub mod Meanings
+pub mod Telling

@@ -134,3 +134,14 @@ pub record EntryNameRead (ws : List ℕ) (es : Entries) (i : ℕ) (r : Range) : 
   pub name-is : (ts : List ℕ) → part ts r ≡ getD (namesIn ws ts es) i []
   pub member-is : (ts : List ℕ) → part ts r ≡ getD (membersIn ws ts es) i ([], 0) .0
   pub name-fits : (fields : Fields) → isNamed fields ≡ true → Listed ws (list fields es) → fits (textWord ws) r ≡ true
+
+-- a clause, if it tells something to those after it: which members it names, or how many elements it speaks of. Else one that tells nothing
+unfoldable pub telling : R.Clause → R.Clause
+telling (R.asserts t) = R.asserts R.never
+telling (R.inPlace m ss) = R.asserts R.never
+telling (R.takes (R.properties es)) = R.takes (R.properties es)
+telling (R.takes (R.additionalProperties s)) = R.asserts R.never
+telling (R.takes (R.prefixItems ss)) = R.takes (R.prefixItems ss)
+telling (R.takes (R.items s)) = R.asserts R.never
+telling (R.takes (R.unevaluatedProperties s)) = R.asserts R.never
+telling (R.takes (R.unevaluatedItems s)) = R.asserts R.never

@@ -34,7 +34,7 @@ use Rattle.rulesheet.specs.Ruleset.{Reach, properties, additionalProperties, pr
 use Rattle.rulesheet.specs.Codes.{entryName, entryMember}
 use Rattle.rulesheet.specs.Sheet.{schemasWord, schemaAt, entryAt, run, clauseOf, rulesOf}
 use Rattle.rulesheet.specs.Faults.{parts-max}
-use Rattle.rulesheet.specs.Clauses.{entriesOf, membersIn, clauseMeans, EntryNameRead}
+use Rattle.rulesheet.specs.Clauses.{entriesOf, membersIn, clauseMeans, EntryNameRead, telling}
 use Rattle.rulesheet.specs.Read.{RulesLaid}
 use Rattle.rulesheet.proofs.Trailers.{facts, form-m, form-c, form-e}
 use Rattle.rulesheet.proofs.Taking.{schema-within}
@@ -181,18 +181,48 @@ module _ {A B : Type 0} (f : A → List B) (g : ℕ → A) where
   concat-more : (k a : ℕ) → concatMap f (map g (run (k + 1) a)) ≡ concatMap f (map g (run k a)) ++ f (g (a + k))
   concat-more k a = rw add-one (concat-last k a)
 
--- clause k was read
-module _ (rs us : List ℕ) (first k : ℕ) (c : R.Clause) (read : c ≡ clauseOf rs us (first + k)) where
-  clause-more : {B : Type 0} (f : R.Clause → List B) → concatMap f (firstClauses rs us first (k + 1)) ≡ concatMap f (firstClauses rs us first k) ++ f c
-  clause-more f = rw read (concat-more f (clauseOf rs us) k first)
+-- a clause that tells nothing names no member and speaks of no element
+names-told : (c : R.Clause) → namesOf (telling c) ≡ namesOf c
+unfolding telling namesOf
+names-told (R.asserts t) = refl
+names-told (R.inPlace m ss) = refl
+names-told (R.takes (R.properties es)) = refl
+names-told (R.takes (R.additionalProperties s)) = refl
+names-told (R.takes (R.prefixItems ss)) = refl
+names-told (R.takes (R.items s)) = refl
+names-told (R.takes (R.unevaluatedProperties s)) = refl
+names-told (R.takes (R.unevaluatedItems s)) = refl
+
+prefix-told : (c : R.Clause) → prefixOf (telling c) ≡ prefixOf c
+unfolding telling prefixOf
+prefix-told (R.asserts t) = refl
+prefix-told (R.inPlace m ss) = refl
+prefix-told (R.takes (R.properties es)) = refl
+prefix-told (R.takes (R.additionalProperties s)) = refl
+prefix-told (R.takes (R.prefixItems ss)) = refl
+prefix-told (R.takes (R.items s)) = refl
+prefix-told (R.takes (R.unevaluatedProperties s)) = refl
+prefix-told (R.takes (R.unevaluatedItems s)) = refl
+
+-- what clause k tells was read
+module _ (rs us : List ℕ) (first k : ℕ) (c : R.Clause) (read : c ≡ telling (clauseOf rs us (first + k))) where
+  names-read : namesOf c ≡ namesOf (clauseOf rs us (first + k))
+  names-read = ap namesOf read ∙ names-told (clauseOf rs us (first + k))
+
+  prefix-read : prefixOf c ≡ prefixOf (clauseOf rs us (first + k))
+  prefix-read = ap prefixOf read ∙ prefix-told (clauseOf rs us (first + k))
+
+  clause-more : {B : Type 0} (f : R.Clause → List B) → f c ≡ f (clauseOf rs us (first + k))
+      → concatMap f (firstClauses rs us first (k + 1)) ≡ concatMap f (firstClauses rs us first k) ++ f c
+  clause-more f e = rw e (concat-more f (clauseOf rs us) k first)
 
   pub prefix-more : (n r : ℕ) → n ≡ length (concatMap prefixOf (firstClauses rs us first k)) → r ≡ length (prefixOf c)
       → n + r ≡ length (concatMap prefixOf (firstClauses rs us first (k + 1)))
   prefix-more n r e is =
-      rw (e, is) (sym (ap length (clause-more prefixOf) ∙ length-append (concatMap prefixOf (firstClauses rs us first k)) (prefixOf c)))
+      rw (e, is) (sym (ap length (clause-more prefixOf prefix-read) ∙ length-append (concatMap prefixOf (firstClauses rs us first k)) (prefixOf c)))
 
   pub names-more : concatMap namesOf (firstClauses rs us first k) ≡ [] → namesOf c ≡ [] → concatMap namesOf (firstClauses rs us first (k + 1)) ≡ []
-  names-more none here = clause-more namesOf ∙ rw (none, here)
+  names-more none here = clause-more namesOf names-read ∙ rw (none, here)
 
 -- the first i clauses of schema s, which start at `first`, are asked for
 abbrev Asked : List ℕ → RuleForm → ℕ → ℕ → ℕ → Type 0
@@ -262,19 +292,19 @@ module _ (d : Doc) (j : ℕ) where
         named-append (namesOf (clauseOf rs us a)) (concatMap namesOf (firstClauses rs us (a + 1) k))
         ∙ ap (λ (b : Bool). namedBy d (namesOf (clauseOf rs us a)) j || b) (by-clauses k (a + 1))
 
-    -- clause k was read, and tested
-    module _ (first k : ℕ) (c : R.Clause) (read : c ≡ clauseOf rs us (first + k)) (r : Bool) (is : r ≡ namedBy d (namesOf c) j) where
+    -- what clause k tells was read, and tested
+    module _ (first k : ℕ) (c : R.Clause) (read : c ≡ telling (clauseOf rs us (first + k))) (r : Bool) (is : r ≡ namedBy d (namesOf c) j) where
       pub unnamed-more : namedBy d (concatMap namesOf (firstClauses rs us first k)) j ≡ false → r ≡ false
           → namedBy d (concatMap namesOf (firstClauses rs us first (k + 1))) j ≡ false
       unnamed-more none here =
-          ap (λ (names : List (List ℕ)). namedBy d names j) (clause-more rs us first k c read namesOf)
+          ap (λ (names : List (List ℕ)). namedBy d names j) (clause-more rs us first k c read namesOf (names-read rs us first k c read))
           ∙ named-append (concatMap namesOf (firstClauses rs us first k)) (namesOf c)
           ∙ rw (none, ← is, here)
 
       pub named-here : (i : ℕ) → k < i → r ≡ true → namedBy d (concatMap namesOf (firstClauses rs us first i)) j ≡ true
       named-here i h t =
           by-clauses i first
-          ∙ any-found (λ x. namedBy d (namesOf (clauseOf rs us x)) j) i first (first + k) (omega arith) (omega arith) (rw (← read, ← is) t)
+          ∙ any-found (λ x. namedBy d (namesOf (clauseOf rs us x)) j) i first (first + k) (omega arith) (omega arith) (ap (λ (names : List (List ℕ)). namedBy d names j) (sym (names-read rs us first k c read)) ∙ sym is ∙ t)
 
   module _ {rs : List ℕ} {form : RuleForm} (s first i : ℕ) (asked : Asked rs form s first i) (us : List ℕ) where
     -- the clauses before `from` name nothing

@@ -19,7 +19,7 @@ ghost use Rattle.steps.specs.Plan.{unnamed};
 ghost use Rattle.steps.specs.Read.{beforeIn, namedBy, Started};
 use rulesheet::clause::Clause;
 use rulesheet::clause::Entries;
-use rulesheet::clause::clause_of;
+use rulesheet::clause::telling_of;
 use rulesheet::clause::entry_name;
 use rulesheet::form::RuleForm;
 use sheet::record::RecordForm;
@@ -48,7 +48,7 @@ fn prefix_before(rules: &[u32], form: RuleForm, s: RuleRow, first: u32, i: u32) 
     let mut elements = 0;
     let mut k = 0;
     while k < i {
-        elements += prefix_of(clause_of(rules, form, first + k));
+        elements += prefix_of(telling_of(rules, form, first + k));
         k += 1;
     }
     elements
@@ -72,7 +72,7 @@ fn names_from(rules: &[u32], form: RuleForm, s: RuleRow, first: u32, i: u32) -> 
 {
     let mut k = 0;
     while k < i {
-        if has_names(clause_of(rules, form, first + k)) {
+        if has_names(telling_of(rules, form, first + k)) {
             return k;
         }
         k += 1;
@@ -181,7 +181,7 @@ pub fn unnamed_in<'a>(
 {
     let mut k = from;
     while k < i {
-        let clause = clause_of(rules, rule_form, first + k);
+        let clause = telling_of(rules, rule_form, first + k);
         if clause_names(record, text, form, rules, rule_text, rule_form, clause, row) {
             return false;
         }

@@ -21,11 +21,11 @@ loop-holds : tie.Need-loop-holds Inv-loop μ-loop
 unfolding concatMap run
 loop-holds c = (omega arith, λ us. refl)
 
-add-clause-of : tie.Need-add-clause-of Inv-loop μ-loop
-add-clause-of c = omega (arith, clauses-few _ _ _ (c .before .before .before .pre))
+add-telling-of : tie.Need-add-telling-of Inv-loop μ-loop
+add-telling-of c = omega (arith, clauses-few _ _ _ (c .before .before .before .pre))
 
-clause-of-requires : tie.Need-clause-of-requires Inv-loop μ-loop
-clause-of-requires c κs = (c .before .before .before .pre .0 .clauses-laid .schemas-laid .formed, omega (arith, clauses-few _ _ _ (c .before .before .before .pre)))
+telling-of-requires : tie.Need-telling-of-requires Inv-loop μ-loop
+telling-of-requires c κs = (c .before .before .before .pre .0 .clauses-laid .schemas-laid .formed, omega (arith, clauses-few _ _ _ (c .before .before .before .pre)))
 
 has-names-requires : tie.Need-has-names-requires Inv-loop μ-loop
 has-names-requires c κs = tt
@@ -42,7 +42,7 @@ loop-less c = search needs
 loop-again : tie.Need-loop-again Inv-loop μ-loop
 loop-again c =
     let start = c .before .before .before .before .before .before in
-    (omega arith, λ us. names-more (start .args .rules .now) us (start .args .first) (c .before .before .before .before .loop .k) _ (c .before .before .clause-of .ensures .0 us) (c .before .before .before .before .loop .inv .1 us) (c .before .has-names .ensures (c .if1 .left) (start .args .rules .now) us))
+    (omega arith, λ us. names-more (start .args .rules .now) us (start .args .first) (c .before .before .before .before .loop .k) _ (c .before .before .telling-of .ensures .0 us) (c .before .before .before .before .loop .inv .1 us) (c .before .has-names .ensures (c .if1 .left) (start .args .rules .now) us))
 
 returns-2 : tie.Need-returns-2 Inv-loop μ-loop
 returns-2 c = (λ us. ap (concatMap namesOf) (before-part _ _ _ (c .before .before .before .pre) us (c .before .loop .k) (omega arith)) ∙ c .before .loop .inv .1 us, omega arith)
@@ -54,8 +54,8 @@ names-from-spec =
     Inv-loop
     μ-loop
     loop-holds
-    add-clause-of
-    clause-of-requires
+    add-telling-of
+    telling-of-requires
     has-names-requires
     returns
     add-k

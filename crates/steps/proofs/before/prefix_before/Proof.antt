@@ -24,13 +24,13 @@ loop-holds : tie.Need-loop-holds Inv-loop μ-loop
 unfolding concatMap run
 loop-holds c = (omega arith, omega arith, λ us. refl)
 
-add-clause-of : tie.Need-add-clause-of Inv-loop μ-loop
-add-clause-of c =
+add-telling-of : tie.Need-add-telling-of Inv-loop μ-loop
+add-telling-of c =
     let start = c .before .before .before in
     omega (arith, clauses-few _ _ _ (start .pre))
 
-clause-of-requires : tie.Need-clause-of-requires Inv-loop μ-loop
-clause-of-requires c κs =
+telling-of-requires : tie.Need-telling-of-requires Inv-loop μ-loop
+telling-of-requires c κs =
     let start = c .before .before .before in
     (start .pre .0 .clauses-laid .schemas-laid .formed, omega (arith, clauses-few _ _ _ (start .pre)))
 
@@ -40,7 +40,7 @@ prefix-of-requires c κs = tt
 add-elements : tie.Need-add-elements Inv-loop μ-loop
 add-elements c =
     let start = c .before .before .before .before .before in
-    omega (arith, clauses-few _ _ _ (start .pre), entries-few (start .pre .0), c .prefix-of .ensures .1 (start .args .form) (c .before .clause-of .ensures .1 .bounded (start .pre .0 .clauses-laid)))
+    omega (arith, clauses-few _ _ _ (start .pre), entries-few (start .pre .0), c .prefix-of .ensures .1 (start .args .form) (c .before .telling-of .ensures .1 .bounded (start .pre .0 .clauses-laid)))
 
 add-k : tie.Need-add-k Inv-loop μ-loop
 add-k c = search needs
@@ -51,8 +51,8 @@ loop-less c = search needs
 loop-again : tie.Need-loop-again Inv-loop μ-loop
 loop-again c =
     let start = c .before .before .before .before .before in
-    let small = c .prefix-of .ensures .1 (start .args .form) (c .before .clause-of .ensures .1 .bounded (start .pre .0 .clauses-laid)) in
-    (omega arith, omega (arith, entries-few (start .pre .0)), λ us. prefix-more (start .args .rules .now) us (start .args .first) (c .before .before .before .loop .k) _ (c .before .clause-of .ensures .0 us) _ _ (c .before .before .before .loop .inv .2 us) (c .prefix-of .ensures .0 (start .args .rules .now) us))
+    let small = c .prefix-of .ensures .1 (start .args .form) (c .before .telling-of .ensures .1 .bounded (start .pre .0 .clauses-laid)) in
+    (omega arith, omega (arith, entries-few (start .pre .0)), λ us. prefix-more (start .args .rules .now) us (start .args .first) (c .before .before .before .loop .k) _ (c .before .telling-of .ensures .0 us) _ _ (c .before .before .before .loop .inv .2 us) (c .prefix-of .ensures .0 (start .args .rules .now) us))
 
 returns : tie.Need-returns Inv-loop μ-loop
 returns c =
@@ -66,8 +66,8 @@ prefix-before-spec =
     Inv-loop
     μ-loop
     loop-holds
-    add-clause-of
-    clause-of-requires
+    add-telling-of
+    telling-of-requires
     prefix-of-requires
     add-elements
     add-k

@@ -23,25 +23,25 @@ loop-holds c =
     let start = c .before .before .before .before in
     (omega arith, unnamed-from (docOf (start .args .«record» .now) (start .args .text .now)) (start .args .row .0) _ _ _ (start .pre .1 .0 .0 .laid, start .pre .1 .0 .1, start .pre .1 .0 .2, start .pre .1 .0 .3) (start .args .rule-text .now) (start .args .from) (start .pre .1 .1 .0) (start .pre .1 .1 .1))
 
-add-clause-of : tie.Need-add-clause-of Inv-loop μ-loop
-add-clause-of c =
+add-telling-of : tie.Need-add-telling-of Inv-loop μ-loop
+add-telling-of c =
     let start = c .before .before .before .before .before .before in
     omega (arith, clauses-few _ _ _ (start .pre .1 .0 .0 .laid, start .pre .1 .0 .1, start .pre .1 .0 .2, start .pre .1 .0 .3))
 
-clause-of-requires : tie.Need-clause-of-requires Inv-loop μ-loop
-clause-of-requires c κs =
+telling-of-requires : tie.Need-telling-of-requires Inv-loop μ-loop
+telling-of-requires c κs =
     let start = c .before .before .before .before .before .before in
     (start .pre .1 .0 .0 .laid .clauses-laid .schemas-laid .formed, omega (arith, clauses-few _ _ _ (start .pre .1 .0 .0 .laid, start .pre .1 .0 .1, start .pre .1 .0 .2, start .pre .1 .0 .3)))
 
 clause-names-requires : tie.Need-clause-names-requires Inv-loop μ-loop
 clause-names-requires c κs =
     let start = c .before .before .before .before .before .before .before in
-    ((start .pre .0 .0, start .pre .0 .1), (start .pre .1 .0 .0, c .clause-of .ensures .1))
+    ((start .pre .0 .0, start .pre .0 .1), (start .pre .1 .0 .0, c .telling-of .ensures .1))
 
 returns : tie.Need-returns Inv-loop μ-loop
 returns c =
     let start = c .before .before .before .before .before .before .before .before .before in
-    unnamed-is (docOf (start .args .«record» .now) (start .args .text .now)) (start .args .row .0) _ _ _ (start .pre .1 .0 .0 .laid, start .pre .1 .0 .1, start .pre .1 .0 .2, start .pre .1 .0 .3) (start .args .rule-text .now) true (named-here (docOf (start .args .«record» .now) (start .args .text .now)) (start .args .row .0) (start .args .rules .now) (start .args .rule-text .now) (start .args .first) (c .before .before .before .before .loop .k) _ (c .before .before .clause-of .ensures .0 (start .args .rule-text .now)) _ (c .before .clause-names .ensures) (start .args .i) (omega arith) (c .if1 .taken))
+    unnamed-is (docOf (start .args .«record» .now) (start .args .text .now)) (start .args .row .0) _ _ _ (start .pre .1 .0 .0 .laid, start .pre .1 .0 .1, start .pre .1 .0 .2, start .pre .1 .0 .3) (start .args .rule-text .now) true (named-here (docOf (start .args .«record» .now) (start .args .text .now)) (start .args .row .0) (start .args .rules .now) (start .args .rule-text .now) (start .args .first) (c .before .before .before .before .loop .k) _ (c .before .before .telling-of .ensures .0 (start .args .rule-text .now)) _ (c .before .clause-names .ensures) (start .args .i) (omega arith) (c .if1 .taken))
 
 add-k : tie.Need-add-k Inv-loop μ-loop
 add-k c = search needs
@@ -52,7 +52,7 @@ loop-less c = search needs
 loop-again : tie.Need-loop-again Inv-loop μ-loop
 loop-again c =
     let start = c .before .before .before .before .before .before .before .before .before in
-    (omega arith, unnamed-more (docOf (start .args .«record» .now) (start .args .text .now)) (start .args .row .0) (start .args .rules .now) (start .args .rule-text .now) (start .args .first) (c .before .before .before .before .loop .k) _ (c .before .before .clause-of .ensures .0 (start .args .rule-text .now)) _ (c .before .clause-names .ensures) (c .before .before .before .before .loop .inv .1) (c .if1 .left))
+    (omega arith, unnamed-more (docOf (start .args .«record» .now) (start .args .text .now)) (start .args .row .0) (start .args .rules .now) (start .args .rule-text .now) (start .args .first) (c .before .before .before .before .loop .k) _ (c .before .before .telling-of .ensures .0 (start .args .rule-text .now)) _ (c .before .clause-names .ensures) (c .before .before .before .before .loop .inv .1) (c .if1 .left))
 
 returns-2 : tie.Need-returns-2 Inv-loop μ-loop
 returns-2 c =
@@ -67,8 +67,8 @@ unnamed-in-spec =
     Inv-loop
     μ-loop
     loop-holds
-    add-clause-of
-    clause-of-requires
+    add-telling-of
+    telling-of-requires
     clause-names-requires
     returns
     add-k
