@@ -105,14 +105,14 @@ pub fn telling_of(words: &[u32], form: RuleForm, k: u32) -> Clause
     ensures { λ r. ⌜ Tested (now (words .entry)) form r ⌝ }
 {
     let row = clause_at(words, form, k);
-    let entries = Entries {
+    let list = Entries {
         first: row.first,
         count: row.count,
     };
     let code = row.code;
     match code {
-        40 => Clause::Properties(entries),
-        43 => Clause::PrefixItems(entries),
+        40 => Clause::Properties(list),
+        43 => Clause::PrefixItems(list),
         _ => Clause::Never,
     }
 }
