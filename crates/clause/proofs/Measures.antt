@@ -1,5 +1,6 @@
 -- Sizes, as they are found and as they are limited.
 --     string-size, rows-size, no-size     what was read is the size
+--     range-length                        how many rows a range has
 --     size-holds, other-holds             what is asked of a size, by the size that was found
 -- Assumes nothing.
 use mathlib.Core.Bool.{Bool, true}
@@ -20,7 +21,7 @@ use Rattle.clause.specs.declared.sizes.Measured.the-variants.{Size, Othe
 use Rattle.clause.specs.Read.{sizeIn, sizeOf}
 use Rattle.clause.proofs.Having.{isOf, bytes-found, string-in}
 
-range-length : (a k : ℕ) → length (range a k) ≡ k
+pub range-length : (a k : ℕ) → length (range a k) ≡ k
 unfolding range
 range-length a zero = refl
 range-length a (suc k) = ap suc (range-length (suc a) k)

@@ -68,6 +68,11 @@ abbrev pub sizeIn : M.Measured → Option ℕ
 sizeIn (M.the-variants.Size n) = some n
 sizeIn M.the-variants.Other = none
 
+-- 0 where there is none
+abbrev pub orNone : Option ℕ → ℕ
+orNone none = 0
+orNone (some n) = n
+
 -- how many there are, if there can be any
 abbrev pub sizeOf : Option (List ℕ) → Option ℕ
 sizeOf none = none

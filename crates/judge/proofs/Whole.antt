@@ -22,6 +22,7 @@ use Rattle.meaning.specs.Rules.{Pair, membersOf, elementsOf}
 use Rattle.meaning.specs.Settling.{listed, root, settled, word, list, cell, cells, marked}
 use Rattle.meaning.specs.Answer.{Left, verdict, judged}
 use Rattle.meaning.proofs.Settled.{once}
+use Rattle.clause.proofs.Measures.{range-length}
 use Rattle.areas.specs.Cells.{cellOf, verd, bit, four, mark, column, markedBy, Cleared}
 use Rattle.areas.specs.Writers.{Writes}
 use Rattle.areas.proofs.Cells.{mark-read, whole, zero-verd, zero-bit, settled-blank}
@@ -105,11 +106,6 @@ celled-at {T} {done} {c₀} {c = c} F A j s h g =
     (le-or-lt j 0) in
     whole x (A .small _) ∙ rw (a, b)
 
-length-range : (x n : ℕ) → length (range x n) ≡ n
-unfolding range
-length-range x zero = refl
-length-range x (suc n) = ap suc (length-range (suc x) n)
-
 getD-row : (f : ℕ → ℕ) (x n i : ℕ) → i < n → getD (map f (range x n)) i 0 ≡ f (x + i)
 unfolding range
 getD-row f x zero i h = absurd (omega arith)
@@ -131,7 +127,7 @@ by-rows g m a (suc n) l e f =
     let w : length l ≡ m + n * m =
     e ∙ (let q : suc n ≡ n + 1 = omega arith in let r : (n + 1) * m ≡ n * m + 1 * m = add-mul n 1 m in rw q (omega arith)) in
     let t : take m l ≡ map (g a) (range 0 m) =
-    ext-getD 0 (take m l) (map (g a) (range 0 m)) (length-take-le m l (omega arith) ∙ sym (length-map (range 0 m) (g a) ∙ length-range 0 m))
+    ext-getD 0 (take m l) (map (g a) (range 0 m)) (length-take-le m l (omega arith) ∙ sym (length-map (range 0 m) (g a) ∙ range-length 0 m))
     (λ i h.
     let k : i < m = (let z = length-take-le m l (omega arith) in omega arith) in
     getD-take m l i 0 k

@@ -1,5 +1,5 @@
 -- How many steps a clause has and what it says in the end are what its plan says.
---     member-count, no-members, element-count, no-elements    how many members and elements a row has
+--     members-counted, elements-counted    how many members and elements a row has
 --     counted, no-steps     how many steps a clause has, by the variant that was read
 --     named-all, first-of, later     how many `properties`, `prefixItems` and `items` have
 --     finished, asserted     what a clause says in the end, by the variant that was read
@@ -23,46 +23,33 @@ use Rattle.rulesheet.specs.Ruleset as R
 use Rattle.rulesheet.specs.Ruleset.{Test, asserts}
 use Rattle.rulesheet.specs.Clauses.{clauseMeans}
 use Rattle.rulesheet.proofs.Items.{schemas-long, members-long}
+use Rattle.meaning.specs.Tests.{members?, elements?}
 use Rattle.meaning.specs.Rules.{Pair, passes}
+use Rattle.clause.specs.Read.{sizeOf, orNone}
+use Rattle.clause.proofs.Measures.{range-length}
 use Rattle.clause.proofs.Having.{isOf, never, never-not}
 use Rattle.steps.specs.Plan.{memberCount, elementCount, own, stepsIn, stepsOf, finishOf}
 use Rattle.steps.specs.Read.{Started}
 
 -- ---- how many members and elements a row has
 
-pub member-count : (v : Value) → isOf 6 v ≡ true → childCount v ≡ memberCount v
-member-count null t = absurd (never t)
-member-count (bool true) t = absurd (never t)
-member-count (bool false) t = absurd (never t)
-member-count (number z) t = absurd (never t)
-member-count (string bytes) t = absurd (never t)
-member-count (array first k) t = absurd (never t)
-member-count (object first k) t = refl
+pub members-counted : (v : Value) → orNone (sizeOf (members? v)) ≡ memberCount v
+unfolding members?
+members-counted null = refl
+members-counted (bool b) = refl
+members-counted (number z) = refl
+members-counted (string bytes) = refl
+members-counted (array first k) = refl
+members-counted (object first k) = range-length first k
 
-pub no-members : (v : Value) → isOf 6 v ≡ false → 0 ≡ memberCount v
-no-members null t = refl
-no-members (bool b) t = refl
-no-members (number z) t = refl
-no-members (string bytes) t = refl
-no-members (array first k) t = refl
-no-members (object first k) t = absurd (never-not t)
-
-pub element-count : (v : Value) → isOf 5 v ≡ true → childCount v ≡ elementCount v
-element-count null t = absurd (never t)
-element-count (bool true) t = absurd (never t)
-element-count (bool false) t = absurd (never t)
-element-count (number z) t = absurd (never t)
-element-count (string bytes) t = absurd (never t)
-element-count (array first k) t = refl
-element-count (object first k) t = absurd (never t)
-
-pub no-elements : (v : Value) → isOf 5 v ≡ false → 0 ≡ elementCount v
-no-elements null t = refl
-no-elements (bool b) t = refl
-no-elements (number z) t = refl
-no-elements (string bytes) t = refl
-no-elements (array first k) t = absurd (never-not t)
-no-elements (object first k) t = refl
+pub elements-counted : (v : Value) → orNone (sizeOf (elements? v)) ≡ elementCount v
+unfolding elements?
+elements-counted null = refl
+elements-counted (bool b) = refl
+elements-counted (number z) = refl
+elements-counted (string bytes) = refl
+elements-counted (array first k) = range-length first k
+elements-counted (object first k) = refl
 
 -- ---- how many steps a clause has
 

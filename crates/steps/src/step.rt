@@ -7,7 +7,7 @@ ghost use lib.Dec.{eqb};
 ghost use lib.ListN.{length, getD, take};
 ghost use Rattle.sheet.specs.Doc.{Doc};
 ghost use Rattle.sheet.specs.Record.{docOf};
-ghost use Rattle.sheet.specs.Accepted.{Formed, Laid};
+ghost use Rattle.sheet.specs.Accepted.{Laid};
 ghost use Rattle.rulesheet.specs.declared.code.Fields.the-variants.{Members};
 ghost use Rattle.rulesheet.specs.Ruleset as R;
 ghost use Rattle.rulesheet.specs.Sheet.{schemaAt};
@@ -15,7 +15,7 @@ ghost use Rattle.rulesheet.specs.Read.{RulesFormed};
 ghost use Rattle.rulesheet.specs.Clauses.{schemasIn, membersIn, clauseMeans, Tested};
 ghost use Rattle.meaning.specs.Lists.{concatMap};
 ghost use Rattle.meaning.specs.Rules.{Pair, Marks, namesOf};
-ghost use Rattle.clause.specs.Read.{RecordRead, RulesRead, ListRead};
+ghost use Rattle.clause.specs.Read.{RecordRead, RulesRead, ListRead, sizeIn, orNone};
 ghost use Rattle.areas.specs.Cells.{cellOf, column};
 ghost use Rattle.steps.specs.Plan.{memberCount, elementCount, unnamed, stepsOf, finishOf};
 ghost use Rattle.steps.specs.Read.{beforeIn, ClauseRead, Started, StepRead};
@@ -23,7 +23,9 @@ use crate::before::unnamed_in;
 use areas::bit_at;
 use areas::cell_of;
 use clause::members::child_named;
-use clause::numbers::is_kind;
+use clause::sizes::Measured;
+use clause::sizes::elements_of;
+use clause::sizes::members_of;
 use clause::test::holds;
 use rulesheet::clause::Clause;
 use rulesheet::clause::Entries;
@@ -31,7 +33,6 @@ use rulesheet::clause::entry_name;
 use rulesheet::clause::entry_schema;
 use rulesheet::clause::member_schema;
 use rulesheet::form::RuleForm;
-use sheet::kind::RowKind;
 use sheet::record::RecordForm;
 use sheet::record::RecordRow;
 use sheet::record::RuleRow;
@@ -47,26 +48,14 @@ pub struct Step {
 
 // ---- how many steps there are
 
-// How many members the row has: none if it is no object.
-pub fn members_of(record: &[u32], form: RecordForm, row: RecordRow) -> u32
-    requires { ⌜ Formed (now «record») form × (row .0 < form .rows) ⌝ }
-    ensures { λ r. ⌜ ((ts : List ℕ) → r ≡ memberCount (docOf (now («record» .entry)) ts .value (row .0))) ⌝ }
+// A size, or 0 where there is none.
+fn count_of(found: Measured) -> u32
+    ensures { λ r. ⌜ r ≡ orNone (sizeIn found) ⌝ }
 {
-    if !is_kind(record, form, row, RowKind::OBJECT) {
-        return 0;
+    match found {
+        Measured::Size(size) => size,
+        Measured::Other => 0,
     }
-    children_of(record, form, row).count
-}
-
-// How many elements the row has: none if it is no array.
-pub fn elements_of(record: &[u32], form: RecordForm, row: RecordRow) -> u32
-    requires { ⌜ Formed (now «record») form × (row .0 < form .rows) ⌝ }
-    ensures { λ r. ⌜ ((ts : List ℕ) → r ≡ elementCount (docOf (now («record» .entry)) ts .value (row .0))) ⌝ }
-{
-    if !is_kind(record, form, row, RowKind::ARRAY) {
-        return 0;
-    }
-    children_of(record, form, row).count
 }
 
 // The lesser of two numbers.
@@ -115,8 +104,8 @@ pub fn steps_of(record: &[u32], form: RecordForm, row: RecordRow, clause: Clause
     requires { ⌜ Laid (now «record») form × (row .0 < form .rows) ⌝ }
     ensures { λ r. ⌜ ((ts rs us : List ℕ) (p : Pair) (before : List R.Clause) → p .row ≡ row .0 → Started before (clauseMeans rs us clause) from → r ≡ stepsOf (docOf (now («record» .entry)) ts) p before (clauseMeans rs us clause)) ⌝ }
 {
-    let members = members_of(record, form, row);
-    let elements = elements_of(record, form, row);
+    let members = count_of(members_of(record, form, row));
+    let elements = count_of(elements_of(record, form, row));
     steps_among(clause, members, elements, from)
 }
 
