@@ -157,11 +157,23 @@ fn go_to(row: RecordRow, rule: RuleRow) -> Step
     }
 }
 
-// One that is applied with the schema of entry x.
-fn listed_step(rules: &[u32], rule_form: RuleForm, row: RecordRow, list: Entries, x: u32) -> Step
-    requires { ⌜ RulesFormed (now rules) «rule_form» × (list .first + list .count ≤ «rule_form» .e) × (x < list .count) ⌝ }
-    ensures { λ r. ⌜ r ≡ record { go = true; row = row .0; rule = getD (schemasIn (now (rules .entry)) list) x 0 } ⌝ }
+// One that is applied with the schema of entry x of a list. The list's two numbers come one by one:
+// a clause that was just read is in memory as single words, and reading it as pairs of them waits.
+fn listed_step(
+    rules: &[u32],
+    rule_form: RuleForm,
+    row: RecordRow,
+    first: u32,
+    count: u32,
+    x: u32,
+) -> Step
+    requires { ⌜ RulesFormed (now rules) «rule_form» × (first + count ≤ «rule_form» .e) × (x < count) ⌝ }
+    ensures { λ r. ⌜ r ≡ record { go = true; row = row .0; rule = getD (schemasIn (now (rules .entry)) (record { first = first; count = count })) x 0 } ⌝ }
 {
+    let list = Entries {
+        first: first,
+        count: count,
+    };
     go_to(row, entry_schema(rules, rule_form, list, x))
 }
 
@@ -274,9 +286,9 @@ pub fn step_at<'a>(
     let child = children_of(record, form, row).first;
     let m = rule_form.m;
     match clause {
-        Clause::AllOf(es) => listed_step(rules, rule_form, row, es, x),
-        Clause::AnyOf(es) => listed_step(rules, rule_form, row, es, x),
-        Clause::OneOf(es) => listed_step(rules, rule_form, row, es, x),
+        Clause::AllOf(es) => listed_step(rules, rule_form, row, es.first, es.count, x),
+        Clause::AnyOf(es) => listed_step(rules, rule_form, row, es.first, es.count, x),
+        Clause::OneOf(es) => listed_step(rules, rule_form, row, es.first, es.count, x),
         Clause::Not(rule) => go_to(row, rule),
         Clause::Ref(rule) => go_to(row, rule),
         Clause::Properties(es) => {
@@ -296,7 +308,14 @@ pub fn step_at<'a>(
             RecordRow(child + x),
             rule,
         ),
-        Clause::PrefixItems(es) => listed_step(rules, rule_form, RecordRow(child + x), es, x),
+        Clause::PrefixItems(es) => listed_step(
+            rules,
+            rule_form,
+            RecordRow(child + x),
+            es.first,
+            es.count,
+            x,
+        ),
         Clause::Items(rule) => go_to(RecordRow(child + from + x), rule),
         Clause::UnevaluatedProperties(rule) => fresh_step(cells, m, RecordRow(child + x), s, rule),
         Clause::UnevaluatedItems(rule) => fresh_step(cells, m, RecordRow(child + x), s, rule),
