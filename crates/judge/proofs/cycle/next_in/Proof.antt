@@ -5,7 +5,8 @@ use native.Mathlib.Omega.{arith}
 use borrow.Author.Needs.{needs}
 use Rattle.rulesheet.specs.declared.form.SchemaRow.{SchemaRow}
 use Rattle.steps.specs.Turns.{pairIs}
-use Rattle.judge.specs.State.{caseOf}
+use Rattle.steps.specs.Read.{ClauseRead}
+use Rattle.judge.specs.State.{Case, caseOf, Sheets}
 use Rattle.judge.proofs.Reading.{rules-ok, row-low, rule-low, clause-low, clause-small, clause-read, kid-first, kid-many, schemas-are, sheets-by, started-in, low-in, long-in, turned-in, Given, given-none, given-some, given-long, passes-by, passed-by}
 use Rattle.judge.proofs.cycle.next_in.Statement.{statement}
 use Rattle.judge.proofs.cycle.next_in.Tie as tie
@@ -68,49 +69,53 @@ pass-on-requires c κs =
     let kids = c .before .before .before .before .before .before .before .before .children-of .ensures in
     passes-by (c .before .before .before .before .before .before .wide .ensures ∙ schemas-are S) (kid-first S (pairIs (c .before .before .before .before .before .before .before .before .before .before .before .before .before .before .before .before .before .before .before .args .p)) kids (c .before .before .before .before .before .wide2 .ensures)) (kid-many S (pairIs (c .before .before .before .before .before .before .before .before .before .before .before .before .before .before .before .before .before .before .before .args .p)) kids (c .before .before .before .before .wide3 .ensures)) (c .before .before .before .wide4 .ensures) (c .before .before .wide5 .ensures) (c .before .wide6 .ensures) (c .wide7 .ensures) (A .passes (c .before .before .before .before .before .before .before .before .before .if1 .taken))
 
+-- where the function began, and the case that it was given
+abbrev start : tie.Joined1 → tie.Start
+start j = j .before .before .before .before .before .before .before .before .before .before
+
+abbrev given-case : tie.Start → Case
+given-case s = caseOf (s .args .«record» .now) (s .args .text .now) (s .args .rules .now) (s .args .rule-text .now)
+
+-- the sheets by the forms that were read, and the clause
+sheets : (j : tie.Joined1)
+    → Sheets (start j .args .«record» .now) (start j .args .text .now) (start j .args .rules .now) (start j .args .rule-text .now) (j .before .before .before .before .of .result) (j .before .before .before .of2 .result)
+sheets j = sheets-by (start j .pre) (j .before .before .before .before .of .ensures) (j .before .before .before .of2 .ensures)
+
+clause : (j : tie.Joined1)
+    → ClauseRead (start j .args .rules .now) (start j .args .rule-text .now) (j .before .before .before .of2 .result) (start j .args .p .rule .0) (j .before .before .schema-at .result .first) (start j .args .i) (j .before .clause-of .result)
+clause j =
+    clause-read (sheets j) (rule-low (sheets j) (start j .pre .inside)) (ap (λ (row : SchemaRow). row .first) (j .before .before .schema-at .ensures)) (start j .pre .clause-in) (j .before .clause-of .ensures .0) (j .before .clause-of .ensures .1)
+
+-- the cells as either way left them
+passed-on : (j : tie.Joined1)
+    → Given (given-case (start j)) (pairIs (start j .args .p)) (pairIs (start j .args .q)) (start j .args .x) (start j .args .cells .now) (j .if1 .cells)
+passed-on j =
+    let S = sheets j in
+    let p = pairIs (start j .args .p) in
+    ⊎-elim
+    (λ w.
+    given-some (w .0 .taken)
+    (passed-by (w .3 .ensures ∙ schemas-are S) (kid-first S p (w .1 .ensures) (w .4 .ensures)) (kid-many S p (w .1 .ensures) (w .5 .ensures)) (w .6 .ensures) (w .7 .ensures) (w .8 .ensures) (w .9 .ensures) (w .10 .ensures))
+    (w .13))
+    (λ w. given-none (w .0 .left) (w .1))
+    (j .if1 .came)
+
 turn-of-requires : tie.Need-turn-of-requires
 turn-of-requires c κs =
-    let A = c .before .before .before .before .before .before .before .before .before .before .before .pre in
-    let S = sheets-by A (c .before .before .before .before .before .of .ensures) (c .before .before .before .before .of2 .ensures) in
-    let C = clause-read S (rule-low S (A .inside)) (ap (λ (row : SchemaRow). row .first) (c .before .before .before .schema-at .ensures)) (A .clause-in) (c .before .before .clause-of .ensures .0) (c .before .before .clause-of .ensures .1) in
-    let G : Given (caseOf (c .before .before .before .before .before .before .before .before .before .before .before .args .record .now) (c .before .before .before .before .before .before .before .before .before .before .before .args .text .now) (c .before .before .before .before .before .before .before .before .before .before .before .args .rules .now) (c .before .before .before .before .before .before .before .before .before .before .before .args .rule-text .now)) (pairIs (c .before .before .before .before .before .before .before .before .before .before .before .args .p)) (pairIs (c .before .before .before .before .before .before .before .before .before .before .before .args .q)) (c .before .before .before .before .before .before .before .before .before .before .before .args .x) (c .before .before .before .before .before .before .before .before .before .before .before .args .cells .now) (c .before .if1 .cells) =
-    ⊎-elim
-    (λ w.
-    given-some (w .0 .taken)
-    (passed-by (w .3 .ensures ∙ schemas-are S) (kid-first S (pairIs (c .before .before .before .before .before .before .before .before .before .before .before .args .p)) (w .1 .ensures) (w .4 .ensures)) (kid-many S (pairIs (c .before .before .before .before .before .before .before .before .before .before .before .args .p)) (w .1 .ensures) (w .5 .ensures)) (w .6 .ensures) (w .7 .ensures) (w .8 .ensures) (w .9 .ensures) (w .10 .ensures))
-    (w .13))
-    (λ w. given-none (w .0 .left) (w .1))
-    (c .before .if1 .came) in
-    ((S .record-read, row-low S (A .inside)), ((S .rules-read, C), (started-in A S C, ((A .few, low-in A S C), long-in A S C (c .before .if1 .cells) (given-long G)))))
+    let j = c .before in
+    let A = start j .pre in
+    let S = sheets j in
+    let C = clause j in
+    ((S .record-read, row-low S (A .inside)), ((S .rules-read, C), (started-in A S C, ((A .few, low-in A S C), long-in A S C (j .if1 .cells) (given-long (passed-on j))))))
 
 same-length : tie.Need-same-length
-same-length c =
-    let A = c .before .before .before .before .before .before .before .before .before .before .before .before .pre in
-    let S = sheets-by A (c .before .before .before .before .before .before .of .ensures) (c .before .before .before .before .before .of2 .ensures) in
-    let G : Given (caseOf (c .before .before .before .before .before .before .before .before .before .before .before .before .args .record .now) (c .before .before .before .before .before .before .before .before .before .before .before .before .args .text .now) (c .before .before .before .before .before .before .before .before .before .before .before .before .args .rules .now) (c .before .before .before .before .before .before .before .before .before .before .before .before .args .rule-text .now)) (pairIs (c .before .before .before .before .before .before .before .before .before .before .before .before .args .p)) (pairIs (c .before .before .before .before .before .before .before .before .before .before .before .before .args .q)) (c .before .before .before .before .before .before .before .before .before .before .before .before .args .x) (c .before .before .before .before .before .before .before .before .before .before .before .before .args .cells .now) (c .before .before .if1 .cells) =
-    ⊎-elim
-    (λ w.
-    given-some (w .0 .taken)
-    (passed-by (w .3 .ensures ∙ schemas-are S) (kid-first S (pairIs (c .before .before .before .before .before .before .before .before .before .before .before .before .args .p)) (w .1 .ensures) (w .4 .ensures)) (kid-many S (pairIs (c .before .before .before .before .before .before .before .before .before .before .before .before .args .p)) (w .1 .ensures) (w .5 .ensures)) (w .6 .ensures) (w .7 .ensures) (w .8 .ensures) (w .9 .ensures) (w .10 .ensures))
-    (w .13))
-    (λ w. given-none (w .0 .left) (w .1))
-    (c .before .before .if1 .came) in
-    given-long G
+same-length c = given-long (passed-on (c .before .before))
 
 returns : tie.Need-returns
 returns c =
-    let A = c .before .before .before .before .before .before .before .before .before .before .before .before .pre in
-    let S = sheets-by A (c .before .before .before .before .before .before .of .ensures) (c .before .before .before .before .before .of2 .ensures) in
-    let C = clause-read S (rule-low S (A .inside)) (ap (λ (row : SchemaRow). row .first) (c .before .before .before .before .schema-at .ensures)) (A .clause-in) (c .before .before .before .clause-of .ensures .0) (c .before .before .before .clause-of .ensures .1) in
-    let G : Given (caseOf (c .before .before .before .before .before .before .before .before .before .before .before .before .args .record .now) (c .before .before .before .before .before .before .before .before .before .before .before .before .args .text .now) (c .before .before .before .before .before .before .before .before .before .before .before .before .args .rules .now) (c .before .before .before .before .before .before .before .before .before .before .before .before .args .rule-text .now)) (pairIs (c .before .before .before .before .before .before .before .before .before .before .before .before .args .p)) (pairIs (c .before .before .before .before .before .before .before .before .before .before .before .before .args .q)) (c .before .before .before .before .before .before .before .before .before .before .before .before .args .x) (c .before .before .before .before .before .before .before .before .before .before .before .before .args .cells .now) (c .before .before .if1 .cells) =
-    ⊎-elim
-    (λ w.
-    given-some (w .0 .taken)
-    (passed-by (w .3 .ensures ∙ schemas-are S) (kid-first S (pairIs (c .before .before .before .before .before .before .before .before .before .before .before .before .args .p)) (w .1 .ensures) (w .4 .ensures)) (kid-many S (pairIs (c .before .before .before .before .before .before .before .before .before .before .before .before .args .p)) (w .1 .ensures) (w .5 .ensures)) (w .6 .ensures) (w .7 .ensures) (w .8 .ensures) (w .9 .ensures) (w .10 .ensures))
-    (w .13))
-    (λ w. given-none (w .0 .left) (w .1))
-    (c .before .before .if1 .came) in
-    record { unchanged = G .unchanged; given = G .given; turned = turned-in A S C (c .before .before .if1 .cells) (c .turn-of .ensures) }
+    let j = c .before .before in
+    let G = passed-on j in
+    record { unchanged = G .unchanged; given = G .given; turned = turned-in (start j .pre) (sheets j) (clause j) (j .if1 .cells) (c .turn-of .ensures) }
 
 pub next-in-spec : {M : Type 1} → statement M
 next-in-spec =
