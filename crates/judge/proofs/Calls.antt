@@ -9,7 +9,6 @@ use mathlib.Core.Bool.{Bool, true, false}
 use mathlib.Core.List.{List, []}
 use mathlib.Core.Path.{_≡_, refl, sym, ap, _∙_}
 use Prim.Native.Nat.{ℕ, _*_, _≤_, _<_}
-use native.Mathlib.Nat.{mul-le-mul-right, mul-comm}
 use native.Mathlib.Omega.{arith}
 use lib.ListN.{length}
 use Rattle.sheet.specs.declared.record.RecordForm.{RecordForm}
@@ -31,6 +30,7 @@ use Rattle.clause.proofs.Reading.{record-read, rules-read}
 use Rattle.judge.specs.declared.cycle.Verdict.{Verdict}
 use Rattle.judge.specs.State.{caseOf, Sheets, Fits}
 use Rattle.judge.specs.Whole.{Roomy, leftBy, judgedOf}
+use Rattle.judge.proofs.Going.{pairs-few}
 
 module _ (ws ts rs us : List ℕ) (n m : ℕ) (good : recordOutcome ws ts ≡ accepted n) (fine : rulesOutcome rs us ≡ accepted m) where
   rows : rowsWord ws ≡ n
@@ -42,10 +42,7 @@ module _ (ws ts rs us : List ℕ) (n m : ℕ) (good : recordOutcome ws ts ≡ ac
   pub size-small : n * m < 4294967296
   size-small =
       let f = fits ws ts rs us [] [] n good m fine in
-      let x : n * m ≤ 1024 * m = mul-le-mul-right m (f .rows .few) in
-      let y : m * 1024 ≤ 1024 * 1024 = mul-le-mul-right 1024 (f .few) in
-      let z : m * 1024 ≡ 1024 * m = mul-comm m 1024 in
-      omega arith
+      omega (arith, pairs-few n m (f .rows .few) (f .few))
 
   good′ : recordOutcome ws ts ≡ accepted (rowsWord ws)
   good′ = good ∙ ap accepted (sym rows)

@@ -88,9 +88,9 @@ going-pair {T} {p} {c} {l} {n} a u =
       quiet = λ q k i h e ch. a .quiet q k i (omega arith) e ch;
     }
 
--- a cell's number fits a word
-pub narrow : (n m k : ℕ) → n ≤ 1024 → m ≤ 1024 → k < n * m → k < 4294967296
-narrow n m k a b h =
+-- how many pairs there are at most
+pub pairs-few : (n m : ℕ) → n ≤ 1024 → m ≤ 1024 → n * m ≤ 1048576
+pairs-few n m a b =
     let x : n * m ≤ 1024 * m = mul-le-mul-right m a in
     let y : m * 1024 ≤ 1024 * 1024 = mul-le-mul-right 1024 b in
     let z : m * 1024 ≡ 1024 * m = mul-comm m 1024 in
@@ -121,9 +121,6 @@ module _ {T : Case} {p : Pair} {held : Pair → Marks} {l₀ : List ℕ} {done :
         areas = areas-self (G .areas);
         quiet = λ q k i h e ch. let g = z .lower in going-quiet q k i (omega arith) e ch;
       }
-
-  pub going-cell : (q : Pair) → In T q → cellAt (T .m) q < length c
-  going-cell q i = areas-cell (G .areas) q i
 
   -- a pair that p applies was judged
   pub going-apply : {q : Pair} {c′ l′ : List ℕ} {n′ : ℕ} → Aim T p q → Judged T q c l n c′ l′ n′ → Going T p held l₀ (settleOf T q done) κ c′ l′ n′
@@ -212,7 +209,7 @@ module _ {T : Case} {p : Pair} {held : Pair → Marks} {l₀ : List ℕ} {done :
         in-cells = omega arith;
         unsettled = u;
         in-list = omega arith;
-        narrow = narrow (T .n) (T .m) i (G .fit .rows .few) (G .fit .few) (omega arith);
+        narrow = omega (arith, pairs-few (T .n) (T .m) (G .fit .rows .few) (G .fit .few));
       }
 
 -- ---- the steps of a clause

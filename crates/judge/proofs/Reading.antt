@@ -4,7 +4,6 @@ use mathlib.Core.Bool.{Bool, true}
 use mathlib.Core.List.{List, [], List·Memᴰ as Has, List·Memᴰ·head as at-head, List·Memᴰ·tail as in-tail, _∷_}
 use mathlib.Core.Path.{_≡_, refl, sym, ap, _∙_, subst}
 use Prim.Native.Nat.{ℕ, zero, suc, _+_, _*_, _≤_, _<_}
-use native.Mathlib.Nat.{mul-le-mul-right, mul-comm}
 use native.Mathlib.Omega.{arith}
 use lib.ListN.{length, getD}
 use Rattle.sheet.specs.declared.record.RecordForm.{RecordForm}
@@ -31,8 +30,8 @@ use Rattle.steps.specs.declared.turn.Turn.{Turn}
 use Rattle.steps.specs.Plan.{stepsOf}
 use Rattle.steps.specs.Read.{beforeIn, ClauseRead, Started}
 use Rattle.steps.specs.Turns.{Turned}
-use Rattle.judge.specs.State.{Case, caseOf, Sheets, Fits, In, firstKid, kidCount, clausesOf, clauseAt, beforeOf, cellAt, rankOf, Advances}
-use Rattle.judge.proofs.Going.{Aim}
+use Rattle.judge.specs.State.{Case, caseOf, Sheets, Fits, In, firstKid, kidCount, clausesOf, clauseAt, beforeOf, cellAt, rankOf, Advances, Given}
+use Rattle.judge.proofs.Going.{Aim, pairs-few}
 
 -- the rules' trailer is in order, and the form is its
 pub formed-by : {rs : List ℕ} {rform : RuleForm} → wordsOk rs ≡ true → rform ≡ RS.formOf rs → RulesFormed rs rform
@@ -118,10 +117,6 @@ pub lent-sheets : {ws ts rs us : List ℕ} {form : RecordForm} {rform : RuleForm
     → Sheets ws ts rs us form rform
 lent-sheets S e f = rw (e, f) S
 
-pub sheets-by : {ws ts rs us cells : List ℕ} {form : RecordForm} {rform : RuleForm} {p q : Pair} {i from x misses : ℕ}
-    → Advances ws ts rs us cells p i from x misses q → form ≡ formOf ws → rform ≡ RS.formOf rs → Sheets ws ts rs us form rform
-sheets-by A = lent-sheets (A .sheets)
-
 module _ {ws ts rs us c₀ : List ℕ} {form : RecordForm} {rform : RuleForm} {clause : Clause} {p q : Pair} {first i from x misses : ℕ}
     (A : Advances ws ts rs us c₀ p i from x misses q) (S : Sheets ws ts rs us form rform) (C : ClauseRead rs us rform (p .rule) first i clause) where
   pub started-in : 0 < x → Started (beforeIn rs us (p .rule) i) (clauseMeans rs us clause) from
@@ -137,24 +132,18 @@ module _ {ws ts rs us c₀ : List ℕ} {form : RecordForm} {rform : RuleForm} {c
       → Turned (T S .doc) p (beforeOf (T S) p i) (clauseAt (T S) p i) x misses (column (T S .m) c (p .rule)) r
   turned-in c t = rw (C .means, schemas-are S) at t
 
--- what was passed on, if anything was
-pub record Given (T : Case) (p q : Pair) (x : ℕ) (c₀ c : List ℕ) : Type 0 where
-  pub unchanged : x ≡ 0 → c ≡ c₀
-  pub given : 0 < x → Marked (T .m) (firstKid T p) (kidCount T p) (p .rule) (passed (T .m) c₀ (p .row) (p .rule) (q .row) (q .rule)) c₀ c
+-- ---- what was passed on, if anything was
 
 pub given-none : {T : Case} {p q : Pair} {x : ℕ} {c₀ c : List ℕ} → x ≤ 0 → c ≡ c₀ → Given T p q x c₀ c
-given-none h e = record { unchanged = λ z. e; given = λ g. absurd (omega arith) }
+given-none h e = record { none = λ z. e; some = λ g. absurd (omega arith) }
 
 pub given-some : {T : Case} {p q : Pair} {x : ℕ} {c₀ c d : List ℕ} → 0 < x
     → Marked (T .m) (firstKid T p) (kidCount T p) (p .rule) (passed (T .m) c₀ (p .row) (p .rule) (q .row) (q .rule)) c₀ d → c ≡ d → Given T p q x c₀ c
-given-some h m e = record { unchanged = λ z. absurd (omega arith); given = λ g. rw e m }
+given-some h m e = record { none = λ z. absurd (omega arith); some = λ g. rw e m }
 
 pub given-long : {T : Case} {p q : Pair} {x : ℕ} {c₀ c : List ℕ} → Given T p q x c₀ c → length c ≡ length c₀
-given-long {x = zero} g = ap length (g .unchanged refl)
-given-long {x = suc x} g = g .given (omega arith) .len
-
-pub aim-by : {T : Case} {p q r : Pair} → q ≡ r → Aim T p r → Aim T p q
-aim-by {T} {p} e a = subst (Aim T p) (sym e) a
+given-long {x = zero} g = ap length (g .none refl)
+given-long {x = suc x} g = g .some (omega arith) .len
 
 -- the writers' contracts in other words for their numbers
 pub passes-by : {m m′ f f′ k k′ r r′ s s′ a a′ b b′ : ℕ} {c : List ℕ} → m ≡ m′ → f ≡ f′ → k ≡ k′ → r ≡ r′ → s ≡ s′ → a ≡ a′ → b ≡ b′
@@ -190,7 +179,5 @@ module _ {ws ts rs us : List ℕ} {form : RecordForm} {rform : RuleForm} (S : Sh
 
   pub size-fits : {a b : ℕ} → Fits (caseOf ws ts rs us) → a ≡ form .rows → b ≡ rform .m → a * b < 18446744073709551616
   size-fits fit e f =
-      let x : rowsWord ws * schemasWord rs ≤ 1024 * schemasWord rs = mul-le-mul-right (schemasWord rs) (fit .rows .few) in
-      let y : schemasWord rs * 1024 ≤ 1024 * 1024 = mul-le-mul-right 1024 (fit .few) in
-      let z : schemasWord rs * 1024 ≡ 1024 * schemasWord rs = mul-comm (schemasWord rs) 1024 in
+      let few = pairs-few (rowsWord ws) (schemasWord rs) (fit .rows .few) (fit .few) in
       rw (size-is e f) (omega arith)

@@ -10,7 +10,6 @@ use mathlib.Core.Bool.{Bool, true, false, not, cond}
 use mathlib.Core.List.{List, List·Memᴰ as Has}
 use mathlib.Core.Path.{_≡_, refl, sym, _∙_, subst}
 use Prim.Native.Nat.{ℕ, _+_, _-_, _*_, _<_, _≤_}
-use native.Mathlib.Nat.{mul-le-mul-right, mul-comm}
 use native.Mathlib.Omega.{arith}
 use lib.Dec.{eqb}
 use lib.ListN.{length, getD}
@@ -26,7 +25,7 @@ use Rattle.steps.specs.Turns.{pairIs, Skipped, Turned}
 use Rattle.judge.specs.declared.cycle.Done.{Done}
 use Rattle.judge.specs.State.{Case, caseOf, Sheets, Fits, In, rankOf, clausesOf, clauseAt, beforeOf, cellAt, bitsOf, Areas, Ready, Unsettled, Judged, ClauseJudged, Advances, Advanced}
 use Rattle.judge.proofs.State.{areas-cell}
-use Rattle.judge.proofs.Going.{Aim, many, aims, goes, Stepped, stepped-none, stepped-few, stepped-go, stepped-aim, stepped-skips, stepped-went, stepped-passes, stepped-end, going-unsettled, going-aimed, going-apply}
+use Rattle.judge.proofs.Going.{Aim, pairs-few, many, aims, goes, Stepped, stepped-none, stepped-few, stepped-go, stepped-aim, stepped-skips, stepped-went, stepped-passes, stepped-end, going-unsettled, going-aimed, going-apply}
 
 -- the clause stands where `at` says
 pub record Turning (T : Case) (p : Pair) (cl : ℕ) (c₀ l₀ : List ℕ) (n₀ : ℕ) (cells list : List ℕ) (count misses : ℕ) (at : Turn) : Type 0 where
@@ -72,11 +71,7 @@ left-less T p cl at at′ e w t = rw e (by (at′ .go) refl)
 pub cell-asks : {T : Case} {q : Pair} {d : List Pair} {h : Pair → Marks} {l₀ c l : List ℕ} {n : ℕ} → Fits T → In T q → Areas T d h l₀ c l n
     → (cellAt (T .m) q < length c) × (length c < 4294967296)
 cell-asks {T} {q} fit I A =
-    let x : T .n * T .m ≤ 1024 * T .m = mul-le-mul-right (T .m) (fit .rows .few) in
-    let y : T .m * 1024 ≤ 1024 * 1024 = mul-le-mul-right 1024 (fit .few) in
-    let z : T .m * 1024 ≡ 1024 * T .m = mul-comm (T .m) 1024 in
-    let e = A .long in
-    (areas-cell A q I, omega arith)
+    (areas-cell A q I, omega (arith, pairs-few (T .n) (T .m) (fit .rows .few) (fit .few), A .long))
 
 -- ---- it begins
 
@@ -98,7 +93,7 @@ advance-first S R u h =
 pub turning-first : {T : Case} {p q : Pair} {i : ℕ} {c c₁ l : List ℕ} {n : ℕ} {at : Turn} → Ready T (rankOf T p) p c l n → Unsettled (T .m) p c
     → Advanced T p i 0 0 q c c₁ at → Turning T p i c₁ l n c₁ l n 0 at
 turning-first {T} {p} {q} {i} {c} {c₁} {l} {n} R u A =
-    turning (subst (λ (x : List ℕ). Stepped T p i x l n 0 x l n 0) (sym (A .unchanged refl)) (stepped-none R u)) (omega arith) (A .turned)
+    turning (subst (λ (x : List ℕ). Stepped T p i x l n 0 x l n 0) (sym (A .given .none refl)) (stepped-none R u)) (omega arith) (A .turned)
 
 -- ---- a pair that it applies
 
@@ -131,7 +126,7 @@ module _ {T : Case} {p : Pair} {cl : ℕ} {c₀ l₀ : List ℕ} {n₀ : ℕ} {c
       turning-more read e A =
           let G = W .goes-on go in
           let w = G .1 .0 in
-          turning (stepped-went (G .0) (G .1 .2) (G .1 .3) turning-aim J read (A .given (omega arith)) e) (omega arith) (A .turned)
+          turning (stepped-went (G .0) (G .1 .2) (G .1 .3) turning-aim J read (A .given .some (omega arith)) e) (omega arith) (A .turned)
 
 -- what working out where the clause stands after it asks
 pub advance-more : {ws ts rs us : List ℕ} {p : Pair} {cl : ℕ} {c₀ l₀ : List ℕ} {n₀ : ℕ} {c l : List ℕ} {n misses h : ℕ} (v : ℕ) {at : Turn} {c₁ l₁ : List ℕ} {n₁ : ℕ}
@@ -163,4 +158,4 @@ turning-end W e f q = let E = W .ends e in stepped-end (E .0) (f ∙ E .1) q
 -- as the cells were before it began
 pub from-first : {T : Case} {p q : Pair} {cl : ℕ} {c₀ c₁ l₀ : List ℕ} {n₀ : ℕ} {c l : List ℕ} {at : Turn} {r : Done} → Advanced T p cl 0 0 q c₀ c₁ at
     → ClauseJudged T p cl c₁ l₀ n₀ c l r → ClauseJudged T p cl c₀ l₀ n₀ c l r
-from-first {T} {p} {cl = cl} {l₀ = l₀} {n₀} {c} {l} {r = r} A J = subst (λ (x : List ℕ). ClauseJudged T p cl x l₀ n₀ c l r) (A .unchanged refl) J
+from-first {T} {p} {cl = cl} {l₀ = l₀} {n₀} {c} {l} {r = r} A J = subst (λ (x : List ℕ). ClauseJudged T p cl x l₀ n₀ c l r) (A .given .none refl) J

@@ -173,8 +173,12 @@ pub record Advances (ws ts rs us : List ℕ) (cells : List ℕ) (p : Pair) (i fr
   pub started : let T = caseOf ws ts rs us in 0 < x → Started (beforeOf T p i) (clauseAt T p i) from
   pub passes : let T = caseOf ws ts rs us in 0 < x → Passes (T .m) (firstKid T p) (kidCount T p) (p .row) (p .rule) (q .row) (q .rule) cells
 
--- what q has to give is passed on, and r tells where the clause stands
+-- what q has to give is passed on, if a step was taken
+pub record Given (T : Case) (p q : Pair) (x : ℕ) (cells₀ cells : List ℕ) : Type 0 where
+  pub none : x ≡ 0 → cells ≡ cells₀
+  pub some : 0 < x → Marked (T .m) (firstKid T p) (kidCount T p) (p .rule) (passed (T .m) cells₀ (p .row) (p .rule) (q .row) (q .rule)) cells₀ cells
+
+-- and r tells where the clause stands
 pub record Advanced (T : Case) (p : Pair) (i x misses : ℕ) (q : Pair) (cells₀ cells : List ℕ) (r : Turn) : Type 0 where
-  pub unchanged : x ≡ 0 → cells ≡ cells₀
-  pub given : 0 < x → Marked (T .m) (firstKid T p) (kidCount T p) (p .rule) (passed (T .m) cells₀ (p .row) (p .rule) (q .row) (q .rule)) cells₀ cells
+  pub given : Given T p q x cells₀ cells
   pub turned : Turned (T .doc) p (beforeOf T p i) (clauseAt T p i) x misses (column (T .m) cells (p .rule)) r

@@ -6,8 +6,8 @@ use borrow.Author.Needs.{needs}
 use Rattle.rulesheet.specs.declared.form.SchemaRow.{SchemaRow}
 use Rattle.steps.specs.Turns.{pairIs}
 use Rattle.steps.specs.Read.{ClauseRead}
-use Rattle.judge.specs.State.{Case, caseOf, Sheets}
-use Rattle.judge.proofs.Reading.{rules-ok, row-low, rule-low, clause-low, clause-small, clause-read, kid-first, kid-many, schemas-are, sheets-by, started-in, low-in, long-in, turned-in, Given, given-none, given-some, given-long, passes-by, passed-by}
+use Rattle.judge.specs.State.{Case, caseOf, Sheets, Given}
+use Rattle.judge.proofs.Reading.{rules-ok, row-low, rule-low, clause-low, clause-small, clause-read, kid-first, kid-many, schemas-are, lent-sheets, started-in, low-in, long-in, turned-in, given-none, given-some, given-long, passes-by, passed-by}
 use Rattle.judge.proofs.cycle.next_in.Statement.{statement}
 use Rattle.judge.proofs.cycle.next_in.Tie as tie
 
@@ -20,25 +20,25 @@ of-requires-2 c κs = rules-ok (c .before .before .before .before .before .befor
 schema-at-requires : tie.Need-schema-at-requires
 schema-at-requires c κs =
     let start = c .before .before .before .before .before .before .before in
-    let S = sheets-by (start .pre) (c .before .of .ensures) (c .of2 .ensures) in
+    let S = lent-sheets (start .pre .sheets) (c .before .of .ensures) (c .of2 .ensures) in
     (S .rules-read .laid .clauses-laid .schemas-laid .formed, rule-low S (start .pre .inside))
 
 add-clause-of : tie.Need-add-clause-of
 add-clause-of c =
     let A = c .before .before .before .before .before .before .before .before .pre in
-    let S = sheets-by A (c .before .before .of .ensures) (c .before .of2 .ensures) in
+    let S = lent-sheets (A .sheets) (c .before .before .of .ensures) (c .before .of2 .ensures) in
     omega (arith, clause-small S (rule-low S (A .inside)) (ap (λ (row : SchemaRow). row .first) (c .schema-at .ensures)) (A .clause-in))
 
 clause-of-requires : tie.Need-clause-of-requires
 clause-of-requires c κs =
     let A = c .before .before .before .before .before .before .before .before .pre in
-    let S = sheets-by A (c .before .before .of .ensures) (c .before .of2 .ensures) in
+    let S = lent-sheets (A .sheets) (c .before .before .of .ensures) (c .before .of2 .ensures) in
     (S .rules-read .laid .clauses-laid .schemas-laid .formed, clause-low S (rule-low S (A .inside)) (ap (λ (row : SchemaRow). row .first) (c .schema-at .ensures)) (A .clause-in))
 
 children-of-requires : tie.Need-children-of-requires
 children-of-requires c κs =
     let A = c .before .before .before .before .before .before .before .before .before .before .pre in
-    let S = sheets-by A (c .before .before .before .before .of .ensures) (c .before .before .before .of2 .ensures) in
+    let S = lent-sheets (A .sheets) (c .before .before .before .before .of .ensures) (c .before .before .before .of2 .ensures) in
     (S .record-read .laid .formed, row-low S (A .inside))
 
 wide-requires : tie.Need-wide-requires
@@ -65,7 +65,7 @@ wide-requires-7 c κs = search needs
 pass-on-requires : tie.Need-pass-on-requires
 pass-on-requires c κs =
     let A = c .before .before .before .before .before .before .before .before .before .before .before .before .before .before .before .before .before .before .before .pre in
-    let S = sheets-by A (c .before .before .before .before .before .before .before .before .before .before .before .before .before .of .ensures) (c .before .before .before .before .before .before .before .before .before .before .before .before .of2 .ensures) in
+    let S = lent-sheets (A .sheets) (c .before .before .before .before .before .before .before .before .before .before .before .before .before .of .ensures) (c .before .before .before .before .before .before .before .before .before .before .before .before .of2 .ensures) in
     let kids = c .before .before .before .before .before .before .before .before .children-of .ensures in
     passes-by (c .before .before .before .before .before .before .wide .ensures ∙ schemas-are S) (kid-first S (pairIs (c .before .before .before .before .before .before .before .before .before .before .before .before .before .before .before .before .before .before .before .args .p)) kids (c .before .before .before .before .before .wide2 .ensures)) (kid-many S (pairIs (c .before .before .before .before .before .before .before .before .before .before .before .before .before .before .before .before .before .before .before .args .p)) kids (c .before .before .before .before .wide3 .ensures)) (c .before .before .before .wide4 .ensures) (c .before .before .wide5 .ensures) (c .before .wide6 .ensures) (c .wide7 .ensures) (A .passes (c .before .before .before .before .before .before .before .before .before .if1 .taken))
 
@@ -79,7 +79,7 @@ given-case s = caseOf (s .args .«record» .now) (s .args .text .now) (s .args .
 -- the sheets by the forms that were read, and the clause
 sheets : (j : tie.Joined1)
     → Sheets (start j .args .«record» .now) (start j .args .text .now) (start j .args .rules .now) (start j .args .rule-text .now) (j .before .before .before .before .of .result) (j .before .before .before .of2 .result)
-sheets j = sheets-by (start j .pre) (j .before .before .before .before .of .ensures) (j .before .before .before .of2 .ensures)
+sheets j = lent-sheets (start j .pre .sheets) (j .before .before .before .before .of .ensures) (j .before .before .before .of2 .ensures)
 
 clause : (j : tie.Joined1)
     → ClauseRead (start j .args .rules .now) (start j .args .rule-text .now) (j .before .before .before .of2 .result) (start j .args .p .rule .0) (j .before .before .schema-at .result .first) (start j .args .i) (j .before .clause-of .result)
@@ -114,8 +114,7 @@ same-length c = given-long (passed-on (c .before .before))
 returns : tie.Need-returns
 returns c =
     let j = c .before .before in
-    let G = passed-on j in
-    record { unchanged = G .unchanged; given = G .given; turned = turned-in (start j .pre) (sheets j) (clause j) (j .if1 .cells) (c .turn-of .ensures) }
+    record { given = passed-on j; turned = turned-in (start j .pre) (sheets j) (clause j) (j .if1 .cells) (c .turn-of .ensures) }
 
 pub next-in-spec : {M : Type 1} → statement M
 next-in-spec =
