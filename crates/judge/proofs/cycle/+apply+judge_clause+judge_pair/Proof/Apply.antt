@@ -25,7 +25,7 @@ apply-same-length t c =
 
 pub apply-returns : (t : ℕ) → apply-lts.Need-returns (apply-claims t) (apply-at t) apply.Post
 apply-returns t c =
-    known (c .before .before .before .before .before .before .pre .1 .1) (c .before .verdict-of .ensures) (c .if1 .taken)
+    known (c .before .before .before .before .before .before .pre .1 .1) (c .before .verdict-of .ensures) (λ z. omega (arith, c .if1 .taken))
 
 pub apply-judge-pair-requires : (t : ℕ) → apply-lts.Need-judge-pair-requires (apply-claims t) (apply-at t) apply.Post
 apply-judge-pair-requires t c κs =
