@@ -1,6 +1,5 @@
 -- Sizes, as they are found and as they are limited.
 --     string-size, rows-size, no-size     what was read is the size
---     range-length                        how many rows a range has
 --     size-holds, other-holds             what is asked of a size, by the size that was found
 -- Assumes nothing.
 use mathlib.Core.Bool.{Bool, true}
@@ -16,15 +15,11 @@ use Rattle.sheet.specs.Record.{textWord, docOf}
 use Rattle.sheet.specs.Accepted.{StringRead}
 use Rattle.meaning.specs.Lists.{range}
 use Rattle.meaning.specs.Tests.{bytes?, given}
+use Rattle.meaning.proofs.Members.{range-length}
 use Rattle.clause.specs.declared.sizes.Measured.{Measured}
 use Rattle.clause.specs.declared.sizes.Measured.the-variants.{Size, Other}
 use Rattle.clause.specs.Read.{sizeIn, sizeOf}
 use Rattle.clause.proofs.Having.{isOf, bytes-found, string-in}
-
-pub range-length : (a k : ℕ) → length (range a k) ≡ k
-unfolding range
-range-length a zero = refl
-range-length a (suc k) = ap suc (range-length (suc a) k)
 
 pub string-size : {ws : List ℕ} {j : ℕ} {r : Range} → StringRead ws j r → (ts : List ℕ) → length ts ≡ textWord ws → isOf 4 (docOf ws ts .value j) ≡ true
     → some (r .length) ≡ sizeOf (bytes? (docOf ws ts .value j))

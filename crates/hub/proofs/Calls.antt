@@ -18,7 +18,7 @@ use Rattle.rulesheet.specs.Sheet.{rulesOf}
 use Rattle.rules.specs.Check.{rulesOutcome}
 use Rattle.meaning.specs.Answer.{Left, verdict, numberOf, judged, judge}
 use Rattle.meaning.proofs.Answers.{record-refused, rules-refused, cells-short, list-short, call-judged, fits}
-use Rattle.meaning.proofs.Settled.{once}
+use Rattle.meaning.proofs.Trees.{once}
 use Rattle.judge.proofs.Calls.{size-small}
 use Rattle.judge.specs.declared.answer.Answer as J
 use Rattle.judge.specs.Call.{answerOf, callLeaves}

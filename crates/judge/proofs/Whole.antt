@@ -15,14 +15,12 @@ use lib.ListN.{length, getD, take, drop, length-map, length-drop, take-append-dr
 use lib.Seq.{ext-getD, getD-take, getD-drop, length-take-le}
 use borrow.Author.Tests.{lt-ltb, le-ltb}
 use Rattle.laws.proofs.Tests.{le-or-lt}
-use Rattle.sheet.specs.Doc.{Value, null, bool, number, string, array, object, Doc, firstChild, childCount}
 use Rattle.meaning.specs.Lists.{range, keep, concatMap}
-use Rattle.meaning.specs.Tests.{members?, elements?, rows}
-use Rattle.meaning.specs.Rules.{Pair, membersOf, elementsOf}
+use Rattle.meaning.specs.Rules.{Pair}
 use Rattle.meaning.specs.Settling.{listed, root, settled, word, list, cell, cells, marked}
 use Rattle.meaning.specs.Answer.{Left, verdict, judged}
-use Rattle.meaning.proofs.Settled.{once}
-use Rattle.clause.proofs.Measures.{range-length}
+use Rattle.meaning.proofs.Trees.{once}
+use Rattle.meaning.proofs.Rows.{by-rows}
 use Rattle.areas.specs.Cells.{cellOf, verd, bit, four, mark, column, markedBy, Cleared}
 use Rattle.areas.specs.Writers.{Writes}
 use Rattle.areas.proofs.Cells.{mark-read, whole, zero-verd, zero-bit, settled-blank}
@@ -106,60 +104,6 @@ celled-at {T} {done} {c₀} {c = c} F A j s h g =
     (le-or-lt j 0) in
     whole x (A .small _) ∙ rw (a, b)
 
-getD-row : (f : ℕ → ℕ) (x n i : ℕ) → i < n → getD (map f (range x n)) i 0 ≡ f (x + i)
-unfolding range
-getD-row f x zero i h = absurd (omega arith)
-getD-row f x (suc n) zero h = let e : x + 0 ≡ x = omega arith in rw e
-getD-row f x (suc n) (suc i) h = let e : x + suc i ≡ suc x + i = omega arith in rw e (getD-row f (suc x) n i (omega arith))
-
-row-step : (m j s : ℕ) → m + (j * m + s) ≡ suc j * m + s
-row-step m j s =
-    let a : (j + 1) * m ≡ j * m + 1 * m = add-mul j 1 m in
-    let b : suc j ≡ j + 1 = omega arith in
-    rw b (omega arith)
-
--- a list of n rows of m places, by its places
-by-rows : (g : ℕ → ℕ → ℕ) (m a n : ℕ) (l : List ℕ) → length l ≡ n * m → ((j s : ℕ) → j < n → s < m → getD l (cellOf m j s) 0 ≡ g (a + j) s)
-    → l ≡ concatMap (λ j. map (g j) (range 0 m)) (range a n)
-unfolding concatMap range
-by-rows g m a zero l e f = ext-getD 0 l [] (e ∙ zero-mul m) (λ i h. let z : length l ≡ 0 = e ∙ zero-mul m in absurd (omega arith))
-by-rows g m a (suc n) l e f =
-    let w : length l ≡ m + n * m =
-    e ∙ (let q : suc n ≡ n + 1 = omega arith in let r : (n + 1) * m ≡ n * m + 1 * m = add-mul n 1 m in rw q (omega arith)) in
-    let t : take m l ≡ map (g a) (range 0 m) =
-    ext-getD 0 (take m l) (map (g a) (range 0 m)) (length-take-le m l (omega arith) ∙ sym (length-map (range 0 m) (g a) ∙ range-length 0 m))
-    (λ i h.
-    let k : i < m = (let z = length-take-le m l (omega arith) in omega arith) in
-    getD-take m l i 0 k
-    ∙ (let z : 0 * m + i ≡ i = omega arith in
-    let y : a + 0 ≡ a = omega arith in
-    let x : 0 + i ≡ i = omega arith in
-    sym (ap (λ (u : ℕ). getD l u 0) z) ∙ f 0 i (omega arith) k ∙ ap (λ (u : ℕ). g u i) y ∙ ap (g a) (sym x))
-    ∙ sym (getD-row (g a) 0 m i k)) in
-    let d : drop m l ≡ concatMap (λ j. map (g j) (range 0 m)) (range (suc a) n) =
-    by-rows g m (suc a) n (drop m l) (length-drop m l ∙ (let z : length l - m ≡ n * m = omega arith in z))
-    (λ j s h k.
-    getD-drop m l (j * m + s) 0
-    ∙ ap (λ (u : ℕ). getD l u 0) (row-step m j s)
-    ∙ f (suc j) s (omega arith) k
-    ∙ (let z : a + suc j ≡ suc a + j = omega arith in ap (λ (u : ℕ). g u s) z)) in
-    sym (take-append-drop m l) ∙ rw (t, d)
-
--- ---- the marks of the root
-
-kids-are : (v : Value) → rows (members? v) ++ rows (elements? v) ≡ range (firstChild v) (childCount v)
-unfolding rows members? elements? range
-kids-are null = refl
-kids-are (bool b) = refl
-kids-are (number z) = refl
-kids-are (string bytes) = refl
-kids-are (array first k) = refl
-kids-are (object first k) = append-nil (range first k)
-
-root-kids : (D : Doc) → membersOf D 0 ++ elementsOf D 0 ≡ range (firstChild (D .value 0)) (childCount (D .value 0))
-unfolding membersOf elementsOf
-root-kids D = kids-are (D .value 0)
-
 kept-same : (g h : ℕ → Bool) (x n : ℕ) → ((k : ℕ) → x ≤ k → k < x + n → g k ≡ h k) → keep g (range x n) ≡ keep h (range x n)
 unfolding keep range
 kept-same g h x zero f = refl
@@ -189,8 +133,7 @@ judged-all {T} {c₀} {l₀} {c} {l} {n} r {x} {y} F j e f u v w =
     ∙ rw (u, v)
     (ap length
     (kept-same (column (T .m) c 0) ((truthOf T root) .marks) (firstKid T root) (kidCount T root)
-    (λ k a b. open-bits T c root k (areas-marks A root k (root-in fit) (record { after = a; within = b }) (settle-self T fit root [])))
-    ∙ ap (keep ((truthOf T root) .marks)) (sym (root-kids (T .doc))))) in
+    (λ k a b. open-bits T c root k (areas-marks A root k (root-in fit) (record { after = a; within = b }) (settle-self T fit root []))))) in
     let cellsAre : c ≡ cells (T .doc) (T .rules) (T .n) (T .m) ++ drop (T .n * T .m) c₀ =
     by-rows (λ i s. cell (T .doc) (T .rules) (T .n) (T .m) done (record { row = i; rule = s })) (T .m) 0 (T .n) c (A .long)
     (λ i s h g. let z : 0 + i ≡ i = omega arith in rw z (celled-at F A i s h g))

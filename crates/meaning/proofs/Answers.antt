@@ -26,7 +26,7 @@ use Rattle.rulesheet.proofs.Naming.{named-inside}
 use Rattle.rules.specs.Check.{ruleLines, rulesOutcome}
 use Rattle.rules.specs.Accepted.{AcceptedRules}
 use Rattle.rules.proofs.Acceptance.{accepted-facts}
-use Rattle.meaning.specs.Answer.{refuses, Left, areaLines, judged, unless, judge}
+use Rattle.meaning.specs.Answer.{refuses, Left, areaLines, table, judged, unless, judge}
 use Rattle.meaning.specs.Fit.{Fit}
 
 -- ---- a table after a table
@@ -72,7 +72,7 @@ module _ (ws ts rs us cs ls : List ℕ) where
   abbrev rest : Left
   rest = judged (docOf ws ts) (rulesOf rs us) (rowsWord ws) (schemasWord rs) cs ls
 
-  by-lines : (o : Outcome) → firstLine (recordLines ws ts ++ (ruleLines rs us ++ areas)) 0 ≡ o → judge ws ts rs us cs ls ≡ unless o cs ls rest
+  pub by-lines : (o : Outcome) → firstLine (table ws ts rs us cs ls) 0 ≡ o → judge ws ts rs us cs ls ≡ unless o cs ls rest
   unfolding judge
   by-lines o e = ap (λ x. unless x cs ls rest) e
 
@@ -82,7 +82,7 @@ module _ (ws ts rs us cs ls : List ℕ) where
       by-lines (refused number place) (first-refused (recordLines ws ts) (ruleLines rs us ++ areas) (rowsWord ws) 0 number place e)
 
   module _ (n : ℕ) (good : recordOutcome ws ts ≡ accepted n) where
-    past-record : firstLine (recordLines ws ts ++ (ruleLines rs us ++ areas)) 0 ≡ firstLine (ruleLines rs us ++ areas) 0
+    past-record : firstLine (table ws ts rs us cs ls) 0 ≡ firstLine (ruleLines rs us ++ areas) 0
     unfolding recordOutcome
     past-record = first-accepted (recordLines ws ts) (ruleLines rs us ++ areas) (rowsWord ws) 0 n good
 
@@ -96,7 +96,7 @@ module _ (ws ts rs us cs ls : List ℕ) where
         by-lines (refused number place) (past-record ∙ first-refused (ruleLines rs us) areas (schemasWord rs) 0 number place e)
 
     module _ (m : ℕ) (fine : rulesOutcome rs us ≡ accepted m) where
-      past-rules : firstLine (recordLines ws ts ++ (ruleLines rs us ++ areas)) 0 ≡ firstLine areas 0
+      past-rules : firstLine (table ws ts rs us cs ls) 0 ≡ firstLine areas 0
       unfolding rulesOutcome
       past-rules = past-record ∙ first-accepted (ruleLines rs us) areas (schemasWord rs) 0 m fine
 

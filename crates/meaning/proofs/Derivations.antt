@@ -17,7 +17,7 @@ use Rattle.meaning.proofs.Lists.{Every, every-nil, every-cons, every-ma
 use Rattle.meaning.proofs.Judgements.{answer-each, applied-each, answer-then, applied-then}
 
 -- no clause has been judged
-abbrev start : Result
+abbrev pub start : Result
 start = record { holds = true; marks = nothing }
 
 -- ---- the function finds what the rules derive
@@ -83,7 +83,7 @@ module _ (D : Doc) (R : Ruleset) (rank : Pair → ℕ)
 abbrev Finds : (ℕ → Result) → Result → Type 0
 Finds find r = (n : ℕ) × ((f : ℕ) → n ≤ f → find f ≡ r)
 
-alike : {q r : Result} → q .holds ≡ r .holds → q .marks ≡ r .marks → q ≡ r
+pub alike : {q r : Result} → q .holds ≡ r .holds → q .marks ≡ r .marks → q ≡ r
 alike a b = λ i. record { holds = a i; marks = b i }
 
 module _ (D : Doc) (R : Ruleset) where
@@ -103,7 +103,7 @@ module _ (D : Doc) (R : Ruleset) where
   unfolding answer
   step f ps rs g e = answer-each (at f) ps (λ qs. found (g qs)) ∙ ap g e
 
-  klist-step : (sub : Pair → Result) (p : Pair) (cs : List Clause) (c : Clause) (q q′ : Result)
+  pub klist-step : (sub : Pair → Result) (p : Pair) (cs : List Clause) (c : Clause) (q q′ : Result)
       → answer sub (clauses D p [] start cs) ≡ q
       → answer sub (clause D p cs (q .marks) c) ≡ q′
       → answer sub (clauses D p [] start (cs ++ c ∷ [])) ≡ record { holds = q .holds && q′ .holds; marks = q .marks ∪ q′ .marks }

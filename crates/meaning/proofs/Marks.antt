@@ -1,7 +1,6 @@
 -- Marks.
 --     marks-children     a pair marks children of its row only
 --     failed-none        a schema that fails marks nothing
---     passed-on          allOf, anyOf, oneOf, not and ref pass on the union of their schemas' marks, whether they hold or fail
 -- Assumes nothing.
 use mathlib.Core.Bool.{Bool, true, false, _&&_, _||_, true≢false}
 use mathlib.Core.List.{List, [], _∷_, _++_, map}
@@ -67,11 +66,6 @@ module _ (D : Doc) (R : Ruleset) where
     judgement-none p =
         rw answer-then
         (λ e k. ap (λ b. b && answer sub (clauses D p [] (record { holds = true; marks = nothing }) (R .clauses (p .rule))) .marks k) e)
-
-    pub passed-on : (p : Pair) (before : List Clause) (κ : Marks) (m : Mode) (ss : List ℕ)
-        → answer sub (clause D p before κ (inPlace m ss)) .marks ≡ unions (map sub (here p ss))
-    unfolding clause answer
-    passed-on p before κ m ss = ap (λ r. r .marks) (answer-each sub (here p ss) _)
 
   derive-in : (f : ℕ) (p : Pair) → Within (p .row) (derive D R f p)
   unfolding derive nothing

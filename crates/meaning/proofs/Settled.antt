@@ -1,6 +1,11 @@
--- Demand 3, for a record and rules that fit.
---     once            the settling list holds each reached pair once and no other, each after those it applies, at most n × m
---     settle-is       settling is its own equation, with no depth in it
+-- The settling list, for a record and rules that fit, by the pairs that each pair applies; `Trees` says the same of derivations.
+--     listed-in, in-listed                the test of the list is membership
+--     all-distinct                        no pair stands in it twice
+--     reached-listed, listed-reached      it holds each pair that is reached from the root, and no other
+--     all-ordered                         each pair stands after those that it applies
+--     all-inside, all-few                 its pairs are of the n × m, and at most so many
+--     words-distinct                      no word stands in it twice
+--     settle-is                           settling is its own equation, with no depth in it
 -- Assumes nothing.
 use mathlib.Core.Bool.{Bool, true, false, _&&_, _||_, cond, true≢false, or-true}
 use mathlib.Core.List.{List, [], _∷_, _++_, map, List·Memᴰ as In, List·Memᴰ·head as at-head, List·Memᴰ·tail as in-tail}
@@ -19,7 +24,7 @@ use Rattle.rulesheet.specs.Ruleset.{Ruleset}
 use Rattle.meaning.specs.Rules.{Pair, depth, applies}
 use Rattle.meaning.specs.Settling.{samePair, listed, inTurn, root, settle, settled, word}
 use Rattle.meaning.specs.Fit.{Fit, Inside, rank}
-use Rattle.meaning.specs.Once.{Reached, itself, further, Distinct, Ordered, Once}
+use Rattle.meaning.specs.Once.{Distinct}
 use Rattle.meaning.proofs.Lists.{Every, every-nil, every-cons, every-map, every-in, in-every, every-image}
 use Rattle.meaning.proofs.Words.{row-of, rule-of, word-inside}
 use Rattle.meaning.proofs.Distinct.{distinct-last, distinct-image, few}
@@ -89,6 +94,15 @@ parted {A} (a ∷ l) (x ∷ xs) ys p r e =
 
     more : a ∷ (l ++ p ∷ []) ≡ x ∷ (xs ++ r ∷ ys) → (zs : List A) → l ≡ xs ++ r ∷ zs → a ∷ l ≡ x ∷ (xs ++ r ∷ zs)
     more f zs g = cc
+
+-- q is applied by p, or by a pair that p applies, or is p
+pub data Reached (D : Doc) (R : Ruleset) (q : Pair) : Pair → Type 0 where
+  itself : Reached D R q q
+  further : {p o : Pair} → In o (applies D R p) → Reached D R q o → Reached D R q p
+
+-- each pair stands after all those that it applies
+abbrev Ordered : Doc → Ruleset → List Pair → Type 0
+Ordered D R l = (before after : List Pair) (p q : Pair) → l ≡ before ++ p ∷ after → In q (applies D R p) → In q before
 
 module _ (D : Doc) (R : Ruleset) where
   ordered-last : (l : List Pair) (p : Pair) → Ordered D R l → ((q : Pair) → In q (applies D R p) → In q l) → Ordered D R (l ++ p ∷ [])
@@ -219,7 +233,7 @@ module _ (D : Doc) (R : Ruleset) where
     abbrev all : List Pair
     all = settled D R
 
-    all-ordered : Ordered D R all
+    pub all-ordered : Ordered D R all
     unfolding settled
     all-ordered =
         ordered depth root [] (deep D R n m fit root) (λ before after p q e i. absurd (nothing-before before after p e))
@@ -242,18 +256,21 @@ module _ (D : Doc) (R : Ruleset) where
     reached-in itself h = h
     reached-in (further {p = p} {o = o} i r) h = reached-in r (closed p o h i)
 
-    in-reached : (q : Pair) → In q all → Reached D R q root
-    unfolding settled
-    in-reached q i = ⊎-elim (λ j. elim j [ ]) (λ r. r) (new depth root [] q i)
+    pub reached-listed : {q : Pair} → Reached D R q root → In q all
+    reached-listed r = reached-in r has-root
 
-    all-distinct : Distinct all
+    pub listed-reached : (q : Pair) → In q all → Reached D R q root
+    unfolding settled
+    listed-reached q i = ⊎-elim (λ j. elim j [ ]) (λ r. r) (new depth root [] q i)
+
+    pub all-distinct : Distinct all
     unfolding settled
     all-distinct = distinct depth root [] tt
 
     -- ---- at most n × m: the list's words are numbers below n × m, none twice
 
-    all-inside : Every (Inside n m) all
-    all-inside = every-in (Inside n m) all (λ q i. reached-inside (in-reached q i) inside-root)
+    pub all-inside : Every (Inside n m) all
+    all-inside = every-in (Inside n m) all (λ q i. reached-inside (listed-reached q i) inside-root)
 
     pub word-apart : (p q : Pair) → Inside n m p → Inside n m q → word D R n m p ≡ word D R n m q → p ≡ q
     unfolding word
@@ -266,21 +283,13 @@ module _ (D : Doc) (R : Ruleset) where
     unfolding word
     word-below p h = word-inside n m (p .row) (p .rule) (h .row-in) (h .rule-in)
 
-    all-few : length all ≤ n * m
-    all-few =
-        let words = few (n * m) (map (word D R n m) all) (distinct-image (word D R n m) (Inside n m) word-apart all-inside all-distinct)
-        (every-image (word D R n m) word-below all-inside) in
-        omega (arith, words, length-map all (word D R n m))
+    pub words-distinct : Distinct (map (word D R n m) all)
+    words-distinct = distinct-image (word D R n m) (Inside n m) word-apart all-inside all-distinct
 
-    pub once : Once D R n m (settled D R)
-    once =
-        record {
-          none-twice = all-distinct;
-          each-reached = λ q r. reached-in r has-root;
-          no-other = in-reached;
-          after-applied = all-ordered;
-          at-most = all-few;
-        }
+    pub all-few : length all ≤ n * m
+    all-few =
+        let words = few (n * m) (map (word D R n m) all) words-distinct (every-image (word D R n m) word-below all-inside) in
+        omega (arith, words, length-map all (word D R n m))
 
     -- ---- any depth above the rank gives the same list
 

@@ -55,12 +55,14 @@ abbrev pub unless : Outcome → List ℕ → List ℕ → Left → Left
 unless (accepted rows) cs ls left = left
 unless (refused number place) cs ls left = record { answer = refuses number place; cells = cs; list = ls }
 
+-- the refusal table of the whole call
+abbrev pub table : (ws ts rs us cs ls : List ℕ) → List Line
+table ws ts rs us cs ls = recordLines ws ts ++ (ruleLines rs us ++ areaLines (rowsWord ws * schemasWord rs) (length cs) (length ls))
+
 unfoldable pub judge : (ws ts rs us cs ls : List ℕ) → Left
 judge ws ts rs us cs ls =
-    let n = rowsWord ws in
-    let m = schemasWord rs in
-    let left = judged (docOf ws ts) (rulesOf rs us) n m cs ls in
-    unless (firstLine (recordLines ws ts ++ (ruleLines rs us ++ areaLines (n * m) (length cs) (length ls))) 0) cs ls left
+    let left = judged (docOf ws ts) (rulesOf rs us) (rowsWord ws) (schemasWord rs) cs ls in
+    unless (firstLine (table ws ts rs us cs ls) 0) cs ls left
 
 -- opens this module to a computation
 unfoldable pub answer-computes : Unit {0}

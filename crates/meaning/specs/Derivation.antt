@@ -60,3 +60,42 @@ module _ (D : Doc) (R : Ruleset) where
           → Schema p r
           → Each ps rs
           → Each (p ∷ ps) (r ∷ rs)
+
+  -- ---- the pairs of a derivation
+
+  -- those that it applies directly, in order: the pairs of its premises
+  unfoldable pub eachApplies : {ps : List Pair} {rs : List Result} → Each ps rs → List Pair
+  eachApplies no-more = []
+  eachApplies (one-more {p = p} d e) = p ∷ eachApplies e
+
+  unfoldable pub keywordApplies : {p : Pair} {cs : List Clause} {μ : Marks} {c : Clause} {r : Result} → Keyword p cs μ c r → List Pair
+  keywordApplies (assertion a b) = []
+  keywordApplies (in-place e a b) = eachApplies e
+  keywordApplies (children e a b) = eachApplies e
+
+  unfoldable pub clausesApplies : {p : Pair} {cs : List Clause} {r : Result} → Clauses p cs r → List Pair
+  clausesApplies (klist-0 a b) = []
+  clausesApplies (klist-n d k a b c) = clausesApplies d ++ keywordApplies k
+
+  unfoldable pub schemaApplies : {p : Pair} {r : Result} → Schema p r → List Pair
+  schemaApplies (schema-true d a b c) = clausesApplies d
+  schemaApplies (schema-false d a b c) = clausesApplies d
+
+  -- and all of them: its own pair, and those of the derivations above it
+  unfoldable mutual
+    pub schemaPairs : {p : Pair} {r : Result} → Schema p r → List Pair
+    schemaPairs {p} (schema-true d a b c) = p ∷ clausesPairs d
+    schemaPairs {p} (schema-false d a b c) = p ∷ clausesPairs d
+
+    pub clausesPairs : {p : Pair} {cs : List Clause} {r : Result} → Clauses p cs r → List Pair
+    clausesPairs (klist-0 a b) = []
+    clausesPairs (klist-n d k a b c) = clausesPairs d ++ keywordPairs k
+
+    pub keywordPairs : {p : Pair} {cs : List Clause} {μ : Marks} {c : Clause} {r : Result} → Keyword p cs μ c r → List Pair
+    keywordPairs (assertion a b) = []
+    keywordPairs (in-place e a b) = eachPairs e
+    keywordPairs (children e a b) = eachPairs e
+
+    pub eachPairs : {ps : List Pair} {rs : List Result} → Each ps rs → List Pair
+    eachPairs no-more = []
+    eachPairs (one-more d e) = schemaPairs d ++ eachPairs e

@@ -1,4 +1,4 @@
--- Demand 3: what is said of the settling list.
+-- Demand 3: what is said of the settling list, over the derivations of demand 2.
 -- Assumes nothing.
 use mathlib.Core.List.{List, [], _∷_, _++_, List·Memᴰ as In}
 use mathlib.Core.Path.{_≡_}
@@ -6,26 +6,24 @@ use Prim.Native.Nat.{ℕ, _*_, _≤_}
 use lib.ListN.{length}
 use Rattle.sheet.specs.Doc.{Doc}
 use Rattle.rulesheet.specs.Ruleset.{Ruleset}
-use Rattle.meaning.specs.Rules.{Pair, applies}
+use Rattle.meaning.specs.Rules.{Pair, Result}
+use Rattle.meaning.specs.Derivation.{Schema, schemaApplies, schemaPairs}
 use Rattle.meaning.specs.Settling.{root}
-
--- q is applied in the derivation of p, or is p
-pub data Reached (D : Doc) (R : Ruleset) (q : Pair) : Pair → Type 0 where
-  itself : Reached D R q q
-  further : {p o : Pair} → In o (applies D R p) → Reached D R q o → Reached D R q p
 
 -- nothing stands twice
 abbrev pub Distinct : {A : Type 0} → List A → Type 0
 Distinct [] = Unit {0}
 Distinct (x ∷ xs) = (In x xs → ⊥) × Distinct xs
 
--- each pair stands after all those that it applies
+-- each pair stands after all those that its derivation applies
 abbrev pub Ordered : Doc → Ruleset → List Pair → Type 0
-Ordered D R l = (before after : List Pair) (p q : Pair) → l ≡ before ++ p ∷ after → In q (applies D R p) → In q before
+Ordered D R l =
+    (before after : List Pair) (p q : Pair) (r : Result) (d : Schema D R p r) → l ≡ before ++ p ∷ after → In q (schemaApplies D R d) → In q before
 
+-- each pair of every derivation of the root once and no other, each after all those that it applies, and at most n × m
 pub record Once (D : Doc) (R : Ruleset) (n m : ℕ) (l : List Pair) : Type 0 where
   pub none-twice : Distinct l
-  pub each-reached : (q : Pair) → Reached D R q root → In q l
-  pub no-other : (q : Pair) → In q l → Reached D R q root
+  pub each-applied : (r : Result) (d : Schema D R root r) (q : Pair) → In q (schemaPairs D R d) → In q l
+  pub no-other : (r : Result) (d : Schema D R root r) (q : Pair) → In q l → In q (schemaPairs D R d)
   pub after-applied : Ordered D R l
   pub at-most : length l ≤ n * m

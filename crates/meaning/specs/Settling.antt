@@ -5,10 +5,10 @@ use mathlib.Core.Bool.{Bool, true, false, _&&_, _||_, cond}
 use mathlib.Core.List.{List, [], _∷_, _++_, map}
 use lib.Dec.{eqb, ltb}
 use lib.ListN.{length}
-use Rattle.sheet.specs.Doc.{Doc}
+use Rattle.sheet.specs.Doc.{Doc, firstChild, childCount}
 use Rattle.rulesheet.specs.Ruleset.{Ruleset}
 use Rattle.meaning.specs.Lists.{range, keep, concatMap}
-use Rattle.meaning.specs.Rules.{Pair, depth, truth, applies, membersOf, elementsOf}
+use Rattle.meaning.specs.Rules.{Pair, depth, truth, applies}
 
 unfoldable pub samePair : Pair → Pair → Bool
 samePair p q = eqb (p .row) (q .row) && eqb (p .rule) (q .rule)
@@ -55,8 +55,9 @@ module _ (D : Doc) (R : Ruleset) where
         let done = settled in
         concatMap (λ j. map (λ s. cell done (record { row = j; rule = s })) (range 0 m)) (range 0 n)
 
+    -- how many children of the root are marked
     unfoldable pub marked : ℕ
-    marked = length (keep ((truth D R root) .marks) (membersOf D 0 ++ elementsOf D 0))
+    marked = length (keep ((truth D R root) .marks) (range (firstChild (D .value 0)) (childCount (D .value 0))))
 
 -- opens this module to a computation
 unfoldable pub settling-computes : Unit {0}

@@ -1,7 +1,6 @@
 -- The pairs that a clause applies, as steps picked.
 --     named-picked      40: for each entry the child of its name, if there is one; no two children share a name
 --     across-picked     43: schemas on children by place
---     drop-range        44: what stands after the first d
 -- Assumes nothing.
 use mathlib.Core.Bool.{Bool, true, false, cond}
 use mathlib.Core.List.{List, [], _∷_, _++_, map}
@@ -98,14 +97,3 @@ across-picked p (suc k) x (s ∷ ss) =
     (across-picked p k (suc x) ss
     ∙ picked-same (λ i. true) (λ i. true) (λ i. to p (suc x + i) (getD ss i 0)) (λ i. to p (x + suc i) (getD ss i 0)) (min k (length ss)) (λ i h. refl)
     (λ i h. let e : suc x + i ≡ x + suc i = omega arith in rw e)))
-
--- ---- 44
-
-pub drop-range : (d x n : ℕ) → drop d (range x n) ≡ range (x + d) (n - d)
-unfolding range
-drop-range zero x n = let a : x + 0 ≡ x = omega arith in let b : n - 0 ≡ n = omega arith in rw (a, b)
-drop-range (suc d) x zero = let b : 0 - suc d ≡ 0 = omega arith in rw b
-drop-range (suc d) x (suc n) =
-    let a : x + suc d ≡ suc x + d = omega arith in
-    let b : suc n - suc d ≡ n - d = omega arith in
-    rw (a, b) (drop-range d (suc x) n)

@@ -32,7 +32,8 @@ use Rattle.meaning.proofs.Steps.{Taken, taken-steps, Step, stays, descends, cla
 use Rattle.steps.specs.Folds.{picked, hitsBy, marksBy}
 use Rattle.steps.specs.Plan.{memberCount, elementCount, no-member, finishedBy, own, childRow, childNamed, finishOf, prefixed, unnamed, stepsIn, aimIn, goIn, stepsOf, aimOf, goOf}
 use Rattle.steps.proofs.Folds.{picked-same, list-picked, kept-picked, run-picked, count-hits, all-hits, unions-marks, these-marks, marks-later, any-count, not-some}
-use Rattle.steps.proofs.Picks.{named-picked, across-picked, drop-range}
+use Rattle.meaning.proofs.Members.{drop-range}
+use Rattle.steps.proofs.Picks.{named-picked, across-picked}
 
 -- ---- what is picked
 

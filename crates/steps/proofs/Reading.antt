@@ -26,7 +26,7 @@ use Rattle.rulesheet.proofs.Items.{schemas-long, members-long}
 use Rattle.meaning.specs.Tests.{members?, elements?}
 use Rattle.meaning.specs.Rules.{Pair, passes}
 use Rattle.clause.specs.Read.{sizeOf, orNone}
-use Rattle.clause.proofs.Measures.{range-length}
+use Rattle.meaning.proofs.Members.{range-length}
 use Rattle.clause.proofs.Having.{isOf, never, never-not}
 use Rattle.steps.specs.Plan.{memberCount, elementCount, own, stepsIn, stepsOf, finishOf}
 use Rattle.steps.specs.Read.{Started}
