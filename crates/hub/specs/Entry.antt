@@ -5,8 +5,9 @@
 -- Assumes nothing.
 use mathlib.Core.List.{List}
 use mathlib.Core.Path.{_≡_}
-use Prim.Native.Nat.{ℕ}
+use Prim.Native.Nat.{ℕ, _+_, _/_, _%_}
 use Rattle.meaning.specs.Answer.{Answer, valid, invalid, refuses, numberOf, judge}
+use Rattle.meaning.specs.Demands.{Demands}
 
 -- the settled pairs that an answer counts; a refusal counts none
 abbrev pub counted : Answer → ℕ
@@ -18,3 +19,17 @@ pub record Called (ws ts rs us cells₀ list₀ cells list : List ℕ) (r : ℕ)
   pub number-is : r ≡ numberOf (judge ws ts rs us cells₀ list₀ .answer)
   pub cells-are : cells ≡ judge ws ts rs us cells₀ list₀ .cells
   pub list-is : list ≡ judge ws ts rs us cells₀ list₀ .list
+
+-- ---- the demands, of the number
+
+-- what the number tells of an answer: its lowest byte the case, what stands above it the count or the place
+pub data Tells (r : ℕ) : Answer → Type 0 where
+  tells-valid : {count marks : ℕ} → r % 256 ≡ 0 → r / 256 ≡ count → Tells r (valid count marks)
+  tells-invalid : {count marks : ℕ} → r % 256 ≡ 1 → r / 256 ≡ count → Tells r (invalid count marks)
+  tells-refused : {number place : ℕ} → r % 256 ≡ 10 + number → r / 256 ≡ place → Tells r (refuses number place)
+
+-- the number tells an answer that meets the demands, with the areas as they are left
+pub record NumberDemands (ws ts rs us cells₀ list₀ cells list : List ℕ) (r : ℕ) : Type 0 where
+  pub answer : Answer
+  pub tells : Tells r answer
+  pub demands : Demands ws ts rs us cells₀ list₀ (record { answer = answer; cells = cells; list = list })

@@ -1,6 +1,7 @@
--- Any two outcomes that the promise of the call allows are equal.
+-- What the promise of the call comes to: any two outcomes that it allows are equal, and it meets the demands.
 --     answer-one     two answers with 01's same numbers are the same answer
 --     call-one       the answer, the cells and the list of a call are determined by its inputs
+--     judge-demands  the three demands of every call
 -- Assumes nothing.
 use mathlib.Core.List.{List}
 use mathlib.Core.Path.{_≡_, refl, sym, ap, _∙_}
@@ -8,6 +9,8 @@ use Prim.Native.Nat.{ℕ}
 use Rattle.sheet.specs.Refusals.{refusalNumber}
 use Rattle.sheet.proofs.Tables.{number-one}
 use Rattle.meaning.specs.Answer.{Left}
+use Rattle.meaning.specs.Demands.{Demands}
+use Rattle.meaning.proofs.Demands.{demands}
 use Rattle.judge.specs.declared.answer.Answer.{Answer}
 use Rattle.judge.specs.declared.answer.Answer.the-variants.{Valid, Invalid, Refused}
 use Rattle.judge.specs.Call.{answerOf, callLeaves}
@@ -31,3 +34,7 @@ pub call-one : (ws ts rs us cells₀ list₀ : List ℕ) (a b : Answer) (c d l k
 call-one ws ts rs us cells₀ list₀ a b c d l k e f =
     let same = e ∙ sym f in
     (answer-one a b (ap (λ (x : Left). x .answer) same), ap (λ (x : Left). x .cells) same, ap (λ (x : Left). x .list) same)
+
+pub judge-demands : (ws ts rs us cells₀ list₀ : List ℕ) (r : Answer) (cells list : List ℕ) → callLeaves ws ts rs us cells₀ list₀ r cells list
+    → Demands ws ts rs us cells₀ list₀ (record { answer = answerOf r; cells = cells; list = list })
+judge-demands ws ts rs us cells₀ list₀ r cells list e = demands ws ts rs us cells₀ list₀ (record { answer = answerOf r; cells = cells; list = list }) e

@@ -1,0 +1,54 @@
+-- The demands, of the number that C gets.
+--     number-demands     every call's number tells an answer that meets them
+-- Assumes nothing.
+use mathlib.Core.Bool.{true}
+use mathlib.Core.List.{List, _∷_, _++_, List·Memᴰ as In, List·Memᴰ·head as at-head, Memᴰ·append-right}
+use mathlib.Core.Path.{_≡_, refl, sym, ap, _∙_, subst}
+use Prim.Native.Nat.{ℕ, _+_, _*_, _/_, _%_, _≤_, _<_}
+use native.Mathlib.Omega.{arith}
+use lib.Dec.{ltb}
+use borrow.Author.Tests.{ltb-true}
+use Rattle.sheet.specs.Refusals.{Line}
+use Rattle.meaning.specs.Lists.{all}
+use Rattle.meaning.specs.Answer.{Answer, valid, invalid, refuses, numberOf, Left, table, judge}
+use Rattle.meaning.specs.Demands.{First, Demands}
+use Rattle.meaning.proofs.Members.{all-pass}
+use Rattle.meaning.proofs.Words.{row-of, rule-of}
+use Rattle.meaning.proofs.Demands.{demands}
+use Rattle.hub.specs.Entry.{Called, Tells, tells-valid, tells-invalid, tells-refused, NumberDemands}
+
+-- a byte, and what stands above it
+low : {r : ℕ} (above byte : ℕ) → r ≡ above * 256 + byte → byte < 256 → r % 256 ≡ byte
+low above byte e h = ap (λ (x : ℕ). x % 256) e ∙ rule-of 256 above byte h
+
+high : {r : ℕ} (above byte : ℕ) → r ≡ above * 256 + byte → byte < 256 → r / 256 ≡ above
+high above byte e h = ap (λ (x : ℕ). x / 256) e ∙ row-of 256 above byte h
+
+module _ (ws ts rs us cs ls : List ℕ) where
+  abbrev lines : List Line
+  lines = table ws ts rs us cs ls
+
+  -- the number of a refusal leaves room for ten more in a byte
+  number-small : (line : Line) → First lines line → line .number < 246
+  unfolding all
+  number-small line f =
+      ltb-true (line .number) 246
+      (all-pass (λ l. ltb (l .number) 246) lines .0 refl line (subst (λ l. In line l) (sym (f .parted)) (Memᴰ·append-right (f .before) (at-head refl))))
+
+  told : (r : ℕ) (a : Answer) → ((number place : ℕ) → a ≡ refuses number place → number < 246) → r ≡ numberOf a → Tells r a
+  told r (valid count marks) small e = tells-valid (low count 0 (omega (arith, e)) (omega arith)) (high count 0 (omega (arith, e)) (omega arith))
+  told r (invalid count marks) small e = tells-invalid (low count 1 e (omega arith)) (high count 1 e (omega arith))
+  told r (refuses number place) small e =
+      let fits : 10 + number < 256 = omega (arith, small number place refl) in
+      tells-refused (low place (10 + number) e fits) (high place (10 + number) e fits)
+
+  pub number-demands : {cells list : List ℕ} {r : ℕ} → Called ws ts rs us cs ls cells list r → NumberDemands ws ts rs us cs ls cells list r
+  number-demands {cells} {list} {r} c =
+      let a = judge ws ts rs us cs ls .answer in
+      let all : _≡_ {A = Left} (record { answer = a; cells = cells; list = list }) (judge ws ts rs us cs ls) = λ i. record { answer = a; cells = c .cells-are i; list = c .list-is i } in
+      let d = demands ws ts rs us cs ls (record { answer = a; cells = cells; list = list }) all in
+      record {
+        answer = a;
+        tells = told r a (λ number place f. let w = d .total .only-refused number place f in omega (arith, number-small (w .0) (w .1), w .2)) (c .number-is);
+        demands = d;
+      }
