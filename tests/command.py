@@ -146,6 +146,22 @@ class Tests:
                  'absoluteKeywordLocation': at + '/1/minimum', 'error': 'is 1, must be at least 2'}]},
             {'file': 'none.json', 'error': 'no such file or directory', 'place': ''}, '', 2])
 
+    def ways(self):
+        """Where a keyword stands by the way that was gone, through references alone and beside other keywords."""
+        self.write('s.json', {'$ref': '#/$defs/list', '$defs': {
+            'list': {'type': 'array', 'items': {'anyOf': [{'$ref': '#/$defs/low'}, {'$ref': '#'}]}},
+            'low': {'type': 'integer', '$ref': '#/$defs/most'}, 'most': {'$ref': '#/$defs/3'}, '3': {'maximum': 3}}})
+        out, err, status = self.run('check', '--json', 's.json', self.write('r.json', '[[4]]'))
+        told = [(unit['instanceLocation'], unit['keywordLocation'], unit['absoluteKeywordLocation'])
+                for unit in json.loads(out).get('errors', [])]
+        outer, inner = '/$ref/items/anyOf', '/$ref/items/anyOf/1/$ref/$ref/items/anyOf'
+        self.equal('the ways', (told, err, status), ([
+            ('/0', outer, '#/$defs/list/items/anyOf'),
+            ('/0', outer + '/0/$ref/type', '#/$defs/low/type'),
+            ('/0/0', inner, '#/$defs/list/items/anyOf'),
+            ('/0/0', inner + '/0/$ref/$ref/$ref/maximum', '#/$defs/3/maximum'),
+            ('/0/0', inner + '/1/$ref/$ref/type', '#/$defs/list/type')], '', 1))
+
     def usage(self):
         for arguments, said in (([], 'check or bundle must come first'),
                                 (['chek', 'a', 'b'], 'check or bundle must come first'),
@@ -161,12 +177,18 @@ class Tests:
                    (True, True, '', 0))
 
     def bundles(self):
-        """The bundle of rules A and {"p":7} is that of paper 01's first sample, word for word."""
-        self.write('s.json', {'properties': {'p': {'type': 'integer'}}, 'unevaluatedProperties': False})
+        """The bundle of rules A and {"p":7} is that of paper 01's first sample, word for word; references that stand
+        alone leave nothing in it."""
+        plain = {'properties': {'p': {'type': 'integer'}}, 'unevaluatedProperties': False}
+        by_references = {'$ref': '#/$defs/a', '$defs': {
+            'a': {'properties': {'p': {'$ref': '#/$defs/p'}}, 'unevaluatedProperties': {'$ref': '#/$defs/none'}},
+            'p': {'type': 'integer'}, 'none': False}}
         self.write('r.json', '{"p":7}')
         _, rules, record, _ = second.sample_table()[0]
-        ran = subprocess.run([self.command, 'bundle', 's.json', 'r.json'], cwd=self.files, capture_output=True)
-        self.equal('bundle', (ran.stdout, ran.stderr, ran.returncode), (second.bundle(*record, *rules), b'', 0))
+        for schema in (plain, by_references):
+            self.write('s.json', schema)
+            ran = subprocess.run([self.command, 'bundle', 's.json', 'r.json'], cwd=self.files, capture_output=True)
+            self.equal(schema, (ran.stdout, ran.stderr, ran.returncode), (second.bundle(*record, *rules), b'', 0))
         self.equal('bundle of no file', self.run('bundle', 's.json', 'none.json'),
                    ('', 'none.json: no such file or directory\n', 2))
 
@@ -244,7 +266,8 @@ def main():
     with tempfile.TemporaryDirectory() as folder:
         tests = Tests(folder)
         for part in (tests.verdicts, tests.bad_records, tests.bad_schemas, tests.examples, tests.damaged_relays,
-                     tests.options, tests.usage, tests.bundles, tests.programs, tests.closed_output, tests.damaged):
+                     tests.options, tests.ways, tests.usage, tests.bundles, tests.programs, tests.closed_output,
+                     tests.damaged):
             part()
     print('%d passed, %d failed' % (tests.passed, tests.failed))
     return tests.failed > 0

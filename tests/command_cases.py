@@ -6,10 +6,27 @@ def nested(levels):
     return '[' * levels + ']' * levels
 
 
-def references(count):
-    """A chain of that many schemas, each applying the next to the same value."""
-    defs = {'s%d' % i: {'$ref': '#/$defs/s%d' % (i + 1)} for i in range(1, count - 1)}
-    return {'$ref': '#/$defs/s1', '$defs': dict(defs, **{'s%d' % (count - 1): {'type': 'null'}})}
+def to(i, **beside):
+    """A reference to the definition, and what stands beside it."""
+    return dict({'$ref': '#/$defs/s%d' % i}, **beside)
+
+
+def to_and_null(i):
+    return to(i, type='null')
+
+
+def to_and_title(i):
+    return to(i, title='t')
+
+
+def to_twice(i):
+    return {'allOf': [to(i), to(i)]}
+
+
+def chain(count, apply):
+    """A schema and that many definitions, each applying the next to the same value, the last one null."""
+    defs = {'s%d' % i: apply(i + 1) for i in range(1, count)}
+    return dict(apply(1), **{'$defs': dict(defs, **{'s%d' % count: {'type': 'null'}})})
 
 
 def many(count):
@@ -17,10 +34,19 @@ def many(count):
     return {'properties': {'p%d' % i: {'minimum': i} for i in range(count)}}
 
 
+def many_defined(count, **beside):
+    """The same by definitions; what stands beside each reference."""
+    return {'properties': {'p%d' % i: to(i, **beside) for i in range(count)},
+            '$defs': {'s%d' % i: {'minimum': i} for i in range(count)}}
+
+
 P = {'p': 1}
 LONG = 'x' * 70_000
+LONG_CHAIN = ': refused (9): more than 32 schemas, from here on, each apply the next to the same value'
+LOOP = ': refused (8): this schema applies itself to the same value again, without end'
 WIDTH = 'at most 9 digits, and 9 places after the point'
 BESIDE = {'$ref': '#/$defs/a', 'minimum': 3, '$defs': {'a': {'maximum': 5}}}
+LISTS = {'$ref': '#/$defs/list', '$defs': {'list': {'type': 'array', 'items': {'$ref': '#'}}}}
 TREE = {'$id': 'tree', 'type': 'object', 'properties': {'below': {'type': 'array', 'items': {'$ref': 'tree'}}},
         'additionalProperties': False}
 LINKS = {'$id': 'http://a.example/x/root.json',
@@ -106,10 +132,19 @@ VERDICTS = [
     (LINKS, '{"a":1,"b":2,"c":"c","d":"inner","e":"deep","f":4,"g":null}', 'valid'),
     (LINKS, '{"d":"deep"}', 'invalid: /d: must be "inner" (#/$defs/other/$defs/inner/const)'),
     (LINKS, '{"g":1}', 'invalid: /g: is integer, must be null (#/components/0/type)'),
+    # A schema that is only $ref takes no row, be it the whole: what it comes to is judged and told.
+    (chain(41, to), 'null', 'valid'),
+    (chain(41, to_and_title), '1', 'invalid: is integer, must be null (#/$defs/s41/type)'),
+    (LISTS, '[[],[[]]]', 'valid'),
+    (LISTS, '[[],[[1]]]', 'invalid: /1/0/0: is integer, must be array (#/$defs/list/type)'),
+    ({'oneOf': [{'$ref': '#/$defs/a'}, False, {'$ref': '#/$defs/b'}],
+      '$defs': {'a': {'$ref': '#/$defs/b'}, 'b': {'minimum': 1}}}, '5',
+     'invalid: fits 0 and 2, must fit only one (#/oneOf)'),
+    ({'anyOf': [{'$ref': '#/$defs/a'}, True], 'unevaluatedProperties': False,
+      '$defs': {'a': {'$ref': '#/$defs/b'}, 'b': {'properties': {'p': {'$ref': '#/$defs/no'}}}, 'no': False}},
+     '{"p":1}', 'invalid: /p: not allowed here (#/unevaluatedProperties)'),
     # A chain of schemas that each apply the next twice is explained in a time that does not double with each.
-    ({'allOf': [{'$ref': '#/$defs/s1'}] * 2, '$defs': dict(
-        {'s%d' % i: {'allOf': [{'$ref': '#/$defs/s%d' % (i + 1)}] * 2} for i in range(1, 15)}, s15={'type': 'null'})},
-     '1', 'invalid: is integer, must be null (#/$defs/s15/type)'),
+    (chain(31, to_twice), '1', 'invalid: is integer, must be null (#/$defs/s31/type)'),
     # Annotations, format too, and unknown keywords assert nothing; nor does what is said of nothing.
     ({'$schema': 'https://json-schema.org/draft/2020-12/schema', '$comment': 'c', 'title': 't', 'description': 'd',
       'default': 1, 'examples': [1], 'deprecated': True, 'readOnly': True, 'writeOnly': True, 'format': 'ipv4',
@@ -121,7 +156,9 @@ VERDICTS = [
     ({}, nested(32), 'valid'),
     ({}, json.dumps(list(range(127))), 'valid'),
     (many(127), '{"p9":9}', 'valid'),
-    (references(32), 'null', 'valid'),
+    (many_defined(127), '{"p9":8}', 'invalid: /p9: is 8, must be at least 9 (#/$defs/s9/minimum)'),
+    (chain(31, to_and_null), 'null', 'valid'),
+    (chain(31, to_twice), 'null', 'valid'),
     ({'properties': {'p%d' % i: {'items': {'type': 'null'}} for i in range(200)}}, '{"p199":[1]}',
      'invalid: /p199/0: is integer, must be null (#/properties/p199/items/type)'),
 ]
@@ -183,11 +220,19 @@ BAD_SCHEMAS = [
     ({'$schema': 'http://json-schema.org/draft-07/schema#'},
      '#/$schema: only Draft 2020-12 is read: https://json-schema.org/draft/2020-12/schema'),
     ({'required': ['a', 'b', 'a']}, '#/required/2: refused (7): this name stands here a second time'),
-    ({'$ref': '#'}, '#: refused (8): this schema applies itself to the same value again, without end'),
-    ({'items': {'$ref': '#/$defs/a'}, '$defs': {'a': {'anyOf': [{'$ref': '#/$defs/a'}]}}},
-     '#/$defs/a/anyOf/0: refused (8): this schema applies itself to the same value again, without end'),
-    (references(33), '#: refused (9): more than 32 schemas, from here on, each apply the next to the same value'),
+    ({'$ref': '#'}, '#' + LOOP),
+    ({'properties': {'a': {'$ref': '#/properties/a'}}}, '#/properties/a' + LOOP),
+    ({'items': {'$ref': '#/$defs/a'}, '$defs': {'a': {'$ref': '#/$defs/b'}, 'b': {'$ref': '#/$defs/a'}}},
+     '#/$defs/b' + LOOP),
+    ({'items': {'$ref': '#/$defs/a'}, '$defs': {'a': {'anyOf': [{'$ref': '#/$defs/a'}]}}}, '#/$defs/a' + LOOP),
+    ({'$ref': '#/$defs/a', '$defs': {'a': {'$ref': '#', 'type': 'null'}}}, '#/$defs/a' + LOOP),
+    ({'$ref': '#/$defs/a', 'pattern': 'x', '$defs': {'a': True}}, '#/pattern: the judge has no pattern'),
+    ({'$ref': '#/$defs/a', '$defs': {'a': {'$ref': '#/$defs/b'}, 'b': {'pattern': 'x'}}},
+     '#/$defs/b/pattern: the judge has no pattern'),
+    (chain(32, to_and_null), '#' + LONG_CHAIN),
+    (chain(32, to_twice), '#' + LONG_CHAIN),
     (many(128), 'too large: 129 schemas, and the program judges at most 128'),
+    (many_defined(127, maximum=500), 'too large: 255 schemas, and the program judges at most 128'),
     (many(1024), 'refused (5): more than 1024 schemas, 4096 clauses, 4096 entries or 65535 bytes of names and strings'),
 ]
 

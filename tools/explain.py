@@ -31,7 +31,7 @@ CALLS_MAX = 20_000
 def causes_of(record, rules, settled):
     """The causes of an invalid record, in the order of judging, each once."""
     sys.setrecursionlimit(max(sys.getrecursionlimit(), CALLS_MAX))
-    causes = Walk(record, rules, settled).causes(0, (), ())
+    causes = Walk(record, rules, settled).below([(0, rules.root)], ())
     return list({id(cause): cause for cause in causes}.values())
 
 
@@ -127,7 +127,8 @@ class Walk:
         return [self.cause(j, place, path, clause, words)] if words else []
 
     def below(self, applied, path):
-        return [cause for j, entry in applied for cause in self.causes(j, entry.target, path + entry.path)]
+        return [cause for j, entry in applied
+                for cause in self.causes(j, entry.target, path + entry.path + entry.through)]
 
     def choice_causes(self, j, place, path, clause):
         """anyOf, oneOf and not: what failed is the choice; if nothing fits, the alternatives' causes stand under it."""

@@ -1,8 +1,9 @@
 """A JSON Schema (Draft 2020-12, one document) as a rule sheet.
 
-Each schema that the root can come to is read once, at its place, into clauses whose entries name places again. Places
-whose clauses say the same then share a row. What the draft only annotates with, and keywords it does not know, make no
-clause; a keyword that asserts and has no clause is refused.
+Each schema that the root can come to is read once, at its place, into clauses whose entries name places again. Then one
+that is only a reference gives way to the one that it comes to, and places whose clauses say the same share a row. What
+the draft only annotates with, and keywords it does not know, make no clause; a keyword that asserts and has no clause
+is refused.
 """
 from collections import namedtuple
 
@@ -38,13 +39,15 @@ NO_CLAUSE = {
 }
 
 # fields: the two words after the code, of a clause without entries. An entry has the place of a schema (target), a
-# name, both, or a value; path is the tokens from the schema to it. A code of ONE_SCHEMA has one entry, its schema.
+# name, both, or a value; path is the tokens from the schema to it, and through those of the references that lead on
+# from there to the target. A code of ONE_SCHEMA has one entry, its schema.
 Clause = namedtuple('Clause', 'code keyword fields entries')
-Entry = namedtuple('Entry', 'path target name value', defaults=(None, None, None))
+Entry = namedtuple('Entry', 'path target name value through', defaults=(None, None, None, ()))
 
-# clauses[place] are the clauses of the schema at a place of the document, row_of[place] its row in the sheet;
-# places tells for each schema, clause and entry of the sheet, counted so, where in the document it stands.
-Rules = namedtuple('Rules', 'sheet clauses row_of places uri')
+# root is an entry for the whole document. clauses[place] are the clauses of the schema at a place of the document,
+# row_of[place] its row in the sheet; places tells for each schema, clause and entry of the sheet, counted so, where in
+# the document it stands.
+Rules = namedtuple('Rules', 'sheet root clauses row_of places uri')
 
 
 def rules_of(document):
@@ -57,9 +60,10 @@ def rules_of(document):
             clauses.update(read.added)
             waiting.extend(entry.target for clause in clauses[place] for entry in clause.entries
                            if entry.target is not None)
+    root, clauses = followed(clauses)
     row_of = shared_rows(clauses)
     sheet, places = written(clauses, row_of)
-    return Rules(sheet, clauses, row_of, places, references.base_of(()))
+    return Rules(sheet, root, clauses, row_of, places, references.base_of(()))
 
 
 class SchemaReader:
@@ -185,6 +189,37 @@ class SchemaReader:
 READERS = {'$schema': SchemaReader.dialect, '$ref': SchemaReader.reference, 'type': SchemaReader.types,
            'enum': SchemaReader.enum, 'const': SchemaReader.enum, 'required': SchemaReader.required,
            'properties': SchemaReader.properties}
+
+
+def followed(clauses):
+    """The root as an entry, and the clauses without the places that only refer: entries name what these come to. The
+    place that the root comes to stands first, since the places were read in the order in which the root comes to them.
+    """
+    ends = ends_of(clauses)
+
+    def aimed(entry):
+        target, count = ends.get(entry.target, (None, 0))
+        return entry._replace(target=target, through=('$ref',) * count)
+
+    kept = {place: [clause._replace(entries=tuple(map(aimed, clause.entries))) for clause in found]
+            for place, found in clauses.items() if ends[place] == (place, 0)}
+    return aimed(Entry((), ())), kept
+
+
+def ends_of(clauses):
+    """For each place the one that it comes to by schemas that are only $ref, and by how many. Where references go
+    round, a place comes to itself: they stay, for the program to refuse."""
+    ends = {place: (place, 0) for place, found in clauses.items() if [clause.code for clause in found] != [REFERENCE]}
+    for place in clauses:
+        passed = []
+        while place not in ends:
+            ends[place] = place, 0
+            passed.append(place)
+            place = clauses[place][0].entries[0].target
+        if place not in passed:
+            end, count = ends[place]
+            ends.update((one, (end, count + back)) for back, one in enumerate(reversed(passed), 1))
+    return ends
 
 
 def shared_rows(clauses):
