@@ -1,192 +1,222 @@
-#!/usr/bin/env python3
-"""Writes the benchmark's cases as a C header: cases.py FILE.
+"""The benchmark's cases: a record and rules as sheets and, where draft 4 can say the same, as JSON for rapidjson.
 
-Each case is a record sheet and a rule sheet with their texts and, where draft 4 can say the same, the
-JSON of both for rapidjson."""
+Schemas and records go through the command's converter. Only names that overlap in their text are written word by word,
+as no JSON has them.
+"""
 import json
-import sys
+from collections import namedtuple
 
-NULL, FALSE, TRUE, NUMBER, STRING, ARRAY, OBJECT = range(7)
+from tools import records, schemas, sheets
+from tools.reading import read_json
 
-
-class Text:
-    """The bytes of a sheet, each string once."""
-
-    def __init__(self):
-        self.bytes = b''
-
-    def range(self, string):
-        part = string.encode()
-        at = self.bytes.find(part)
-        if at < 0:
-            at = len(self.bytes)
-            self.bytes += part
-        return at, len(part)
+# record and rules are sheets; schema and value are the JSON for rapidjson, None if it is not asked.
+Case = namedtuple('Case', 'name record rules schema value')
+SAME = object()     # rapidjson is asked by the schema that we judge by
 
 
-def record_sheet(value):
-    """Rows breadth first."""
-    text = Text()
-    rows = []
-    waiting = [(value, 0, (0, 0))]
-    while waiting:
-        one, owner, label = waiting.pop(0)
-        row = len(rows)
-        rows.append(None)
-        behind = len(rows) + len(waiting)
-        if isinstance(one, dict):
-            fields = (OBJECT, behind if one else 0, len(one))
-            waiting += [(v, row, text.range(k)) for k, v in one.items()]
-        elif isinstance(one, list):
-            fields = (ARRAY, behind if one else 0, len(one))
-            waiting += [(v, row, (0, 0)) for v in one]
-        elif isinstance(one, str):
-            fields = (STRING,) + text.range(one)
-        elif isinstance(one, bool) or one is None:
-            fields = ({None: NULL, False: FALSE, True: TRUE}[one], 0, 0)
-        else:
-            fields = (NUMBER, one % 2**32, 0)
-        rows[row] = fields + (owner,) + label
-    return record_words(rows, text.bytes)
+def case(name, schema, value, draft4=SAME):
+    """A case of JSON; draft4 says the same for rapidjson, or is None if that draft cannot."""
+    rules = schemas.rules_of(read_json(json.dumps(schema).encode()))
+    record = records.record_of(read_json(json.dumps(value).encode()))
+    return Case(name, record.sheet, rules.sheet, schema if draft4 is SAME else draft4, value)
 
 
-def record_words(rows, text):
-    words = [word for row in rows for word in row]
-    return words + [len(rows), len(words), len(text), 1], text
+def defined(name):
+    return {'$ref': '#/definitions/' + name}
 
 
-def rule_words(schemas, text=b''):
-    """A schema is a list of clauses: (code, entries) or (code, first, count)."""
-    heads, clauses, entries = [], [], []
-    for schema in schemas:
-        heads += [len(clauses) // 3, len(schema)]
-        for clause in schema:
-            if isinstance(clause[1], list):
-                clauses += [clause[0], len(entries) // 3, len(clause[1])]
-                entries += [word for entry in clause[1] for word in entry]
-            else:
-                clauses += list(clause)
-    counts = [len(heads) // 2, len(clauses) // 3, len(entries) // 3]
-    words = heads + clauses + entries
-    return words + counts + [len(words), len(text), 2], text
+def closed(properties, required=(), by='additionalProperties'):
+    """An object with these members and no others."""
+    schema = {'type': 'object', 'properties': properties, by: False}
+    return dict(schema, required=list(required)) if required else schema
 
 
-def many(schemas):
-    return [(s, 0, 0) for s in schemas]
+def text(least, most):
+    return {'type': 'string', 'minLength': least, 'maxLength': most}
+
+
+def whole(least, most):
+    return {'type': 'integer', 'minimum': least, 'maximum': most}
+
+
+# ---- passages of a trail junction, from a gate's few members to a form that has everything
+
+BIB, CLOCK, WORD = whole(1, 9999), whole(0, 86399), text(1, 40)
+TOWARDS = {'enum': ['summit', 'valley', 'finish']}
+RUNNER = closed({'name': WORD, 'club': WORD, 'born': whole(1900, 2026), 'nation': text(3, 3)}, ['name'])
+JUNCTION = closed({'name': WORD, 'km': {'type': 'number', 'minimum': 0, 'maximum': 330},
+                   'altitude': whole(-420, 4810)}, ['name', 'km'])
+LEG = closed({'bib': defined('bib'), 'at': defined('clock'), 'minutes': {'type': 'number', 'minimum': 0},
+              'handover': text(2, 20)}, ['bib', 'at'])
+DEFINITIONS = {'bib': BIB, 'clock': CLOCK, 'runner': RUNNER, 'junction': JUNCTION, 'leg': LEG}
+ONE_RUNNER = {'name': 'A. Kowalski', 'club': 'Wierchy', 'born': 1991}
 
 
 def passage():
-    value = {'bib': 1042, 'junction': 'Przelecz Karb', 'time': 36125, 'runner': {'name': 'A. Kowalski', 'team': 'Wierchy'}}
-    text = Text()
-    name = lambda s: text.range(s)
-    members = lambda pairs: [name(n) + (s,) for n, s in pairs]
-    required = lambda names: [name(n) + (0,) for n in names]
-    schemas = [
-        [(2, 64, 0), (26, required(['bib', 'junction', 'time'])), (31, many([1, 2])),
-         (40, members([('bib', 3), ('junction', 4), ('time', 5)])), (60, 6, 0)],
-        [(26, required(['runner'])), (40, members([('runner', 7)]))],
-        [(26, required(['team'])), (40, members([('team', 4)]))],
-        [(2, 4, 0), (10, 1, 0), (11, 99999, 0)],
-        [(2, 16, 0), (20, 1, 0), (21, 40, 0)],
-        [(2, 8, 0), (10, 0, 0)],
-        [(1, 0, 0)],
-        [(2, 64, 0), (26, required(['name'])), (40, members([('name', 4), ('team', 4)])), (60, 6, 0)],
-    ]
-    word = {'type': 'string', 'minLength': 1, 'maxLength': 40}
-    runner = {'type': 'object', 'required': ['name'], 'properties': {'name': word, 'team': word}, 'additionalProperties': False}
-    schema = {
-        'type': 'object', 'required': ['bib', 'junction', 'time'],
-        'anyOf': [{'required': ['runner'], 'properties': {'runner': runner}}, {'required': ['team'], 'properties': {'team': word}}],
-        'properties': {'bib': {'type': 'integer', 'minimum': 1, 'maximum': 99999}, 'junction': word,
-                       'time': {'type': 'number', 'minimum': 0}, 'runner': {}, 'team': {}},
-        'additionalProperties': False,
-    }
-    return 'passage', record_sheet(value), rule_words(schemas, text.bytes), schema, value
+    """The anyOf marks a member that the unevaluatedProperties beside it then allows; draft 4 has to name both."""
+    def schema(by, either):
+        runner = closed({'name': WORD, 'team': WORD}, ['name'], by)
+        known = dict({'bib': BIB, 'junction': WORD, 'time': {'type': 'number', 'minimum': 0}}, **either)
+        return dict(closed(known, ['bib', 'junction', 'time'], by),
+                    anyOf=[{'required': ['runner'], 'properties': {'runner': runner}},
+                           {'required': ['team'], 'properties': {'team': WORD}}])
+
+    value = {'bib': 1042, 'junction': 'Przelecz Karb', 'time': 36125,
+             'runner': {'name': 'A. Kowalski', 'team': 'Wierchy'}}
+    return case('a passage', schema('unevaluatedProperties', {}), value,
+                schema('additionalProperties', {'runner': {}, 'team': {}}))
 
 
-def splits():
-    value = list(range(0, 1400, 7))
-    schema = {'type': 'array', 'items': {'type': 'integer', 'minimum': 0}}
-    return 'splits', record_sheet(value), rule_words([[(2, 32, 0), (44, 1, 0)], [(2, 4, 0), (10, 0, 0)]]), schema, value
+def flat():
+    members = {'bib': BIB, 'gate': text(2, 12), 'at': CLOCK, 'towards': TOWARDS}
+    schema = {'type': 'object', 'required': list(members), 'properties': members}
+    return case('flat: four members', schema, {'bib': 712, 'gate': 'lake-2', 'at': 28860, 'towards': 'valley'})
+
+
+def full():
+    """30 rows and 40 schemas, of which the record meets half."""
+    weather = closed({'sky': {'enum': ['clear', 'cloud', 'fog', 'snow']}, 'wind': whole(0, 60),
+                      'degrees': {'type': 'number', 'minimum': -40, 'maximum': 50}, 'damp': whole(0, 100)})
+    penalty = closed({'minutes': whole(1, 120), 'why': text(1, 200), 'by': text(2, 60)}, ['minutes', 'why'])
+    aid = closed({'kind': {'enum': ['water', 'food', 'medic']}, 'stay': whole(0, 7200), 'note': text(0, 400)}, ['kind'])
+    members = {
+        'race': text(3, 30), 'bib': defined('bib'), 'towards': TOWARDS, 'junction': defined('junction'),
+        'runner': defined('runner'),
+        'splits': {'type': 'array', 'maxItems': 32, 'items': {'type': 'integer', 'minimum': 0}},
+        'relay': {'type': 'array', 'maxItems': 6, 'items': defined('leg')},
+        'chip': text(8, 8), 'marshal': text(1, 60), 'phone': text(6, 20), 'retired': {'enum': [True]},
+        'gear': {'type': 'array', 'items': text(2, 16)},
+        'weather': weather, 'penalties': {'type': 'array', 'maxItems': 9, 'items': penalty},
+        'aid': {'type': 'array', 'items': aid}}
+    leg = {'bib': 712, 'at': 28860, 'minutes': 41.5}
+    value = {'race': 'Tatra 2026', 'bib': 712, 'towards': 'summit', 'runner': ONE_RUNNER,
+             'junction': {'name': 'Karb', 'km': 17.25, 'altitude': 1853},
+             'splits': [312, 641, 977, 1310, 1655, 2001, 2340, 2699], 'relay': [leg, dict(leg, bib=713)]}
+    schema = dict(closed(members, ['race', 'bib', 'junction']), definitions=DEFINITIONS)
+    return case('full: 30 rows, 40 schemas', schema, value)
 
 
 def unevaluated():
-    """unevaluatedProperties over an allOf of four schemas, each with ten properties; draft 4 cannot say it."""
-    value = {'m%02d' % i: i for i in range(40)}
-    text = Text()
-    parts = [[(40, [text.range('m%02d' % i) + (6,) for i in range(10 * k, 10 * k + 10)])] for k in range(4)]
-    schemas = [[(30, many([1, 2, 3, 4])), (60, 5, 0)]] + parts + [[(1, 0, 0)], [(2, 8, 0)]]
-    return 'unevaluated', record_sheet(value), rule_words(schemas, text.bytes), None, None
+    """What two definitions and one of two alternatives name is allowed, and nothing else; draft 4 cannot say it."""
+    named = {'type': 'object', 'required': ['bib', 'towards'],
+             'properties': {'bib': defined('bib'), 'towards': TOWARDS}}
+    timed = {'type': 'object', 'required': ['at', 'junction'],
+             'properties': {'at': defined('clock'), 'junction': defined('junction')}}
+    alone = {'required': ['runner'], 'properties': {'runner': defined('runner')}}
+    relay = {'required': ['relay'], 'properties': {'relay': {'type': 'array', 'items': defined('leg')}}}
+    schema = {'definitions': dict(DEFINITIONS, named=named, timed=timed), 'anyOf': [relay, alone],
+              'allOf': [defined('named'), defined('timed')], 'unevaluatedProperties': False}
+    value = {'bib': 712, 'towards': 'summit', 'at': 28860, 'junction': {'name': 'Karb', 'km': 17.25},
+             'runner': ONE_RUNNER}
+    return case('unevaluated over allOf, anyOf', schema, value, None)
 
 
-def rows():
-    value = {'%04x' % i: i for i in range(1023)}
-    schema = {'additionalProperties': {'type': 'number'}}
-    return 'rows 1024', record_sheet(value), rule_words([[(42, 1, 0)], [(2, 8, 0)]]), schema, value
+# ---- one thing that grows
+
+def names(n):
+    return ['m%04d' % i for i in range(n)]
 
 
-def pairs():
-    """1,023 elements, each judged by all schemas but the first: a million pairs."""
-    m = 1024
-    value = list(range(1023))
-    schemas = [[(44, 1, 0)], [(30, many(range(2, m)))]] + [[(2, 8, 0)]] * (m - 2)
-    schema = {'items': {'allOf': [{'type': 'number'}] * (m - 2)}}
-    return 'million pairs', record_sheet(value), rule_words(schemas), schema, value
+def numbered(n):
+    return {name: i for i, name in enumerate(names(n))}
 
 
-def chain(k):
-    """Each schema applies the next twice: a judge that does not remember takes 2^k steps."""
-    schemas = [[(30, many([s + 1, s + 1]))] for s in range(k - 1)] + [[(2, 8, 0)]]
-    schema = None
-    if k <= 16:
-        schema = {'definitions': {}}
-        for s in range(k - 1):
-            both = {'$ref': '#/definitions/s%d' % (s + 1)}
-            schema['definitions']['s%d' % s] = {'allOf': [both, both]}
-        schema['definitions']['s%d' % (k - 1)] = {'type': 'number'}
-        schema['allOf'] = [{'$ref': '#/definitions/s0'}]
-    return 'chain %d' % k, record_sheet(7), rule_words(schemas), schema, 7
+def members(n):
+    return case('members', {'additionalProperties': {'type': 'number'}}, numbered(n))
+
+
+def required(n):
+    return case('required', {'required': names(n)}, numbered(n))
+
+
+def properties(n):
+    return case('properties in order', {'properties': dict.fromkeys(names(n), {'type': 'number'})}, numbered(n))
+
+
+def reversed_properties(n):
+    return case('properties reversed', {'properties': dict.fromkeys(names(n)[::-1], {'type': 'number'})}, numbered(n))
+
+
+def additional(n):
+    known = dict.fromkeys(names(n), {'type': 'number'})
+    return case('and additionalProperties', {'properties': known, 'additionalProperties': False}, numbered(n))
+
+
+def rule_names(n):
+    return case('names in one rule list', {'required': names(n)}, 1)
+
+
+def chain(n):
+    """Each schema applies the next twice, so that a validator that does not remember takes 2^n steps."""
+    twice = [[defined('s%d' % i)] * 2 for i in range(1, n)]
+    links = {'s%d' % i: {'allOf': both} for i, both in enumerate(twice[1:], 1)}
+    schema = {'allOf': twice[0], 'definitions': dict(links, **{'s%d' % (n - 1): {'type': 'number'}})}
+    return case('chain, each link twice', schema, 7, SAME if n <= RAPIDJSON_CHAIN else None)
+
+
+RAPIDJSON_CHAIN = 24
+SIZES, CHAINS = (16, 64, 256, 1023), (4, 8, 16, 31)
+FAMILIES = [(family, SIZES) for family in (members, required, properties, reversed_properties, additional, rule_names)]
+FAMILIES.append((chain, CHAINS))
+
+
+def splits(n):
+    return case('%d splits' % n, {'type': 'array', 'items': {'type': 'integer', 'minimum': 0}},
+                list(range(0, 7 * n, 7)))
+
+
+def many_schemas(n):
+    """A record that meets two of n schemas."""
+    known = {'p%03d' % i: {'type': 'integer', 'minimum': i, 'maximum': 1000 + i} for i in range(n - 1)}
+    return case('%d schemas, one member' % n, {'type': 'object', 'properties': known}, {'p003': 40})
+
+
+def million_pairs():
+    """1,023 elements, each judged by all schemas but the first."""
+    schema = {'items': {'allOf': [{'maximum': 2000 + i} for i in range(1022)]}}
+    return case('a million pairs', schema, list(range(1023)))
+
+
+def table():
+    return [passage(), flat(), full(), unevaluated(), members(1023)._replace(name='1,023 members'), splits(200),
+            properties(100)._replace(name='100 properties in order'),
+            reversed_properties(100)._replace(name='100 properties reversed'), many_schemas(300),
+            chain(24)._replace(name='chain of 24, each link twice'), million_pairs()]
+
+
+# ---- names that overlap in their text
+
+NAME_BYTES, TEXT_BYTES, OVERLAPS = 59_000, 65_535, (100, 1000)
+
+
+def overlapping():
+    """A text in which names of NAME_BYTES, each a byte on, are alike up to their last bytes, and none is another."""
+    one = sheets.Text()
+    one.bytes += b'a' * (NAME_BYTES - 1) + b'b' + b'a' * (TEXT_BYTES - NAME_BYTES)
+    return one
+
+
+def overlapping_record(n):
+    rows = [(sheets.OBJECT, 1, n, 0, 0, 0)] + [(sheets.NULL, 0, 0, 0, i, NAME_BYTES) for i in range(n)]
+    return sheets.record_sheet(rows, overlapping())
+
+
+def overlapping_rules(n, clauses):
+    """Schema 0 has the clauses, over n names that come in the other order than the record's; schema 1 allows all."""
+    entries = [(i, NAME_BYTES, 1 if clauses[0] == schemas.PROPERTIES else 0) for i in reversed(range(n))]
+    listed = [(code, 0, n) if code in (schemas.REQUIRED, schemas.PROPERTIES) else (code, 1, 0) for code in clauses]
+    return sheets.rule_sheet([(0, len(clauses)), (len(clauses), 0)], listed, entries, overlapping())
+
+
+def no_rules():
+    return sheets.rule_sheet([(0, 0)], [], [], sheets.Text())
 
 
 def hostile():
-    """1,000 members whose names, of 59,000 bytes each, overlap in one text and share long beginnings."""
-    text = b'a' * 58999 + b'b' + b'a' * 1000
-    rows = [(OBJECT, 1, 1000, 0, 0, 0)] + [(NULL, 0, 0, 0, i, 59000) for i in range(1000)]
-    return 'hostile names', record_words(rows, text), rule_words([[]]), None, None
-
-
-def c_words(words):
-    return '{' + ','.join(map(str, words)) + '}'
-
-
-def c_bytes(part):
-    return '{' + ','.join(map(str, part + b'\0')) + '}'
-
-
-def c_string(value):
-    return 'NULL' if value is None else json.dumps(json.dumps(value))
-
-
-def header(cases):
-    lines = ['struct sample {', '    const char *name;']
-    for words, text in (('words', 'text'), ('rules', 'rule_text')):
-        lines += ['    const uint32_t *%s;' % words, '    size_t %s_length;' % words]
-        lines += ['    const uint8_t *%s;' % text, '    size_t %s_length;' % text]
-    lines += ['    const char *schema;', '    const char *record;', '};']
-    entries = []
-    for i, (name, record, rules, schema, value) in enumerate(cases):
-        lines.append('static const uint32_t words_%d[] = %s, rules_%d[] = %s;' % (i, c_words(record[0]), i, c_words(rules[0])))
-        lines.append('static const uint8_t text_%d[] = %s, rule_text_%d[] = %s;' % (i, c_bytes(record[1]), i, c_bytes(rules[1])))
-        entries.append('{"%s", words_%d, %d, text_%d, %d, rules_%d, %d, rule_text_%d, %d, %s, %s},' % (
-            name, i, len(record[0]), i, len(record[1]), i, len(rules[0]), i, len(rules[1]),
-            c_string(schema), c_string(value if schema else None)))
-    return '\n'.join(lines + ['static const struct sample samples[] = {'] + entries + ['};', ''])
-
-
-def main():
-    cases = [passage(), splits(), unevaluated(), rows(), pairs()] + [chain(k) for k in (8, 16, 24, 31)] + [hostile()]
-    with open(sys.argv[1], 'w') as out:
-        out.write(header(cases))
-
-
-main()
+    """(what has such names, cases of OVERLAPS)."""
+    ways = [('the record alone', None), ('both: required', (schemas.REQUIRED,)),
+            ('both: properties', (schemas.PROPERTIES,)),
+            ('both: and additionalProperties', (schemas.PROPERTIES, schemas.SCHEMAS['additionalProperties']))]
+    for name, clauses in ways:
+        yield name, [Case('%s, %d' % (name, n), overlapping_record(n),
+                          overlapping_rules(n, clauses) if clauses else no_rules(), None, None) for n in OVERLAPS]
