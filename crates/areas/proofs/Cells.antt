@@ -1,9 +1,9 @@
 -- The cells: what one says, which one is a pair's, and how many are settled or marked.
 --     verd-write, bit-write, write-small                        a mark that is written over another
 --     verd-settle, bit-settle, settle-small, settle-fits        a verdict that is written over none
---     mark-some, mark-read                                      the verdict of a settled pair, and reading it back
+--     settledAs-some, settledAs-read                            the verdict of a settled pair, and reading it back
 --     whole, zero-verd, zero-bit                                a cell is its verdict and its mark
---     row-low, same-row, same-rule                              the cells of a row among all; the row and the schema that a cell is of
+--     same-row, same-rule                                       the row and the schema that a cell is of
 --     settled-le, -room, -set, -same, -blank                    how many pairs are settled
 --     Counted, counted-none, counted-more, counted-end          how many rows are marked, as a loop counts them
 --     cleared-more, cleared-end                                 cells that are cleared one after the other
@@ -13,7 +13,6 @@ use mathlib.Core.List.{List, [], _∷_}
 use mathlib.Core.Logic.{⊎-elim}
 use mathlib.Core.Path.{_≡_, refl, sym, ap, _∙_}
 use Prim.Native.Nat.{ℕ, zero, suc, _+_, _*_, _-_, _/_, _%_, _≤_, _<_}
-use native.Mathlib.Nat.{mul-le-mul-right, mul-comm}
 use native.Mathlib.Omega.{arith}
 use lib.Dec.{eqb}
 use lib.ListN.{length, getD, set, List·getD-eq-default}
@@ -23,7 +22,7 @@ use borrow.Author.Tests.{eq-eqb, ne-eqb, lt-ltb, le-ltb}
 use Rattle.laws.proofs.Tests.{le-or-lt, decide}
 use Rattle.meaning.specs.Lists.{range, keep}
 use Rattle.meaning.proofs.Words.{row-of, rule-of}
-use Rattle.areas.specs.Cells.{cellOf, verd, bit, four, mark, column, settledOf, markedBy, Cleared, plus}
+use Rattle.areas.specs.Cells.{cellOf, verd, bit, four, settledAs, column, settledOf, markedBy, Cleared, plus}
 
 -- ---- one cell
 
@@ -42,39 +41,39 @@ unfolding verd four
 write-small x true = omega arith
 write-small x false = omega arith
 
-pub verd-settle : (x : ℕ) (b : Bool) → verd x ≡ 0 → verd (x + mark b) ≡ mark b
-unfolding verd mark
+pub verd-settle : (x : ℕ) (b : Bool) → verd x ≡ 0 → verd (x + settledAs b) ≡ settledAs b
+unfolding verd settledAs
 verd-settle x true e = omega arith
 verd-settle x false e = omega arith
 
-pub bit-settle : (x : ℕ) (b : Bool) → verd x ≡ 0 → bit (x + mark b) ≡ bit x
-unfolding verd mark bit
-bit-settle x b e = ⊎-elim (λ h. le-ltb 3 (x + mark b) (low b h) ∙ sym (le-ltb 3 x h)) (λ h. lt-ltb 3 (x + mark b) (omega arith) ∙ sym (lt-ltb 3 x h)) (le-or-lt x 3)
+pub bit-settle : (x : ℕ) (b : Bool) → verd x ≡ 0 → bit (x + settledAs b) ≡ bit x
+unfolding verd settledAs bit
+bit-settle x b e = ⊎-elim (λ h. le-ltb 3 (x + settledAs b) (low b h) ∙ sym (le-ltb 3 x h)) (λ h. lt-ltb 3 (x + settledAs b) (omega arith) ∙ sym (lt-ltb 3 x h)) (le-or-lt x 3)
   where
-    low : (b : Bool) → x ≤ 3 → x + mark b ≤ 3
+    low : (b : Bool) → x ≤ 3 → x + settledAs b ≤ 3
     low true h = omega arith
     low false h = omega arith
 
-pub settle-small : (x : ℕ) (b : Bool) → verd x ≡ 0 → x < 8 → x + mark b < 8
-unfolding verd mark
+pub settle-small : (x : ℕ) (b : Bool) → verd x ≡ 0 → x < 8 → x + settledAs b < 8
+unfolding verd settledAs
 settle-small x true e h = omega arith
 settle-small x false e h = omega arith
 
 -- whatever byte it was
-pub settle-fits : (x : ℕ) (b : Bool) → verd x ≡ 0 → x < 256 → x + mark b < 256
-unfolding verd mark
+pub settle-fits : (x : ℕ) (b : Bool) → verd x ≡ 0 → x < 256 → x + settledAs b < 256
+unfolding verd settledAs
 settle-fits x true e h = omega arith
 settle-fits x false e h = omega arith
 
-pub mark-some : (b : Bool) → mark b ≡ 0 → ⊥
-unfolding mark
-mark-some true e = omega arith
-mark-some false e = omega arith
+pub settledAs-some : (b : Bool) → settledAs b ≡ 0 → ⊥
+unfolding settledAs
+settledAs-some true e = omega arith
+settledAs-some false e = omega arith
 
-pub mark-read : (b : Bool) (x : ℕ) → x ≡ mark b → eqb x 1 ≡ b
-unfolding mark
-mark-read true x e = eq-eqb x 1 e
-mark-read false x e = ne-eqb x 1 (λ z. omega arith)
+pub settledAs-read : (b : Bool) (x : ℕ) → x ≡ settledAs b → eqb x 1 ≡ b
+unfolding settledAs
+settledAs-read true x e = eq-eqb x 1 e
+settledAs-read false x e = ne-eqb x 1 (λ z. omega arith)
 
 pub whole : (x : ℕ) → x < 8 → x ≡ verd x + four (bit x)
 unfolding verd four bit
@@ -89,13 +88,6 @@ unfolding bit
 zero-bit x e = le-ltb 3 x (omega arith)
 
 -- ---- the cell of a pair
-
--- a row that has cells is no higher than their number
-pub row-low : (row m s long : ℕ) → s < m → cellOf m row m ≤ long → row < long
-row-low row m s long g h =
-    let a : 1 * row ≤ m * row = mul-le-mul-right row (omega arith) in
-    let b : m * row ≡ row * m = mul-comm m row in
-    omega arith
 
 module _ (m j s k t : ℕ) (g : s < m) (h : t < m) (e : cellOf m j s ≡ cellOf m k t) where
   pub same-row : j ≡ k

@@ -6,7 +6,7 @@
 --     merged-read                           the marks of both columns, as they were read
 --     kept-all, kept-none                   the marks of a pair that holds, and of one that fails
 --     merged-passed, marked-child           what is passed on: a pair's marks, or the child that it is of
---     cell-below, row-below, writes-row     one of the rows that may be written
+--     cell-below, writes-row                one of the rows that may be written
 -- Assumes nothing.
 use mathlib.Core.Bool.{Bool, true, false, _||_, or-true, or-false}
 use mathlib.Core.List.{List}
@@ -20,7 +20,7 @@ use borrow.Author.Tests.{eq-eqb, ne-eqb}
 use Rattle.meaning.specs.Rules.{Marks}
 use Rattle.areas.specs.Cells.{cellOf, verd, bit, four, column}
 use Rattle.areas.specs.Writers.{Writes, Marked, merged, kept, passed}
-use Rattle.areas.proofs.Cells.{verd-write, bit-write, write-small, row-low, same-row, same-rule}
+use Rattle.areas.proofs.Cells.{verd-write, bit-write, write-small, same-row, same-rule}
 
 -- ---- one mark
 
@@ -129,12 +129,8 @@ module _ (m row rule aimed from : ℕ) where
 -- ---- what may be written
 
 module _ {m first many s from : ℕ} {cells : List ℕ} (w : Writes m first many s from cells) where
-  module _ (i : ℕ) (h : i < many) where
-    pub cell-below : (t : ℕ) → t < m → cellOf m (first + i) t < length cells
-    cell-below t g = let a = w .rows-in (first + i) (omega arith) (omega arith) in omega arith
-
-    pub row-below : first + i < length cells
-    row-below = row-low (first + i) m s (length cells) (w .rule-in) (w .rows-in (first + i) (omega arith) (omega arith))
+  pub cell-below : (i : ℕ) → i < many → (t : ℕ) → t < m → cellOf m (first + i) t < length cells
+  cell-below i h t g = let a = w .rows-in (first + i) (omega arith) (omega arith) in omega arith
 
   pub writes-row : {k : ℕ} {after : List ℕ} → length after ≡ length cells → first ≤ k → k < first + many → Writes m k 1 s s after
   writes-row e a b =

@@ -8,18 +8,31 @@ use mathlib.Core.Path.{_≡_}
 use Prim.Native.Nat.{ℕ, _+_, _*_, _%_}
 use lib.Dec.{eqb, ltb}
 use lib.ListN.{length, getD}
+use Rattle.sheet.specs.declared.record.Pair as Declared
 use Rattle.meaning.specs.Lists.{range, keep}
-use Rattle.meaning.specs.Rules.{Marks}
+use Rattle.meaning.specs.Rules.{Pair, Marks}
 
 -- the number of a pair's cell, among m schemas
 abbrev pub cellOf : ℕ → ℕ → ℕ → ℕ
 cellOf m row rule = row * m + rule
+
+-- the pair that is meant
+abbrev pub pairIs : Declared.Pair → Pair
+pairIs p = record { row = p .row .0; rule = p .rule .0 }
+
+-- the cell of a pair, which is also its word in the list
+abbrev pub cellAt : ℕ → Pair → ℕ
+cellAt m p = cellOf m (p .row) (p .rule)
 
 -- ---- one cell
 
 -- its verdict: 0 not settled, 1 held, 2 failed
 unfoldable pub verd : ℕ → ℕ
 verd x = x % 4
+
+-- the cells show the pair unsettled
+unfoldable pub Unsettled : ℕ → Pair → List ℕ → Type 0
+Unsettled m p cells = verd (getD cells (cellAt m p) 0) ≡ 0
 
 -- whether it is marked
 unfoldable pub bit : ℕ → Bool
@@ -30,8 +43,8 @@ unfoldable pub four : Bool → ℕ
 four marked = cond marked 4 0
 
 -- the verdict of a pair that is settled
-unfoldable pub mark : Bool → ℕ
-mark holds = cond holds 1 2
+unfoldable pub settledAs : Bool → ℕ
+settledAs holds = cond holds 1 2
 
 -- ---- all of them
 

@@ -8,7 +8,7 @@ use Prim.Native.Nat.{ℕ, _+_, _≤_, _<_}
 use lib.Dec.{eqb}
 use lib.ListN.{length, getD, set}
 use Rattle.meaning.specs.Rules.{Marks}
-use Rattle.areas.specs.Cells.{cellOf, verd, mark, column}
+use Rattle.areas.specs.Cells.{cellOf, verd, settledAs, column}
 
 -- ---- the verdict
 
@@ -21,7 +21,7 @@ pub record Open (cells list : List ℕ) (count k : ℕ) : Type 0 where
 
 -- after: its cell has the verdict, its word is the list's next, and all else is as it was
 pub record Shut (cells₀ list₀ : List ℕ) (count k : ℕ) (ok : Bool) (cells list : List ℕ) (r : ℕ) : Type 0 where
-  pub cell : cells ≡ set cells₀ k (getD cells₀ k 0 + mark ok)
+  pub cell : cells ≡ set cells₀ k (getD cells₀ k 0 + settledAs ok)
   pub entry : list ≡ set list₀ count k
   pub one-more : r ≡ count + 1
 

@@ -1,30 +1,35 @@
 // The two areas that a caller lends for judging: the cells, one byte for each pair of a record row
-// and a schema, and the list of the pairs in the order in which they are settled. No sheet is known
-// here: m is the number of schemas, and rows and schemas are numbers. A schema's cells are a column;
-// `first` and `many` stand for the `many` rows from `first` on, the children of some row.
+// and a schema, and the list of the pairs in the order in which they are settled. No sheet is read
+// here: m is the number of schemas. A schema's cells are a column; `kids` are the children of some
+// row, whose marks stand in a column.
 //
 // After `clear` two functions alone store into the cells: `settle`, which writes verdicts, and
 // `write_mark`, which writes marks.
 //
 // Its contracts cite specs/, in reading order: `Cells`, `Writers`.
 ghost use mathlib.Core.Path.{_≡_};
-ghost use Prim.Native.Nat.{_<_};
+ghost use Prim.Native.Nat.{_+_, _<_};
 ghost use lib.ListN.{length, getD};
-ghost use Rattle.areas.specs.Cells.{cellOf, verd, bit, four, mark, plus, Cleared, markedBy};
+ghost use Rattle.areas.specs.Cells.{pairIs, cellAt, verd, bit, four, settledAs, plus, Cleared, markedBy};
 ghost use Rattle.areas.specs.Writers.{Open, Shut, Writes, Marked, merged, kept, passed, Passes};
+use sheet::record::Children;
+use sheet::record::Pair;
+use sheet::record::RecordRow;
+use sheet::record::RuleRow;
+use sheet::record::wide;
 
 // ---- reading a cell
 
 // The number of a pair's cell.
-pub fn cell_of(m: usize, row: usize, rule: usize) -> usize
-    requires { ⌜ cellOf m row rule < 18446744073709551616 ⌝ }
-    ensures { λ r. ⌜ r ≡ cellOf m row rule ⌝ }
+pub fn cell_of(m: usize, p: Pair) -> usize
+    requires { ⌜ cellAt m (pairIs p) < 18446744073709551616 ⌝ }
+    ensures { λ r. ⌜ r ≡ cellAt m (pairIs p) ⌝ }
 {
-    row * m + rule
+    wide(p.row.0) * m + wide(p.rule.0)
 }
 
 // The verdict in cell k: 0 not settled, 1 held, 2 failed.
-pub fn verdict_at(cells: &[u8], k: usize) -> u8
+fn verdict_at(cells: &[u8], k: usize) -> u8
     requires { ⌜ k < length (now cells) ⌝ }
     ensures { λ r. ⌜ r ≡ verd (getD (now (cells .entry)) k 0) ⌝ }
 {
@@ -32,7 +37,7 @@ pub fn verdict_at(cells: &[u8], k: usize) -> u8
 }
 
 // Whether cell k is marked.
-pub fn bit_at(cells: &[u8], k: usize) -> bool
+fn bit_at(cells: &[u8], k: usize) -> bool
     requires { ⌜ k < length (now cells) ⌝ }
     ensures { λ r. ⌜ r ≡ bit (getD (now (cells .entry)) k 0) ⌝ }
 {
@@ -40,23 +45,47 @@ pub fn bit_at(cells: &[u8], k: usize) -> bool
     3 < x
 }
 
+// The verdict in the pair's cell.
+pub fn verdict_of(cells: &[u8], m: usize, p: Pair) -> u8
+    requires { ⌜ (cellAt m (pairIs p) < length (now cells)) × (length (now cells) < 4294967296) ⌝ }
+    ensures { λ r. ⌜ r ≡ verd (getD (now (cells .entry)) (cellAt m (pairIs p)) 0) ⌝ }
+{
+    verdict_at(cells, cell_of(m, p))
+}
+
+// Whether the pair's cell is marked.
+pub fn is_marked(cells: &[u8], m: usize, p: Pair) -> bool
+    requires { ⌜ cellAt m (pairIs p) < length (now cells) ⌝ }
+    ensures { λ r. ⌜ r ≡ bit (getD (now (cells .entry)) (cellAt m (pairIs p)) 0) ⌝ }
+{
+    bit_at(cells, cell_of(m, p))
+}
+
 // ---- settling
 
 // The verdict of a pair that holds or fails.
-fn mark_of(holds: bool) -> u8
-    ensures { λ r. ⌜ r ≡ mark holds ⌝ }
+fn settled_as(holds: bool) -> u8
+    ensures { λ r. ⌜ r ≡ settledAs holds ⌝ }
 {
     if holds { 1 } else { 2 }
 }
 
-// Settles the pair of cell k, which is not settled, and lists it after the first `count` words. The
-// answer is how many are listed then.
-pub fn settle(cells: &mut [u8], list: &mut [u32], k: usize, ok: bool, count: usize) -> usize
-    requires { ⌜ Open (now cells) (now list) count k ⌝ }
-    ensures { λ r. ⌜ Shut (now (cells .entry)) (now (list .entry)) count k ok (now (cells .exit)) (now (list .exit)) r ⌝ }
+// Settles the pair, which is not settled, and lists it after the first `count` words. The answer is
+// how many are listed then.
+pub fn settle(
+    cells: &mut [u8],
+    list: &mut [u32],
+    m: usize,
+    p: Pair,
+    ok: bool,
+    count: usize,
+) -> usize
+    requires { ⌜ Open (now cells) (now list) count (cellAt m (pairIs p)) ⌝ }
+    ensures { λ r. ⌜ Shut (now (cells .entry)) (now (list .entry)) count (cellAt m (pairIs p)) ok (now (cells .exit)) (now (list .exit)) r ⌝ }
 {
+    let k = cell_of(m, p);
     let x = cells[k];
-    cells[k] = x + mark_of(ok);
+    cells[k] = x + settled_as(ok);
     list[count] = k as u32;
     count + 1
 }
@@ -71,64 +100,65 @@ fn four_of(marked: bool) -> u8
 }
 
 // Marks the row in column s, or takes its mark away.
-pub fn write_mark(cells: &mut [u8], m: usize, row: usize, s: usize, on: bool)
-    requires { ⌜ Writes m row 1 s s (now cells) ⌝ }
-    ensures { λ r. ⌜ Marked m row 1 s (λ k. on) (now (cells .entry)) (now (cells .exit)) ⌝ }
+fn write_mark(cells: &mut [u8], m: usize, row: RecordRow, s: RuleRow, on: bool)
+    requires { ⌜ Writes m (row .0) 1 (s .0) (s .0) (now cells) ⌝ }
+    ensures { λ r. ⌜ Marked m (row .0) 1 (s .0) (λ k. on) (now (cells .entry)) (now (cells .exit)) ⌝ }
 {
-    let k = cell_of(m, row, s);
+    let k = cell_of(m, Pair { row: row, rule: s });
     let x = verdict_at(cells, k);
     cells[k] = x + four_of(on);
 }
 
 // To the marks of the rows in column s adds those in column `from`.
-pub fn add_marks(cells: &mut [u8], m: usize, first: usize, many: usize, s: usize, from: usize)
-    requires { ⌜ Writes m first many s from (now cells) ⌝ }
-    ensures { λ r. ⌜ Marked m first many s (merged m (now (cells .entry)) s from) (now (cells .entry)) (now (cells .exit)) ⌝ }
+fn add_marks(cells: &mut [u8], m: usize, kids: Children, s: RuleRow, from: RuleRow)
+    requires { ⌜ Writes m (kids .first) (kids .count) (s .0) (from .0) (now cells) ⌝ }
+    requires { ⌜ kids .first + kids .count < 4294967296 ⌝ }
+    ensures { λ r. ⌜ Marked m (kids .first) (kids .count) (s .0) (merged m (now (cells .entry)) (s .0) (from .0)) (now (cells .entry)) (now (cells .exit)) ⌝ }
 {
     let mut i = 0;
-    while i < many {
-        let k = first + i;
-        let old = bit_at(cells, cell_of(m, k, s));
-        let new = bit_at(cells, cell_of(m, k, from));
-        write_mark(cells, m, k, s, old | new);
+    while i < kids.count {
+        let row = RecordRow(kids.first + i);
+        let old = is_marked(cells, m, Pair { row: row, rule: s });
+        let new = is_marked(
+            cells,
+            m,
+            Pair {
+                row: row,
+                rule: from,
+            },
+        );
+        write_mark(cells, m, row, s, old | new);
         i += 1;
     }
 }
 
 // Takes the marks of the rows in column s away, unless the pair that they are of holds.
-pub fn shut_marks(cells: &mut [u8], m: usize, first: usize, many: usize, s: usize, ok: bool)
-    requires { ⌜ Writes m first many s s (now cells) ⌝ }
-    ensures { λ r. ⌜ Marked m first many s (kept m (now (cells .entry)) s ok) (now (cells .entry)) (now (cells .exit)) ⌝ }
+pub fn shut_marks(cells: &mut [u8], m: usize, kids: Children, s: RuleRow, ok: bool)
+    requires { ⌜ Writes m (kids .first) (kids .count) (s .0) (s .0) (now cells) ⌝ }
+    requires { ⌜ kids .first + kids .count < 4294967296 ⌝ }
+    ensures { λ r. ⌜ Marked m (kids .first) (kids .count) (s .0) (kept m (now (cells .entry)) (s .0) ok) (now (cells .entry)) (now (cells .exit)) ⌝ }
 {
     if ok {
         return;
     }
     let mut i = 0;
-    while i < many {
-        write_mark(cells, m, first + i, s, false);
+    while i < kids.count {
+        write_mark(cells, m, RecordRow(kids.first + i), s, false);
         i += 1;
     }
 }
 
-// Passes on to the pair of `row` and `rule`, whose children are these rows, what the pair of `aimed`
-// and `from` has to give: its marks if it is of the row itself, and else the child that it is of.
-pub fn pass_on(
-    cells: &mut [u8],
-    m: usize,
-    first: usize,
-    many: usize,
-    row: usize,
-    rule: usize,
-    aimed: usize,
-    from: usize,
-)
-    requires { ⌜ Passes m first many row rule aimed from (now cells) ⌝ }
-    ensures { λ r. ⌜ Marked m first many rule (passed m (now (cells .entry)) row rule aimed from) (now (cells .entry)) (now (cells .exit)) ⌝ }
+// Passes on to the pair p, whose row's children these are, what the pair q has to give: its marks if
+// it is of the row itself, and else the child that it is of.
+pub fn pass_on(cells: &mut [u8], m: usize, kids: Children, p: Pair, q: Pair)
+    requires { ⌜ Passes m (kids .first) (kids .count) (p .row .0) (p .rule .0) (q .row .0) (q .rule .0) (now cells) ⌝ }
+    requires { ⌜ kids .first + kids .count < 4294967296 ⌝ }
+    ensures { λ r. ⌜ Marked m (kids .first) (kids .count) (p .rule .0) (passed m (now (cells .entry)) (p .row .0) (p .rule .0) (q .row .0) (q .rule .0)) (now (cells .entry)) (now (cells .exit)) ⌝ }
 {
-    if aimed == row {
-        add_marks(cells, m, first, many, rule, from);
+    if q.row.0 == p.row.0 {
+        add_marks(cells, m, kids, p.rule, q.rule);
     } else {
-        write_mark(cells, m, aimed, rule, true);
+        write_mark(cells, m, q.row, p.rule, true);
     }
 }
 
@@ -154,14 +184,26 @@ fn add(n: usize, so: bool) -> usize
 }
 
 // How many of the rows are marked in column 0.
-pub fn marked_of(cells: &[u8], m: usize, first: usize, many: usize) -> usize
-    requires { ⌜ Writes m first many 0 0 (now cells) ⌝ }
-    ensures { λ r. ⌜ r ≡ markedBy m (now (cells .entry)) first many ⌝ }
+pub fn marked_of(cells: &[u8], m: usize, kids: Children) -> usize
+    requires { ⌜ Writes m (kids .first) (kids .count) 0 0 (now cells) ⌝ }
+    requires { ⌜ kids .first + kids .count < 4294967296 ⌝ }
+    ensures { λ r. ⌜ r ≡ markedBy m (now (cells .entry)) (kids .first) (kids .count) ⌝ }
 {
     let mut n = 0;
     let mut i = 0;
-    while i < many {
-        n = add(n, bit_at(cells, cell_of(m, first + i, 0)));
+    while i < kids.count {
+        let row = RecordRow(kids.first + i);
+        n = add(
+            n,
+            is_marked(
+                cells,
+                m,
+                Pair {
+                    row: row,
+                    rule: RuleRow(0),
+                },
+            ),
+        );
         i += 1;
     }
     n

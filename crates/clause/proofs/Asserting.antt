@@ -1,12 +1,13 @@
 -- What a clause asserts, by the variant that was read.
 --     answered            an answer to the test of the variant answers the clause
 --     bounds, list-read   what is known of the number or the list that the variant holds
---     no-test             the variants that apply schemas assert nothing
+--     no-test             the variants that apply schemas have no test
 -- Assumes nothing.
-use mathlib.Core.Bool.{Bool, true, false}
+use mathlib.Core.Bool.{Bool}
 use mathlib.Core.List.{List, [], _∷_}
-use mathlib.Core.Path.{_≡_, sym, ap, _∙_}
+use mathlib.Core.Path.{_≡_, ap, _∙_}
 use Prim.Native.Nat.{ℕ}
+use native.Mathlib.Omega.{arith}
 use types.Run.{OneOf, miss}
 use denote.Enum.Declared.{tagOf}
 use Rattle.sheet.specs.Doc.{Doc}
@@ -21,21 +22,19 @@ use Rattle.rulesheet.specs.declared.clause.Clause.the-variants.{AllOf, AnyOf, O
 use Rattle.rulesheet.specs.Ruleset.{Test, asserts}
 use Rattle.rulesheet.specs.Clauses.{clauseMeans, list, held, Bounded, Listed, Tested}
 use Rattle.meaning.specs.Rules.{passes}
-use Rattle.clause.specs.Read.{RulesRead, ListRead}
+use Rattle.clause.specs.declared.test.Tried.the-variants.{Passed}
+use Rattle.clause.specs.Read.{RulesRead, ListRead, Tries}
 
 -- the positions of the variants that apply schemas
 abbrev appliers : List ℕ
 appliers = 15 ∷ 16 ∷ 17 ∷ 18 ∷ 19 ∷ 20 ∷ 21 ∷ 22 ∷ 23 ∷ 24 ∷ 25 ∷ []
 
 module _ (ws ts : List ℕ) where
-  pub answered : (d : Doc) (j : ℕ) (clause variant : Clause) (s : Test) (r : Bool) → clause ≡ variant → clauseMeans ws ts variant ≡ asserts s → r ≡ passes d j s
-      → (t : Test) → clauseMeans ws ts clause ≡ asserts t → r ≡ passes d j t
-  answered d j clause variant s r e means is t f =
-      let both : asserts s ≡ asserts t = sym means ∙ sym (ap (clauseMeans ws ts) e) ∙ f in
-      let same : s ≡ t = cc in
-      is ∙ ap (passes d j) same
+  pub answered : (d : Doc) (j : ℕ) (clause variant : Clause) (s : Test) (ok : Bool) → clause ≡ variant → clauseMeans ws ts variant ≡ asserts s → ok ≡ passes d j s
+      → Tries d j (clauseMeans ws ts clause) (Passed ok)
+  answered d j clause variant s ok e means is = (s, ap (clauseMeans ws ts) e ∙ means, is)
 
-  pub no-test : (clause : Clause) → OneOf appliers (tagOf the-type clause) → (t : Test) → clauseMeans ws ts clause ≡ asserts t → true ≡ false
+  pub no-test : (clause : Clause) → OneOf appliers (tagOf the-type clause) → (t : Test) → clauseMeans ws ts clause ≡ asserts t → ⊥
   no-test Never k t e = absurd (miss appliers 0 tt k)
   no-test (Types mask) k t e = absurd (miss appliers 1 tt k)
   no-test (Enum es) k t e = absurd (miss appliers 2 tt k)
@@ -51,17 +50,17 @@ module _ (ws ts : List ℕ) where
   no-test (MinProperties n) k t e = absurd (miss appliers 12 tt k)
   no-test (MaxProperties n) k t e = absurd (miss appliers 13 tt k)
   no-test (Required es) k t e = absurd (miss appliers 14 tt k)
-  no-test (AllOf es) k t e = cc
-  no-test (AnyOf es) k t e = cc
-  no-test (Exactly es) k t e = cc
-  no-test (Not row) k t e = cc
-  no-test (Ref row) k t e = cc
-  no-test (Properties es) k t e = cc
-  no-test (AdditionalProperties row) k t e = cc
-  no-test (PrefixItems es) k t e = cc
-  no-test (Items row) k t e = cc
-  no-test (UnevaluatedProperties row) k t e = cc
-  no-test (UnevaluatedItems row) k t e = cc
+  no-test (AllOf es) k t e = let z : _≡_ {A = ℕ} 0 1 = cc in omega arith
+  no-test (AnyOf es) k t e = let z : _≡_ {A = ℕ} 0 1 = cc in omega arith
+  no-test (Exactly es) k t e = let z : _≡_ {A = ℕ} 0 1 = cc in omega arith
+  no-test (Not row) k t e = let z : _≡_ {A = ℕ} 0 1 = cc in omega arith
+  no-test (Ref row) k t e = let z : _≡_ {A = ℕ} 0 1 = cc in omega arith
+  no-test (Properties es) k t e = let z : _≡_ {A = ℕ} 0 1 = cc in omega arith
+  no-test (AdditionalProperties row) k t e = let z : _≡_ {A = ℕ} 0 1 = cc in omega arith
+  no-test (PrefixItems es) k t e = let z : _≡_ {A = ℕ} 0 1 = cc in omega arith
+  no-test (Items row) k t e = let z : _≡_ {A = ℕ} 0 1 = cc in omega arith
+  no-test (UnevaluatedProperties row) k t e = let z : _≡_ {A = ℕ} 0 1 = cc in omega arith
+  no-test (UnevaluatedItems row) k t e = let z : _≡_ {A = ℕ} 0 1 = cc in omega arith
 
 module _ {ws ts : List ℕ} {form : RuleForm} {clause : Clause} (tested : Tested ws form clause) (rules : RulesRead ws ts form) (variant : Clause) (e : clause ≡ variant) where
   pub bounds : Bounded form (held variant)

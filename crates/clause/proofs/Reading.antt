@@ -1,11 +1,13 @@
 -- Accepted sheets are what the tests ask for.
---     record-read, rules-read      the premises of this crate's functions, from acceptance
+--     record-read, rules-read                  the premises of this crate's functions, from acceptance
+--     clause-low, clause-small, clause-read    a clause of a schema, as it is read
 -- Assumes nothing.
 use mathlib.Core.Bool.{Bool, true, false, _&&_}
 use mathlib.Core.List.{List}
 use mathlib.Core.Logic.{⊎-elim}
-use mathlib.Core.Path.{_≡_, sym}
-use Prim.Native.Nat.{ℕ}
+use mathlib.Core.Path.{_≡_, sym, _∙_}
+use Prim.Native.Nat.{ℕ, _+_, _<_}
+use native.Mathlib.Omega.{arith}
 use lib.Dec.{eqb, leb}
 use lib.ListN.{length}
 use borrow.Author.Tests.{eqb-true}
@@ -16,13 +18,20 @@ use Rattle.sheet.specs.Faults.{text-max, wordsOk}
 use Rattle.sheet.specs.Accepted.{AcceptedRecord}
 use Rattle.sheet.proofs.Acceptance as A
 use Rattle.rulesheet.specs.declared.form.RuleForm.{RuleForm}
+use Rattle.rulesheet.specs.declared.clause.Clause.{Clause}
+use Rattle.rulesheet.specs.Ruleset.{never, asserts}
 use Rattle.rulesheet.specs.Sheet as S
+use Rattle.rulesheet.specs.Read.{RulesFormed}
+use Rattle.rulesheet.specs.Clauses.{clauseMeans, Tested}
+use Rattle.rulesheet.proofs.Trailers.{form-m, form-c, trailer-facts}
+use Rattle.rulesheet.proofs.Taking.{schema-within}
+use Rattle.rulesheet.proofs.Items.{clause-item}
 use Rattle.rulesheet.specs.Faults as F
 use Rattle.rules.specs.Check.{rulesOutcome}
 use Rattle.rules.specs.Accepted.{AcceptedRules}
 use Rattle.rules.proofs.Acceptance as B
 use Rattle.rules.proofs.Checks.{at-trailer}
-use Rattle.clause.specs.Read.{RecordRead, RulesRead}
+use Rattle.clause.specs.Read.{RecordRead, RulesRead, ClauseRead}
 
 said : (words : Bool) (n size : ℕ) → (words && (eqb n size && leb size text-max)) ≡ true → size ≡ n
 said words n size t =
@@ -44,3 +53,26 @@ rules-read ws ts form a =
         ⊎-elim (λ (t : (F.wordsOk ws && F.textOk ws (length ts)) ≡ true). t)
         (λ (t : (F.wordsOk ws && F.textOk ws (length ts)) ≡ false). A.clash (rulesOutcome ws ts) (form .m) 5 0 (a .accepts) (at-trailer ws ts t))
         (decide (F.wordsOk ws && F.textOk ws (length ts)))
+
+-- ---- a clause of a schema
+
+module _ {rs us : List ℕ} {form : RuleForm} (R : RulesRead rs us form) {s first i : ℕ} (low : s < form .m) (at : first ≡ S.schemaAt rs s .first) (h : i < S.schemaAt rs s .count) where
+  formed : RulesFormed rs form
+  formed = R .laid .clauses-laid .schemas-laid .formed
+
+  pub clause-low : first + i < form .c
+  clause-low = omega (arith, schema-within rs form (R .laid .clauses-laid .schemas-laid) s low, form-c rs form formed)
+
+  pub clause-small : first + i < 4294967296
+  clause-small = let a = trailer-facts rs (formed .trailer) in omega (arith, clause-low, form-c rs form formed, a .few-clauses)
+
+  pub clause-read : {clause : Clause} → ((vs : List ℕ) → clauseMeans rs vs clause ≡ S.clauseOf rs vs (first + i)) → Tested rs form clause
+      → ClauseRead rs us form s first i clause
+  clause-read means tested =
+      record {
+        schema-in = low;
+        first-is = at;
+        clause-in = h;
+        means = means us ∙ rw at (sym (clause-item rs us s (omega (arith, form-m rs form formed)) i (asserts never) h));
+        tested = tested;
+      }

@@ -1,11 +1,11 @@
 -- What is asked of the sheets that a test reads, and how a value's type, number and size are held on the way to a test.
 -- Assumes nothing.
-use mathlib.Core.Bool.{true}
+use mathlib.Core.Bool.{Bool, true}
 use mathlib.Core.List.{List}
 use mathlib.Core.Option.{Option, none, some}
 use mathlib.Core.Path.{_≡_}
 use Prim.Native.Nat.{ℕ, _+_, _≤_, _<_}
-use lib.ListN.{length}
+use lib.ListN.{length, getD, take}
 use lib.IntN.{ℤ}
 use Rattle.laws.specs.Lowest.{lowest}
 use Rattle.decimal.specs.Value.{value, Plain}
@@ -18,11 +18,16 @@ use Rattle.sheet.specs.Accepted.{Laid}
 use Rattle.rulesheet.specs.declared.code.Fields.{Fields}
 use Rattle.rulesheet.specs.declared.form.RuleForm.{RuleForm}
 use Rattle.rulesheet.specs.declared.clause.Entries.{Entries}
+use Rattle.rulesheet.specs.declared.clause.Clause.{Clause}
+use Rattle.rulesheet.specs.Ruleset as R
+use Rattle.rulesheet.specs.Ruleset.{Test, never, asserts}
 use Rattle.rulesheet.specs.Sheet as S
 use Rattle.rulesheet.specs.Faults.{entryOk}
 use Rattle.rulesheet.specs.Read.{RulesLaid}
+use Rattle.rulesheet.specs.Clauses.{clauseMeans, Tested}
 use Rattle.meaning.specs.Tests.{number?}
-use Rattle.meaning.specs.Rules.{called}
+use Rattle.meaning.specs.Rules.{called, passes}
+use Rattle.clause.specs.declared.test.Tried as T
 use Rattle.clause.specs.declared.numbers.Numbered as N
 use Rattle.clause.specs.declared.sizes.Measured as M
 
@@ -40,6 +45,30 @@ pub record RulesRead (ws ts : List ℕ) (form : RuleForm) : Type 0 where
 pub record ListRead (ws : List ℕ) (form : RuleForm) (fields : Fields) (list : Entries) : Type 0 where
   pub within : list .first + list .count ≤ form .e
   pub listed : (i : ℕ) → i < list .count → entryOk fields (S.textWord ws) (S.schemasWord ws) (S.entryAt ws (list .first + i)) ≡ true
+
+-- ---- a clause of a schema
+
+-- the clauses of schema s: number i, and those before it
+abbrev pub clauseIn : List ℕ → List ℕ → ℕ → ℕ → R.Clause
+clauseIn rs us s i = getD (S.rulesOf rs us .clauses s) i (asserts never)
+
+abbrev pub beforeIn : List ℕ → List ℕ → ℕ → ℕ → List R.Clause
+beforeIn rs us s i = take i (S.rulesOf rs us .clauses s)
+
+-- clause i of schema s was read, whose clauses start at `first`
+pub record ClauseRead (rs us : List ℕ) (form : RuleForm) (s first i : ℕ) (clause : Clause) : Type 0 where
+  pub schema-in : s < form .m
+  pub first-is : first ≡ S.schemaAt rs s .first
+  pub clause-in : i < S.schemaAt rs s .count
+  pub means : clauseMeans rs us clause ≡ clauseIn rs us s i
+  pub tested : Tested rs form clause
+
+-- what trying the clause c on row j tells: whether the row passes its test, or that it has none
+abbrev pub Tries : Doc → ℕ → R.Clause → T.Tried → Type 0
+Tries d j c (T.the-variants.Passed ok) = (t : Test) × (c ≡ asserts t) × (ok ≡ passes d j t)
+Tries d j c T.the-variants.Applies = (t : Test) → c ≡ asserts t → ⊥
+
+-- ---- types, numbers and sizes on the way to a test
 
 -- 01's number of the type that the rows of a kind have; a whole number is an integer besides
 abbrev pub typeNumber : RowKind → ℕ

@@ -16,7 +16,7 @@ use sheet::record::RecordForm;
 use sheet::record::RecordRow;
 
 // Whether the row, if it is a number, is at least the limit.
-pub fn minimum(record: &[u32], form: RecordForm, row: RecordRow, limit: Decimal) -> bool
+pub(crate) fn minimum(record: &[u32], form: RecordForm, row: RecordRow, limit: Decimal) -> bool
     requires { ⌜ Laid (now «record») form × (row .0 < form .rows) × Plain limit ⌝ }
     ensures { λ r. ⌜ ((ts : List ℕ) → r ≡ given (number? (docOf (now («record» .entry)) ts .value (row .0))) (λ y. leZ (value limit) y)) ⌝ }
 {
@@ -28,7 +28,7 @@ pub fn minimum(record: &[u32], form: RecordForm, row: RecordRow, limit: Decimal)
 }
 
 // Whether the row, if it is a number, is at most the limit.
-pub fn maximum(record: &[u32], form: RecordForm, row: RecordRow, limit: Decimal) -> bool
+pub(crate) fn maximum(record: &[u32], form: RecordForm, row: RecordRow, limit: Decimal) -> bool
     requires { ⌜ Laid (now «record») form × (row .0 < form .rows) × Plain limit ⌝ }
     ensures { λ r. ⌜ ((ts : List ℕ) → r ≡ given (number? (docOf (now («record» .entry)) ts .value (row .0))) (λ y. leZ y (value limit))) ⌝ }
 {
@@ -40,7 +40,12 @@ pub fn maximum(record: &[u32], form: RecordForm, row: RecordRow, limit: Decimal)
 }
 
 // Whether the row, if it is a number, is above the limit.
-pub fn exclusive_minimum(record: &[u32], form: RecordForm, row: RecordRow, limit: Decimal) -> bool
+pub(crate) fn exclusive_minimum(
+    record: &[u32],
+    form: RecordForm,
+    row: RecordRow,
+    limit: Decimal,
+) -> bool
     requires { ⌜ Laid (now «record») form × (row .0 < form .rows) × Plain limit ⌝ }
     ensures { λ r. ⌜ ((ts : List ℕ) → r ≡ given (number? (docOf (now («record» .entry)) ts .value (row .0))) (λ y. ltZ (value limit) y)) ⌝ }
 {
@@ -52,7 +57,12 @@ pub fn exclusive_minimum(record: &[u32], form: RecordForm, row: RecordRow, limit
 }
 
 // Whether the row, if it is a number, is below the limit.
-pub fn exclusive_maximum(record: &[u32], form: RecordForm, row: RecordRow, limit: Decimal) -> bool
+pub(crate) fn exclusive_maximum(
+    record: &[u32],
+    form: RecordForm,
+    row: RecordRow,
+    limit: Decimal,
+) -> bool
     requires { ⌜ Laid (now «record») form × (row .0 < form .rows) × Plain limit ⌝ }
     ensures { λ r. ⌜ ((ts : List ℕ) → r ≡ given (number? (docOf (now («record» .entry)) ts .value (row .0))) (λ y. ltZ y (value limit))) ⌝ }
 {
@@ -64,7 +74,7 @@ pub fn exclusive_maximum(record: &[u32], form: RecordForm, row: RecordRow, limit
 }
 
 // Whether the row, if it is a number, is the limit times a whole number.
-pub fn multiple_of(record: &[u32], form: RecordForm, row: RecordRow, limit: Decimal) -> bool
+pub(crate) fn multiple_of(record: &[u32], form: RecordForm, row: RecordRow, limit: Decimal) -> bool
     requires { ⌜ Laid (now «record») form × (row .0 < form .rows) × Plain limit ⌝ }
     ensures { λ r. ⌜ ((ts : List ℕ) → r ≡ given (number? (docOf (now («record» .entry)) ts .value (row .0))) (λ y. isMultiple y (value limit))) ⌝ }
 {

@@ -53,7 +53,7 @@ pub fn child_named<'a>(
 }
 
 // Whether the row, if it is an object, has a member of each name of the list.
-pub fn required<'a>(
+pub(crate) fn required<'a>(
     record: &[u32],
     text: &'a [u8],
     form: RecordForm,

@@ -22,7 +22,7 @@ pub enum Numbered {
 }
 
 // Whether the row is of the kind that has this number.
-pub fn is_kind(record: &[u32], form: RecordForm, row: RecordRow, kind: u32) -> bool
+pub(crate) fn is_kind(record: &[u32], form: RecordForm, row: RecordRow, kind: u32) -> bool
     requires { ⌜ Formed (now «record») form × (row .0 < form .rows) ⌝ }
     ensures { λ r. ⌜ ((ts : List ℕ) → r ≡ eqb (numberOf (valueKind (docOf (now («record» .entry)) ts .value (row .0)))) kind) ⌝ }
 {
@@ -30,7 +30,7 @@ pub fn is_kind(record: &[u32], form: RecordForm, row: RecordRow, kind: u32) -> b
 }
 
 // The row's number, if it is one.
-pub fn number_in(record: &[u32], form: RecordForm, row: RecordRow) -> Numbered
+pub(crate) fn number_in(record: &[u32], form: RecordForm, row: RecordRow) -> Numbered
     requires { ⌜ Laid (now «record») form × (row .0 < form .rows) ⌝ }
     ensures { λ r. ⌜ ((ts : List ℕ) → NumberFound (docOf (now («record» .entry)) ts .value (row .0)) r) ⌝ }
 {

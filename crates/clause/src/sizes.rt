@@ -22,7 +22,7 @@ pub enum Measured {
 }
 
 // The length of a string, in bytes.
-pub fn length_of(record: &[u32], text: &[u8], form: RecordForm, row: RecordRow) -> Measured
+pub(crate) fn length_of(record: &[u32], text: &[u8], form: RecordForm, row: RecordRow) -> Measured
     requires { ⌜ RecordRead (now «record») (now text) form × (row .0 < form .rows) ⌝ }
     ensures { λ r. ⌜ sizeIn r ≡ sizeOf (bytes? (docOf (now («record» .entry)) (now (text .entry)) .value (row .0))) ⌝ }
 {
@@ -75,7 +75,13 @@ fn at_most(found: Measured, k: u32) -> bool
 }
 
 // Whether the row, if it is a string, has at least k bytes.
-pub fn min_length(record: &[u32], text: &[u8], form: RecordForm, row: RecordRow, k: u32) -> bool
+pub(crate) fn min_length(
+    record: &[u32],
+    text: &[u8],
+    form: RecordForm,
+    row: RecordRow,
+    k: u32,
+) -> bool
     requires { ⌜ RecordRead (now «record») (now text) form × (row .0 < form .rows) ⌝ }
     ensures { λ r. ⌜ r ≡ atLeast k (bytes? (docOf (now («record» .entry)) (now (text .entry)) .value (row .0))) ⌝ }
 {
@@ -83,7 +89,13 @@ pub fn min_length(record: &[u32], text: &[u8], form: RecordForm, row: RecordRow,
 }
 
 // Whether the row, if it is a string, has at most k bytes.
-pub fn max_length(record: &[u32], text: &[u8], form: RecordForm, row: RecordRow, k: u32) -> bool
+pub(crate) fn max_length(
+    record: &[u32],
+    text: &[u8],
+    form: RecordForm,
+    row: RecordRow,
+    k: u32,
+) -> bool
     requires { ⌜ RecordRead (now «record») (now text) form × (row .0 < form .rows) ⌝ }
     ensures { λ r. ⌜ r ≡ atMost k (bytes? (docOf (now («record» .entry)) (now (text .entry)) .value (row .0))) ⌝ }
 {
@@ -91,7 +103,7 @@ pub fn max_length(record: &[u32], text: &[u8], form: RecordForm, row: RecordRow,
 }
 
 // Whether the row, if it is an array, has at least k elements.
-pub fn min_items(record: &[u32], form: RecordForm, row: RecordRow, k: u32) -> bool
+pub(crate) fn min_items(record: &[u32], form: RecordForm, row: RecordRow, k: u32) -> bool
     requires { ⌜ Laid (now «record») form × (row .0 < form .rows) ⌝ }
     ensures { λ r. ⌜ ((ts : List ℕ) → r ≡ atLeast k (elements? (docOf (now («record» .entry)) ts .value (row .0)))) ⌝ }
 {
@@ -99,7 +111,7 @@ pub fn min_items(record: &[u32], form: RecordForm, row: RecordRow, k: u32) -> bo
 }
 
 // Whether the row, if it is an array, has at most k elements.
-pub fn max_items(record: &[u32], form: RecordForm, row: RecordRow, k: u32) -> bool
+pub(crate) fn max_items(record: &[u32], form: RecordForm, row: RecordRow, k: u32) -> bool
     requires { ⌜ Laid (now «record») form × (row .0 < form .rows) ⌝ }
     ensures { λ r. ⌜ ((ts : List ℕ) → r ≡ atMost k (elements? (docOf (now («record» .entry)) ts .value (row .0)))) ⌝ }
 {
@@ -107,7 +119,7 @@ pub fn max_items(record: &[u32], form: RecordForm, row: RecordRow, k: u32) -> bo
 }
 
 // Whether the row, if it is an object, has at least k members.
-pub fn min_properties(record: &[u32], form: RecordForm, row: RecordRow, k: u32) -> bool
+pub(crate) fn min_properties(record: &[u32], form: RecordForm, row: RecordRow, k: u32) -> bool
     requires { ⌜ Laid (now «record») form × (row .0 < form .rows) ⌝ }
     ensures { λ r. ⌜ ((ts : List ℕ) → r ≡ atLeast k (members? (docOf (now («record» .entry)) ts .value (row .0)))) ⌝ }
 {
@@ -115,7 +127,7 @@ pub fn min_properties(record: &[u32], form: RecordForm, row: RecordRow, k: u32) 
 }
 
 // Whether the row, if it is an object, has at most k members.
-pub fn max_properties(record: &[u32], form: RecordForm, row: RecordRow, k: u32) -> bool
+pub(crate) fn max_properties(record: &[u32], form: RecordForm, row: RecordRow, k: u32) -> bool
     requires { ⌜ Laid (now «record») form × (row .0 < form .rows) ⌝ }
     ensures { λ r. ⌜ ((ts : List ℕ) → r ≡ atMost k (members? (docOf (now («record» .entry)) ts .value (row .0)))) ⌝ }
 {

@@ -42,7 +42,7 @@ fn has_type(mask: u32, number: u32) -> bool
 
 // Whether the row has one of the mask's types. A number is an integer by its value, however it is
 // written.
-pub fn typed(record: &[u32], form: RecordForm, row: RecordRow, mask: u32) -> bool
+pub(crate) fn typed(record: &[u32], form: RecordForm, row: RecordRow, mask: u32) -> bool
     requires { ⌜ Laid (now «record») form × (row .0 < form .rows) ⌝ }
     ensures { λ r. ⌜ ((ts : List ℕ) → r ≡ typed mask (docOf (now («record» .entry)) ts .value (row .0))) ⌝ }
 {

@@ -59,7 +59,7 @@ fn equals_entry<'a>(
 }
 
 // Whether the row's value is one of the list's.
-pub fn enum_holds<'a>(
+pub(crate) fn enum_holds<'a>(
     record: &[u32],
     text: &'a [u8],
     form: RecordForm,

@@ -17,18 +17,16 @@ use Rattle.sheet.specs.Record as D
 use Rattle.sheet.specs.Record.{rowsWord, docOf}
 use Rattle.sheet.specs.Faults as F
 use Rattle.sheet.specs.Faults.{recordOutcome}
-use Rattle.sheet.specs.Accepted.{AcceptedRecord}
 use Rattle.rulesheet.specs.declared.form.RuleForm.{RuleForm}
 use Rattle.rulesheet.specs.Sheet as C
 use Rattle.rulesheet.specs.Sheet.{schemasWord, rulesOf}
 use Rattle.rulesheet.specs.Faults as G
 use Rattle.rules.specs.Check.{rulesOutcome}
-use Rattle.rules.specs.Accepted.{AcceptedRules}
 use Rattle.meaning.specs.Answer.{valid, invalid, Left, verdict, judged, judge}
 use Rattle.meaning.proofs.Answers.{rows-are, schemas-are, call-judged, fits}
 use Rattle.clause.proofs.Reading.{record-read, rules-read}
 use Rattle.judge.specs.declared.cycle.Verdict.{Verdict}
-use Rattle.judge.specs.State.{caseOf, Sheets, Fits}
+use Rattle.judge.specs.State.{caseOf, Sheets}
 use Rattle.judge.specs.Whole.{Roomy, leftBy, judgedOf}
 use Rattle.judge.proofs.Going.{pairs-few}
 

@@ -15,11 +15,11 @@ use Rattle.laws.proofs.Tests.{decide}
 use Rattle.meaning.specs.Rules.{Pair, Marks, _∪_, Result, answer, applied, clause}
 use Rattle.meaning.specs.Settling.{samePair, inTurn}
 use Rattle.meaning.proofs.Settled.{same-pair}
-use Rattle.areas.specs.Cells.{verd}
+use Rattle.areas.specs.Cells.{verd, cellAt, Unsettled}
 use Rattle.areas.specs.Writers.{Shut, Marked, kept}
 use Rattle.steps.proofs.Plans.{clause-same}
 use Rattle.judge.specs.declared.cycle.Done.{Done}
-use Rattle.judge.specs.State.{Case, Kid, firstKid, kidCount, rankOf, truthOf, settleOf, clausesOf, clauseAt, beforeOf, cellAt, bitsOf, overlay, doneOf, Areas, Quiet, Ready, Unsettled, Judged, ClauseJudged}
+use Rattle.judge.specs.State.{Case, Kid, firstKid, kidCount, rankOf, truthOf, settleOf, clausesOf, clauseAt, beforeOf, bitsOf, overlay, doneOf, Areas, Quiet, Ready, Judged, ClauseJudged}
 use Rattle.judge.proofs.Pairs.{both, shut, resAt, doneAt, truth-at, settle-old, settle-at, settle-self, turn-new, turn-grows}
 use Rattle.judge.proofs.State.{overlay-self, overlay-other, areas-done, areas-bits, areas-listed, areas-free, areas-said, areas-then, areas-settle}
 use Rattle.judge.proofs.Going.{Going, going-pair, going-bits, going-mark, going-open, open-bits}

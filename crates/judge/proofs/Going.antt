@@ -15,23 +15,23 @@ use native.Mathlib.Nat.{le-refl, mul-le-mul-right, mul-comm}
 use native.Mathlib.Numerals.{add-one}
 use native.Mathlib.Omega.{arith}
 use lib.Dec.{eqb}
-use lib.ListN.{length, getD}
+use lib.ListN.{getD}
 use borrow.Author.Tests.{eqb-true}
 use Rattle.laws.proofs.Tests.{decide}
 use Rattle.meaning.specs.Rules.{Pair, Marks, nothing, _∪_, answer, applied, clause}
 use Rattle.meaning.specs.Settling.{samePair, listed, inTurn}
 use Rattle.meaning.proofs.Words.{row-inside}
 use Rattle.meaning.proofs.Settled.{same-pair}
-use Rattle.areas.specs.Cells.{verd, column, plus}
+use Rattle.areas.specs.Cells.{verd, column, plus, cellAt, Unsettled}
 use Rattle.areas.specs.Writers.{Open, Writes, Marked, passed, Passes}
-use Rattle.areas.proofs.Cells.{mark-read, settled-room}
+use Rattle.areas.proofs.Cells.{settledAs-read, settled-room}
 use Rattle.steps.specs.Folds.{hitsBy, gives, marksBy, doneBy}
 use Rattle.steps.specs.Plan.{stepsOf, aimOf, goOf, finishOf}
 use Rattle.steps.specs.Turns.{Skipped}
 use Rattle.steps.proofs.Folds.{or-no, done-picked}
 use Rattle.steps.proofs.Plans.{Aimed, applied-is, holds-is, marks-is, go-is, go-same, aimed}
 use Rattle.judge.specs.declared.cycle.Done.{Done}
-use Rattle.judge.specs.State.{Case, Fits, In, Kid, firstKid, kidCount, rankOf, truthOf, settleOf, clausesOf, clauseAt, beforeOf, cellAt, bitsOf, overlay, doneOf, Areas, Quiet, Ready, Unsettled, Judged, ClauseJudged}
+use Rattle.judge.specs.State.{Case, Fits, In, Kid, firstKid, kidCount, rankOf, truthOf, settleOf, clausesOf, clauseAt, beforeOf, bitsOf, overlay, doneOf, Areas, Quiet, Ready, Judged, ClauseJudged}
 use Rattle.judge.proofs.Pairs.{settle-self, settle-still, settle-new, settle-grows}
 use Rattle.judge.proofs.State.{cond-else, not-same, overlay-self, overlay-other, areas-done, areas-bits, areas-marks, areas-self, areas-free, areas-unsettled, areas-cell, areas-then, areas-mark}
 
@@ -314,7 +314,7 @@ module _ {T : Case} {p : Pair} {cl : ℕ} {c₀ l₀ : List ℕ} {n₀ i : ℕ} 
       (λ k ch.
       passed-gives G (z .inside) (settle-self T (S .going .fit) q D) k ch ∙ ap (λ (x : Pair). κ k || gives (truthOf T) p x k) same ∙ sym (rw w)) in
       let f : settleOf T q D ≡ cond (goes T p cl κ₀ i) (settleOf T (aims T p cl i) D) D = ap (λ (x : Pair). settleOf T x D) same ∙ sym (rw w) in
-      let b : eqb v 1 ≡ (truthOf T (aims T p cl i)) .holds = mark-read ((truthOf T q) .holds) v (read ∙ j .settled) ∙ ap (λ (x : Pair). (truthOf T x) .holds) same in
+      let b : eqb v 1 ≡ (truthOf T (aims T p cl i)) .holds = settledAs-read ((truthOf T q) .holds) v (read ∙ j .settled) ∙ ap (λ (x : Pair). (truthOf T x) .holds) same in
       let e : h ≡ plus misses (not ((truthOf T (aims T p cl i)) .holds)) = u ∙ ap (λ (x : Bool). plus misses (not x)) b in
       rw (add-one i)
       (record {

@@ -1,8 +1,8 @@
 pub mod State
 pub mod Pairs
 pub mod Going
-pub mod Turning
 pub mod Claused
+pub mod Turning
 pub mod Whole
 pub mod Reading
 pub mod Calls

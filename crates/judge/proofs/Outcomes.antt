@@ -4,7 +4,7 @@
 --     judge-demands  the three demands of every call
 -- Assumes nothing.
 use mathlib.Core.List.{List}
-use mathlib.Core.Path.{_≡_, refl, sym, ap, _∙_}
+use mathlib.Core.Path.{_≡_, sym, ap, _∙_}
 use Prim.Native.Nat.{ℕ}
 use Rattle.sheet.specs.Refusals.{refusalNumber}
 use Rattle.sheet.proofs.Tables.{number-one}

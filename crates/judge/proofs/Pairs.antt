@@ -4,19 +4,18 @@
 --     settle-old, settle-kept, settle-self, settle-still, settle-new, settle-grows     what settling a pair does to the list
 --     turn-new, turn-grows                                                             and settling some in turn
 -- Assumes nothing.
-use mathlib.Core.Bool.{Bool, true, false, _&&_, cond, true≢false}
-use mathlib.Core.List.{List, [], _∷_, _++_, append-nil, List·Memᴰ as Has}
+use mathlib.Core.Bool.{true, false, _&&_, cond, true≢false}
+use mathlib.Core.List.{List, [], _∷_, _++_, append-nil}
 use mathlib.Core.Logic.{⊎-elim}
 use mathlib.Core.Path.{_≡_, refl, sym, ap, _∙_}
 use Prim.Native.Nat.{ℕ, zero, suc, _+_, _<_, _≤_}
 use native.Mathlib.Nat.{le-refl, le-trans}
-use native.Mathlib.Numerals.{add-one}
 use native.Mathlib.Omega.{arith}
-use lib.ListN.{length, getD, take, drop, length-append}
+use lib.ListN.{length, drop, length-append}
 use lib.Seq.{take-suc, drop-cons}
 use Rattle.unguarded.proofs.Lists.{is-false}
 use Rattle.rulesheet.specs.Ruleset.{never, Clause, asserts}
-use Rattle.meaning.specs.Rules.{Pair, Marks, nothing, _∪_, Result, Judgement, found, answer, applied, andThen, clause, clauses, depth, judgement, truth, applies}
+use Rattle.meaning.specs.Rules.{Pair, nothing, _∪_, Result, Judgement, found, answer, applied, clause, clauses, depth, judgement, applies}
 use Rattle.meaning.specs.Settling.{listed, inTurn, settle}
 use Rattle.meaning.proofs.Judgements.{answer-then, applied-then}
 use Rattle.meaning.proofs.Steps.{deep}

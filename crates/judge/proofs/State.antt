@@ -4,28 +4,26 @@
 --     areas-mark       marks were written
 --     areas-settle     a pair was settled
 -- Assumes nothing.
-use mathlib.Core.Bool.{Bool, true, false, not, _&&_, _||_, cond, true≢false, or-true}
+use mathlib.Core.Bool.{Bool, true, false, cond, true≢false}
 use mathlib.Core.List.{List, [], _∷_, _++_, map, append-assoc, List·Memᴰ as Has, List·Memᴰ·head as at-head, List·Memᴰ·tail as in-tail}
 use mathlib.Core.List.{List·Memᴰ·append-cases, List·Memᴰ·eq-of-singleton}
-use mathlib.Core.Logic.{_⊎_, inl, inr, ⊎-elim}
+use mathlib.Core.Logic.{_⊎_, ⊎-elim}
 use mathlib.Core.Path.{_≡_, refl, sym, ap, _∙_, subst}
-use Prim.Native.Nat.{ℕ, zero, suc, _+_, _*_, _-_, _<_, _≤_, _/_, _%_}
+use Prim.Native.Nat.{ℕ, suc, _+_, _*_, _-_, _<_, _≤_}
 use native.Mathlib.Omega.{arith}
-use lib.Dec.{eqb, ltb}
 use lib.ListN.{length, getD, set, take, drop, length-append, length-map, length-set, length-drop, take-append-drop}
 use lib.Seq.{getD-set-same, getD-set-other, take-at, drop-append-add, drop-drop, drop-cons, set-at}
 use borrow.Author.Tests.{eq-eqb}
 use Rattle.laws.proofs.Tests.{decide}
-use Rattle.sheet.specs.Doc.{firstChild, childCount}
-use Rattle.meaning.specs.Rules.{Pair, Marks, Result}
+use Rattle.meaning.specs.Rules.{Pair, Marks}
 use Rattle.meaning.specs.Settling.{samePair, listed}
 use Rattle.meaning.proofs.Words.{row-of, rule-of, row-inside, word-inside}
 use Rattle.meaning.proofs.Settled.{same-pair, self, in-listed, last-in}
 use Rattle.steps.proofs.Folds.{map-append, eq-or}
-use Rattle.areas.specs.Cells.{cellOf, verd, bit, mark, column, settledOf}
+use Rattle.areas.specs.Cells.{verd, bit, settledAs, column, settledOf, cellAt, Unsettled}
 use Rattle.areas.specs.Writers.{Open, Shut, Writes, Marked}
-use Rattle.areas.proofs.Cells.{mark-some, same-row, same-rule, verd-settle, bit-settle, settle-small, settled-set, settled-same}
-use Rattle.judge.specs.State.{Case, Fits, In, Kid, firstKid, kidCount, rankOf, truthOf, cellAt, pairOf, bitsOf, overlay, doneOf, Areas, Unsettled}
+use Rattle.areas.proofs.Cells.{settledAs-some, same-row, same-rule, verd-settle, bit-settle, settle-small, settled-set, settled-same}
+use Rattle.judge.specs.State.{Case, Fits, In, Kid, firstKid, kidCount, truthOf, pairOf, bitsOf, overlay, doneOf, Areas}
 
 -- ---- tests
 
@@ -114,13 +112,13 @@ module _ {T : Case} {done : List Pair} {held : Pair → Marks} {l₀ c l : List 
   areas-listed q i f = ⊎-elim (λ e. e) (λ e. absurd (f (A .said q i ∙ rw e))) (decide (listed q done))
 
   pub areas-free : (q : Pair) → In T q → verd (getD c (cellAt (T .m) q) 0) ≡ 0 → listed q done ≡ false
-  areas-free q i e = no-true _ (λ g. mark-some ((truthOf T q) .holds) (sym (A .said q i ∙ rw g) ∙ e))
+  areas-free q i e = no-true _ (λ g. settledAs-some ((truthOf T q) .holds) (sym (A .said q i ∙ rw g) ∙ e))
 
   pub areas-unsettled : (q : Pair) → In T q → listed q done ≡ false → Unsettled (T .m) q c
   unfolding Unsettled
   areas-unsettled q i e = A .said q i ∙ rw e
 
-  pub areas-said : (q : Pair) → In T q → listed q done ≡ true → verd (getD c (cellAt (T .m) q) 0) ≡ mark ((truthOf T q) .holds)
+  pub areas-said : (q : Pair) → In T q → listed q done ≡ true → verd (getD c (cellAt (T .m) q) 0) ≡ settledAs ((truthOf T q) .holds)
   areas-said q i e = A .said q i ∙ rw e
 
   pub areas-cell : (q : Pair) → In T q → cellAt (T .m) q < length c
@@ -198,7 +196,7 @@ areas-settle {T} {done} held {l₀} {c} {c′} {l} {l′} {n} {r} {i} {p} κ {ok
   room = ap length (S .entry) ∙ length-set l n i ∙ A .room ∙ sym (ap length (S .cell) ∙ length-set c i _);
   small = λ j. ⊎-elim (λ d. let a = cell-same j d in let b = settle-small x ok (O .unsettled) (A .small i) in omega arith) (λ d. let a = cell-other j d in let b = A .small j in omega arith) (eq-or j i);
   said = λ q h. ⊎-elim
-      (λ d. subst (λ (y : Pair). verd (getD c′ (cellAt (T .m) y) 0) ≡ cond (listed y (done ++ p ∷ [])) (mark ((truthOf T y) .holds)) 0) (sym (same-pair q p d)) said-p)
+      (λ d. subst (λ (y : Pair). verd (getD c′ (cellAt (T .m) y) 0) ≡ cond (listed y (done ++ p ∷ [])) (settledAs ((truthOf T y) .holds)) 0) (sym (same-pair q p d)) said-p)
       (λ d. ap verd (cell-other _ (apart q h d)) ∙ A .said q h ∙ rw (listed-other done p q d))
       (decide (samePair q p));
   shown = λ q k h ch. ⊎-elim
@@ -209,17 +207,17 @@ areas-settle {T} {done} held {l₀} {c} {c′} {l} {l′} {n} {r} {i} {p} κ {ok
   tidy = λ q i. ⊎-elim (λ j. A .tidy q j) (λ j. subst (In T) (sym (List·Memᴰ·eq-of-singleton j)) inside) (List·Memᴰ·append-cases done i);
   lists = S .entry ∙ listing;
   counts = S .one-more ∙ ap (λ (y : ℕ). y + 1) (A .counts) ∙ sym (length-append done (p ∷ []));
-  counted = ap settledOf (S .cell) ∙ settled-set c i (x + mark ok) (O .in-cells) (O .unsettled) (λ z. mark-some ok (sym (verd-settle x ok (O .unsettled)) ∙ z)) ∙ ap (λ (y : ℕ). y + 1) (A .counted) ∙ sym (S .one-more);
+  counted = ap settledOf (S .cell) ∙ settled-set c i (x + settledAs ok) (O .in-cells) (O .unsettled) (λ z. settledAs-some ok (sym (verd-settle x ok (O .unsettled)) ∙ z)) ∙ ap (λ (y : ℕ). y + 1) (A .counted) ∙ sym (S .one-more);
 }
   where
     x : ℕ
     x = getD c i 0
 
-    cell-same : (j : ℕ) → j ≡ i → getD c′ j 0 ≡ x + mark ok
-    cell-same j d = ap (λ (y : ℕ). getD c′ y 0) d ∙ ap (λ (y : List ℕ). getD y i 0) (S .cell) ∙ getD-set-same c i (x + mark ok) 0 (O .in-cells)
+    cell-same : (j : ℕ) → j ≡ i → getD c′ j 0 ≡ x + settledAs ok
+    cell-same j d = ap (λ (y : ℕ). getD c′ y 0) d ∙ ap (λ (y : List ℕ). getD y i 0) (S .cell) ∙ getD-set-same c i (x + settledAs ok) 0 (O .in-cells)
 
     cell-other : (j : ℕ) → (j ≡ i → ⊥) → getD c′ j 0 ≡ getD c j 0
-    cell-other j d = ap (λ (y : List ℕ). getD y j 0) (S .cell) ∙ getD-set-other c i j (x + mark ok) 0 d
+    cell-other j d = ap (λ (y : List ℕ). getD y j 0) (S .cell) ∙ getD-set-other c i j (x + settledAs ok) 0 d
 
     bits : (j : ℕ) → bit (getD c′ j 0) ≡ bit (getD c j 0)
     bits j = ⊎-elim (λ d. ap bit (cell-same j d) ∙ bit-settle x ok (O .unsettled) ∙ ap (λ (y : ℕ). bit (getD c y 0)) (sym d)) (λ d. ap bit (cell-other j d)) (eq-or j i)
@@ -227,8 +225,8 @@ areas-settle {T} {done} held {l₀} {c} {c′} {l} {l′} {n} {r} {i} {p} κ {ok
     apart : (q : Pair) → In T q → samePair q p ≡ false → cellAt (T .m) q ≡ i → ⊥
     apart q h d z = true≢false (sym (together q p (same-row (T .m) (q .row) (q .rule) (p .row) (p .rule) (h .rule-in) (inside .rule-in) (z ∙ at)) (same-rule (T .m) (q .row) (q .rule) (p .row) (p .rule) (h .rule-in) (inside .rule-in) (z ∙ at))) ∙ d)
 
-    said-p : verd (getD c′ (cellAt (T .m) p) 0) ≡ cond (listed p (done ++ p ∷ [])) (mark ((truthOf T p) .holds)) 0
-    said-p = ap verd (cell-same _ (sym at)) ∙ verd-settle x ok (O .unsettled) ∙ ap mark e ∙ sym (rw (listed-last done p))
+    said-p : verd (getD c′ (cellAt (T .m) p) 0) ≡ cond (listed p (done ++ p ∷ [])) (settledAs ((truthOf T p) .holds)) 0
+    said-p = ap verd (cell-same _ (sym at)) ∙ verd-settle x ok (O .unsettled) ∙ ap settledAs e ∙ sym (rw (listed-last done p))
 
     shown-p : (k : ℕ) → Kid T (p .row) k → column (T .m) c′ (p .rule) k ≡ cond (listed p (done ++ p ∷ [])) ((truthOf T p) .marks k) (held p k)
     shown-p k ch = bits _ ∙ A .shown p k inside ch ∙ rw (free, listed-last done p) (overlay-self p κ held k ∙ f k ch)

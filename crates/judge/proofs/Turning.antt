@@ -1,51 +1,69 @@
--- A clause of a pair in progress between two of its steps: the loop over the pairs that it applies.
+-- A clause of a pair in progress between two of its steps: the loop over the pairs that it applies. And a clause that only tests.
+--     claused-test              a test was tried
 --     Turning, turning          the clause stands where a turn says
 --     turning-first, turning-more     it begins, and a pair that it applies was judged
 --     turning-aim, turning-ready      that pair, and what applying it asks
---     advance-first, advance-more     what working out where the clause stands asks
+--     turning-passes, turning-next    what passing on, and working out where the clause stands next, ask
 --     left, left-less           how far it has to go
 --     cell-asks                 what reading a pair's cell asks
 -- Assumes nothing.
-use mathlib.Core.Bool.{Bool, true, false, not, cond}
+use mathlib.Core.Bool.{Bool, true, false, not, _&&_, cond}
 use mathlib.Core.List.{List, List·Memᴰ as Has}
 use mathlib.Core.Path.{_≡_, refl, sym, _∙_, subst}
 use Prim.Native.Nat.{ℕ, _+_, _-_, _*_, _<_, _≤_}
 use native.Mathlib.Omega.{arith}
 use lib.Dec.{eqb}
 use lib.ListN.{length, getD}
-use Rattle.sheet.specs.Record.{formOf}
-use Rattle.rulesheet.specs.Sheet as RS
-use Rattle.rulesheet.specs.Sheet.{schemasWord, schemaAt}
-use Rattle.meaning.specs.Rules.{Pair, Marks}
-use Rattle.areas.specs.Cells.{verd, column, plus}
+use Rattle.rulesheet.specs.Ruleset.{Test, asserts}
+use Rattle.meaning.specs.Rules.{Pair, Marks, passes}
+use Rattle.areas.specs.Cells.{pairIs, cellAt, verd, Unsettled, column, plus}
+use Rattle.areas.specs.Writers.{Marked, passed, Passes}
+use Rattle.clause.specs.Read.{Tries}
+use Rattle.clause.specs.declared.test.Tried.the-variants.{Passed}
 use Rattle.steps.specs.declared.turn.Turn.{Turn}
-use Rattle.steps.specs.Plan.{finishOf}
-use Rattle.steps.specs.Read.{Started}
-use Rattle.steps.specs.Turns.{pairIs, Skipped, Turned}
+use Rattle.steps.specs.Plan.{stepsOf, finishOf}
+use Rattle.steps.specs.Turns.{Skipped, Turned}
 use Rattle.judge.specs.declared.cycle.Done.{Done}
-use Rattle.judge.specs.State.{Case, caseOf, Sheets, Fits, In, rankOf, clausesOf, clauseAt, beforeOf, cellAt, bitsOf, Areas, Ready, Unsettled, Judged, ClauseJudged, Advances, Advanced}
+use Rattle.judge.specs.State.{Case, Fits, In, firstKid, kidCount, rankOf, clausesOf, clauseAt, beforeOf, bitsOf, Areas, Ready, Judged, ClauseJudged, manySteps}
 use Rattle.judge.proofs.State.{areas-cell}
-use Rattle.judge.proofs.Going.{Aim, pairs-few, many, aims, goes, Stepped, stepped-none, stepped-few, stepped-go, stepped-aim, stepped-skips, stepped-went, stepped-passes, stepped-end, going-unsettled, going-aimed, going-apply}
+use Rattle.judge.proofs.Going.{Aim, pairs-few, many, aims, goes, Stepped, stepped-none, stepped-few, stepped-go, stepped-aim, stepped-skips, stepped-went, stepped-passes, stepped-end, going-unsettled, going-ready, going-aimed, going-apply}
+use Rattle.judge.proofs.Claused.{Claused, claused-more}
 
--- the clause stands where `at` says
+-- ---- a clause that tests
+
+no-steps : (T : Case) (p : Pair) (i : ℕ) (t : Test) → clauseAt T p i ≡ asserts t → 0 ≡ many T p i
+unfolding stepsOf
+no-steps T p i t e = rw e
+
+passes-finish : (T : Case) (p : Pair) (i : ℕ) (t : Test) (n : ℕ) → clauseAt T p i ≡ asserts t → passes (T .doc) (p .row) t ≡ finishOf (T .doc) p (clauseAt T p i) (n - 0) n
+unfolding finishOf
+passes-finish T p i t n e = rw e
+
+pub claused-test : {T : Case} {p : Pair} {c₀ l₀ : List ℕ} {n₀ i : ℕ} {c l : List ℕ} {n : ℕ} {ok ok′ so : Bool}
+    → Claused T p c₀ l₀ n₀ i c l n ok → Tries (T .doc) (p .row) (clauseAt T p i) (Passed so) → ok′ ≡ (ok && so) → Claused T p c₀ l₀ n₀ (i + 1) c l n ok′
+claused-test {T} {p} {i = i} {c} {l} {n} {so = so} C t e =
+    let G = C .going in
+    let S = subst (λ (k : ℕ). Stepped T p i c l n k c l n 0) (no-steps T p i (t .0) (t .1)) (stepped-none (going-ready G) (going-unsettled G)) in
+    let r : Done = record { ok = so; count = n } in
+    claused-more {r = r} C (stepped-end {r = r} S (t .2 ∙ passes-finish T p i (t .0) (many T p i) (t .1)) refl) e
+
+-- ---- the clause stands where `at` says
+
 pub record Turning (T : Case) (p : Pair) (cl : ℕ) (c₀ l₀ : List ℕ) (n₀ : ℕ) (cells list : List ℕ) (count misses : ℕ) (at : Turn) : Type 0 where
-  pub started : Started (beforeOf T p cl) (clauseAt T p cl) (at .from)
   pub goes-on : at .go ≡ true → Stepped T p cl c₀ l₀ n₀ (at .step) cells list count misses
       × ((at .step < many T p cl) × (at .step < 4294967295) × (true ≡ goes T p cl (bitsOf (T .m) c₀ p) (at .step)) × (pairIs (at .pair) ≡ aims T p cl (at .step)))
   pub ends : at .go ≡ false → Stepped T p cl c₀ l₀ n₀ (many T p cl) cells list count misses
-      × (at .ok ≡ finishOf (T .doc) p (clauseAt T p cl) (many T p cl - misses) (many T p cl))
 
 pub turning : {T : Case} {p : Pair} {cl : ℕ} {c₀ l₀ : List ℕ} {n₀ x : ℕ} {c l : List ℕ} {n misses : ℕ} {at : Turn} → Stepped T p cl c₀ l₀ n₀ x c l n misses
-    → x ≤ many T p cl → Turned (T .doc) p (beforeOf T p cl) (clauseAt T p cl) x misses (column (T .m) c (p .rule)) at → Turning T p cl c₀ l₀ n₀ c l n misses at
+    → x ≤ many T p cl → Turned (T .doc) p (beforeOf T p cl) (clauseAt T p cl) x (column (T .m) c (p .rule)) at → Turning T p cl c₀ l₀ n₀ c l n misses at
 turning {T} {p} {cl} {c₀} {l₀} {n₀} {x} {c} {l} {n} {misses} {at} S low t =
     record {
-      started = t .started;
       goes-on =
           λ e.
           let G = t .goes e in
           let R = reach (at .step) (G .ahead) (let w = G .within in omega arith) (G .skipped) in
           (R, (G .within, G .small, stepped-go R (G .within) (sym (G .applied)), G .aim-is));
-      ends = λ e. let E = t .ends e in (reach (many T p cl) low (omega arith) (E .skipped), E .said);
+      ends = λ e. reach (many T p cl) low (omega arith) (t .ends e);
     }
   where
     reach : (y : ℕ) → x ≤ y → y ≤ many T p cl → Skipped (T .doc) p (beforeOf T p cl) (clauseAt T p cl) (column (T .m) c (p .rule)) x y
@@ -58,8 +76,8 @@ turning {T} {p} {cl} {c₀} {l₀} {n₀} {x} {c} {l} {n} {misses} {at} S low t 
 unfoldable pub left : Case → Pair → ℕ → Turn → ℕ
 left T p cl at = cond (at .go) (many T p cl - at .step) 0
 
-pub left-less : (T : Case) (p : Pair) (cl : ℕ) (at at′ : Turn) {misses : ℕ} {κ : Marks} → at .go ≡ true → at .step < many T p cl
-    → Turned (T .doc) p (beforeOf T p cl) (clauseAt T p cl) (at .step + 1) misses κ at′ → left T p cl at′ < left T p cl at
+pub left-less : (T : Case) (p : Pair) (cl : ℕ) (at at′ : Turn) {κ : Marks} → at .go ≡ true → at .step < many T p cl
+    → Turned (T .doc) p (beforeOf T p cl) (clauseAt T p cl) (at .step + 1) κ at′ → left T p cl at′ < left T p cl at
 unfolding left
 left-less T p cl at at′ e w t = rw e (by (at′ .go) refl)
   where
@@ -75,32 +93,15 @@ cell-asks {T} {q} fit I A =
 
 -- ---- it begins
 
-pub advance-first : {ws ts rs us : List ℕ} {p q : Pair} {i t : ℕ} {c l : List ℕ} {n : ℕ} → Sheets ws ts rs us (formOf ws) (RS.formOf rs)
-    → Ready (caseOf ws ts rs us) t p c l n → Unsettled (schemasWord rs) p c → i < schemaAt rs (p .rule) .count → Advances ws ts rs us c p i 0 0 0 q
-advance-first S R u h =
-    record {
-      sheets = S;
-      inside = R .inside;
-      free = u;
-      clause-in = h;
-      long = let e = R .areas .long in omega arith;
-      few = omega arith;
-      low = omega arith;
-      started = λ z. absurd (omega arith);
-      passes = λ z. absurd (omega arith);
-    }
+-- what working out where the clause stands asks of the cells
+pub ready-turn : {T : Case} {p : Pair} {t : ℕ} {c l : List ℕ} {n : ℕ} → Ready T t p c l n → T .n * T .m ≤ length c
+ready-turn R = let e = R .areas .long in omega arith
 
-pub turning-first : {T : Case} {p q : Pair} {i : ℕ} {c c₁ l : List ℕ} {n : ℕ} {at : Turn} → Ready T (rankOf T p) p c l n → Unsettled (T .m) p c
-    → Advanced T p i 0 0 q c c₁ at → Turning T p i c₁ l n c₁ l n 0 at
-turning-first {T} {p} {q} {i} {c} {c₁} {l} {n} R u A =
-    turning (subst (λ (x : List ℕ). Stepped T p i x l n 0 x l n 0) (sym (A .given .none refl)) (stepped-none R u)) (omega arith) (A .turned)
+pub turning-first : {T : Case} {p : Pair} {i : ℕ} {c l : List ℕ} {n : ℕ} {at : Turn} → Ready T (rankOf T p) p c l n → Unsettled (T .m) p c
+    → Turned (T .doc) p (beforeOf T p i) (clauseAt T p i) 0 (column (T .m) c (p .rule)) at → Turning T p i c l n c l n 0 at
+turning-first R u t = turning (stepped-none R u) (omega arith) t
 
 -- ---- a pair that it applies
-
-plus-few : (b : Bool) (m i : ℕ) → m ≤ i → plus m b ≤ i + 1
-unfolding plus
-plus-few true m i h = omega arith
-plus-few false m i h = omega arith
 
 module _ {T : Case} {p : Pair} {cl : ℕ} {c₀ l₀ : List ℕ} {n₀ : ℕ} {c l : List ℕ} {n misses : ℕ} {at : Turn} (W : Turning T p cl c₀ l₀ n₀ c l n misses at) (go : at .go ≡ true) where
   pub turning-low : (at .step < 4294967295) × (misses ≤ at .step)
@@ -121,41 +122,31 @@ module _ {T : Case} {p : Pair} {cl : ℕ} {c₀ l₀ : List ℕ} {n₀ : ℕ} {c
       pub turning-cell : (cellAt (T .m) (pairIs (at .pair)) < length c₁) × (length c₁ < 4294967296)
       turning-cell = cell-asks (W .goes-on go .0 .going .fit) (turning-aim .inside) (J .areas)
 
-      pub turning-more : {v h : ℕ} {c₂ : List ℕ} {at′ : Turn} → v ≡ verd (getD c₁ (cellAt (T .m) (pairIs (at .pair))) 0) → h ≡ plus misses (not (eqb v 1))
-          → Advanced T p cl (at .step + 1) h (pairIs (at .pair)) c₁ c₂ at′ → Turning T p cl c₀ l₀ n₀ c₂ l₁ n₁ h at′
-      turning-more read e A =
-          let G = W .goes-on go in
-          let w = G .1 .0 in
-          turning (stepped-went (G .0) (G .1 .2) (G .1 .3) turning-aim J read (A .given .some (omega arith)) e) (omega arith) (A .turned)
+      pub turning-passes : Passes (T .m) (firstKid T p) (kidCount T p) (p .row) (p .rule) (pairIs (at .pair) .row) (pairIs (at .pair) .rule) c₁
+      turning-passes = stepped-passes (going-apply (W .goes-on go .0 .going) turning-aim J) turning-aim
 
--- what working out where the clause stands after it asks
-pub advance-more : {ws ts rs us : List ℕ} {p : Pair} {cl : ℕ} {c₀ l₀ : List ℕ} {n₀ : ℕ} {c l : List ℕ} {n misses h : ℕ} (v : ℕ) {at : Turn} {c₁ l₁ : List ℕ} {n₁ : ℕ}
-    → Sheets ws ts rs us (formOf ws) (RS.formOf rs) → cl < schemaAt rs (p .rule) .count
-    → (W : Turning (caseOf ws ts rs us) p cl c₀ l₀ n₀ c l n misses at) → at .go ≡ true → Has (clauseAt (caseOf ws ts rs us) p cl) (clausesOf (caseOf ws ts rs us) p)
-    → Judged (caseOf ws ts rs us) (pairIs (at .pair)) c l n c₁ l₁ n₁ → h ≡ plus misses (not (eqb v 1))
-    → Advances ws ts rs us c₁ p cl (at .from) (at .step + 1) h (pairIs (at .pair))
-advance-more {misses = misses} v {at} S low W go has J e =
-    let G = W .goes-on go .0 .going in
-    let aim = turning-aim W go has in
-    record {
-      sheets = S;
-      inside = G .inside;
-      free = going-unsettled (going-apply G aim J);
-      clause-in = low;
-      long = let z = J .areas .long in omega arith;
-      few = rw e (plus-few (not (eqb v 1)) misses (at .step) (turning-low W go .1));
-      low = let w = turning-within W go in omega arith;
-      started = λ _. W .started;
-      passes = λ _. stepped-passes (going-apply G aim J) aim;
-    }
+      -- its marks were passed on
+      module _ {v h : ℕ} {c₂ : List ℕ} (read : v ≡ verd (getD c₁ (cellAt (T .m) (pairIs (at .pair))) 0)) (e : h ≡ plus misses (not (eqb v 1)))
+          (M : Marked (T .m) (firstKid T p) (kidCount T p) (p .rule) (passed (T .m) c₁ (p .row) (p .rule) (pairIs (at .pair) .row) (pairIs (at .pair) .rule)) c₁ c₂) where
+        stepped : Stepped T p cl c₀ l₀ n₀ (at .step + 1) c₂ l₁ n₁ h
+        stepped = let G = W .goes-on go in stepped-went (G .0) (G .1 .2) (G .1 .3) turning-aim J read M e
+
+        pub turning-next : (at .step + 1 ≤ many T p cl) × (T .n * T .m ≤ length c₂) × Unsettled (T .m) p c₂
+        turning-next =
+            let w = turning-within in
+            let z = stepped .going .areas .long in
+            (omega arith, omega arith, going-unsettled (stepped .going))
+
+        pub turning-more : {at′ : Turn} → Turned (T .doc) p (beforeOf T p cl) (clauseAt T p cl) (at .step + 1) (column (T .m) c₂ (p .rule)) at′
+            → Turning T p cl c₀ l₀ n₀ c₂ l₁ n₁ h at′
+        turning-more t = let w = turning-within in turning stepped (omega arith) t
 
 -- ---- it ends
 
-pub turning-end : {T : Case} {p : Pair} {cl : ℕ} {c₀ l₀ : List ℕ} {n₀ : ℕ} {c l : List ℕ} {n misses : ℕ} {at : Turn} {r : Done} → Turning T p cl c₀ l₀ n₀ c l n misses at
-    → at .go ≡ false → r .ok ≡ at .ok → r .count ≡ n → ClauseJudged T p cl c₀ l₀ n₀ c l r
-turning-end W e f q = let E = W .ends e in stepped-end (E .0) (f ∙ E .1) q
+pub turning-few : {T : Case} {p : Pair} {cl : ℕ} {c₀ l₀ : List ℕ} {n₀ : ℕ} {c l : List ℕ} {n misses : ℕ} {at : Turn} → Turning T p cl c₀ l₀ n₀ c l n misses at
+    → at .go ≡ false → misses ≤ manySteps T p cl
+turning-few W e = stepped-few (W .ends e)
 
--- as the cells were before it began
-pub from-first : {T : Case} {p q : Pair} {cl : ℕ} {c₀ c₁ l₀ : List ℕ} {n₀ : ℕ} {c l : List ℕ} {at : Turn} {r : Done} → Advanced T p cl 0 0 q c₀ c₁ at
-    → ClauseJudged T p cl c₁ l₀ n₀ c l r → ClauseJudged T p cl c₀ l₀ n₀ c l r
-from-first {T} {p} {cl = cl} {l₀ = l₀} {n₀} {c} {l} {r = r} A J = subst (λ (x : List ℕ). ClauseJudged T p cl x l₀ n₀ c l r) (A .given .none refl) J
+pub turning-end : {T : Case} {p : Pair} {cl : ℕ} {c₀ l₀ : List ℕ} {n₀ : ℕ} {c l : List ℕ} {n misses : ℕ} {at : Turn} {r : Done} → Turning T p cl c₀ l₀ n₀ c l n misses at
+    → at .go ≡ false → r .ok ≡ finishOf (T .doc) p (clauseAt T p cl) (manySteps T p cl - misses) (manySteps T p cl) → r .count ≡ n → ClauseJudged T p cl c₀ l₀ n₀ c l r
+turning-end W e f q = stepped-end (W .ends e) f q

@@ -4,28 +4,27 @@
 --     part-exact, part-judged     the same in longer areas, of which the run takes the first n × m places
 -- Assumes nothing.
 use mathlib.Core.Bool.{Bool, true, false, _&&_, cond}
-use mathlib.Core.List.{List, [], _∷_, _++_, map, append-assoc, append-nil}
+use mathlib.Core.List.{List, [], _∷_, _++_, append-assoc, append-nil}
 use mathlib.Core.Logic.{⊎-elim}
 use mathlib.Core.Path.{_≡_, refl, sym, ap, _∙_}
 use Prim.Native.Nat.{ℕ, zero, suc, _+_, _*_, _-_, _<_, _≤_}
-use native.Mathlib.Nat.{add-mul, zero-mul}
 use native.Mathlib.Omega.{arith}
 use lib.Dec.{eqb, ltb}
-use lib.ListN.{length, getD, take, drop, length-map, length-drop, take-append-drop}
-use lib.Seq.{ext-getD, getD-take, getD-drop, length-take-le}
+use lib.ListN.{length, getD, take, drop, length-drop, take-append-drop}
+use lib.Seq.{ext-getD, length-take-le}
 use borrow.Author.Tests.{lt-ltb, le-ltb}
 use Rattle.laws.proofs.Tests.{le-or-lt}
-use Rattle.meaning.specs.Lists.{range, keep, concatMap}
+use Rattle.meaning.specs.Lists.{range, keep}
 use Rattle.meaning.specs.Rules.{Pair}
 use Rattle.meaning.specs.Settling.{listed, root, settled, word, list, cell, cells, marked}
 use Rattle.meaning.specs.Answer.{Left, verdict, judged}
 use Rattle.meaning.proofs.Trees.{once}
 use Rattle.meaning.proofs.Rows.{by-rows}
-use Rattle.areas.specs.Cells.{cellOf, verd, bit, four, mark, column, markedBy, Cleared}
+use Rattle.areas.specs.Cells.{cellOf, verd, bit, four, settledAs, column, markedBy, Cleared, cellAt}
 use Rattle.areas.specs.Writers.{Writes}
-use Rattle.areas.proofs.Cells.{mark-read, whole, zero-verd, zero-bit, settled-blank}
+use Rattle.areas.proofs.Cells.{settledAs-read, whole, zero-verd, zero-bit, settled-blank}
 use Rattle.judge.specs.declared.cycle.Verdict.{Verdict}
-use Rattle.judge.specs.State.{pair, Case, Fits, In, firstKid, kidCount, truthOf, settleOf, cellAt, bitsOf, doneOf, Areas, Quiet, Ready, Judged}
+use Rattle.judge.specs.State.{pair, Case, Fits, In, firstKid, kidCount, truthOf, settleOf, bitsOf, doneOf, Areas, Quiet, Ready, Judged}
 use Rattle.judge.specs.Whole.{Exact, Fresh, Roomy, leftBy, judgedOf}
 use Rattle.judge.proofs.Pairs.{settle-self}
 use Rattle.judge.proofs.State.{areas-marks, areas-writes}
@@ -87,12 +86,12 @@ top-row j m s h = let z : j ≡ 0 = omega arith in rw z (omega arith)
 
 celled-at : {T : Case} {done : List Pair} {c₀ l₀ c l : List ℕ} {n : ℕ} → Fresh T c₀ l₀ → Areas T done (bitsOf (T .m) c₀) l₀ c l n
     → (j s : ℕ) → j < T .n → s < T .m → getD c (cellOf (T .m) j s) 0 ≡ cell (T .doc) (T .rules) (T .n) (T .m) done (record { row = j; rule = s })
-unfolding cell bitsOf mark
+unfolding cell bitsOf settledAs
 celled-at {T} {done} {c₀} {c = c} F A j s h g =
     let x = getD c (cellOf (T .m) j s) 0 in
     let up : Pair = record { row = T .doc .owner j; rule = s } in
     let own : Pair = record { row = j; rule = s } in
-    let a : verd x ≡ cond (listed own done) (mark ((truthOf T own) .holds)) 0 = A .said own (record { row-in = h; rule-in = g }) in
+    let a : verd x ≡ cond (listed own done) (settledAs ((truthOf T own) .holds)) 0 = A .said own (record { row-in = h; rule-in = g }) in
     let b : four (bit x) ≡ cond (ltb 0 j && listed up done && (truthOf T up) .marks j) 4 0 =
     ⊎-elim
     (λ (z : j ≤ 0). no-four j (listed up done) ((truthOf T up) .marks j) x z (ap (λ (y : ℕ). bit (getD c y 0)) (top-row j (T .m) s z) ∙ A .top s g))
@@ -196,7 +195,7 @@ pub root-judged : {T : Case} {c₁ c₀ l₀ c l : List ℕ} {n z : ℕ} (r : Ve
     → leftBy r c l ≡ judgedOf T c₁ l₀
 unfolding root
 root-judged {T} {c₁} {c₀} {l₀} {c} {z = z} r {x} {y} E F j read e f u v m w =
-    judged-all r F j (e ∙ mark-read ((truthOf T (pair 0 0)) .holds) z (read ∙ j .settled)) f u v (w ∙ ap (λ (i : ℕ). markedBy i c x y) m) ∙ same-left T c₁ c₀ l₀ (E .cells-long) (F .exact .cells-long)
+    judged-all r F j (e ∙ settledAs-read ((truthOf T (pair 0 0)) .holds) z (read ∙ j .settled)) f u v (w ∙ ap (λ (i : ℕ). markedBy i c x y) m) ∙ same-left T c₁ c₀ l₀ (E .cells-long) (F .exact .cells-long)
 
 pub root-writes : {T : Case} {c₀ l₀ c l : List ℕ} {n : ℕ} → Judged T (pair 0 0) c₀ l₀ 0 c l n → Fits T → Writes (T .m) (firstKid T (pair 0 0)) (kidCount T (pair 0 0)) 0 0 c
 root-writes j fit = areas-writes (j .areas) fit (record { row-in = fit .rows .some; rule-in = fit .some })

@@ -10,19 +10,15 @@ use Rattle.sheet.specs.Doc.{Doc, firstChild, childCount, Child}
 use Rattle.sheet.specs.declared.record.RecordForm.{RecordForm}
 use Rattle.sheet.specs.Record.{rowsWord, formOf, docOf}
 use Rattle.rulesheet.specs.declared.form.RuleForm.{RuleForm}
-use Rattle.rulesheet.specs.Ruleset.{never, Clause, asserts, Ruleset}
+use Rattle.rulesheet.specs.Ruleset.{Test, never, Clause, asserts, Ruleset}
 use Rattle.rulesheet.specs.Sheet as S
 use Rattle.rulesheet.specs.Sheet.{schemasWord, schemaAt, rulesOf}
 use Rattle.meaning.specs.Rules.{Pair, Marks, _∪_, Result, answer, applied, clause, depth, truth}
 use Rattle.meaning.specs.Settling.{samePair, listed, inTurn, settle}
 use Rattle.meaning.specs.Fit.{Fit, Inside, rank}
 use Rattle.clause.specs.Read.{RecordRead, RulesRead}
-use Rattle.areas.specs.Cells.{cellOf, verd, bit, mark, column, settledOf}
-use Rattle.areas.specs.Writers.{Marked, passed, Passes}
-use Rattle.steps.specs.declared.turn.Turn.{Turn}
+use Rattle.areas.specs.Cells.{cellAt, verd, Unsettled, bit, settledAs, column, settledOf}
 use Rattle.steps.specs.Plan.{stepsOf}
-use Rattle.steps.specs.Read.{Started}
-use Rattle.steps.specs.Turns.{Turned}
 use Rattle.judge.specs.declared.cycle.Done.{Done}
 
 -- what is judged: a record and rules, and how many rows each has
@@ -94,10 +90,6 @@ beforeOf T p i = take i (clausesOf T p)
 
 -- ---- the areas
 
--- the cell of a pair, which is also its word in the list
-abbrev pub cellAt : ℕ → Pair → ℕ
-cellAt m p = cellOf m (p .row) (p .rule)
-
 -- the marks of a pair, as they stand in the cells
 unfoldable pub bitsOf : ℕ → List ℕ → Pair → Marks
 bitsOf m cells q k = column m cells (q .rule) k
@@ -120,7 +112,7 @@ pub record Areas (T : Case) (done : List Pair) (held : Pair → Marks) (list₀ 
   pub long : length cells ≡ T .n * T .m
   pub room : length list ≡ length cells
   pub small : (i : ℕ) → getD cells i 0 < 8
-  pub said : (p : Pair) → In T p → verd (getD cells (cellAt (T .m) p) 0) ≡ cond (listed p done) (mark ((truthOf T p) .holds)) 0
+  pub said : (p : Pair) → In T p → verd (getD cells (cellAt (T .m) p) 0) ≡ cond (listed p done) (settledAs ((truthOf T p) .holds)) 0
   pub shown : (p : Pair) (k : ℕ) → In T p → Kid T (p .row) k
       → column (T .m) cells (p .rule) k ≡ cond (listed p done) ((truthOf T p) .marks k) (held p k)
   pub top : (s : ℕ) → s < T .m → bit (getD cells s 0) ≡ false
@@ -141,14 +133,10 @@ pub record Ready (T : Case) (t : ℕ) (p : Pair) (cells list : List ℕ) (count 
   pub areas : Areas T (doneOf (T .m) list count) (bitsOf (T .m) cells) list cells list count
   pub quiet : Quiet T t (doneOf (T .m) list count) (bitsOf (T .m) cells)
 
--- the cells show the pair unsettled
-unfoldable pub Unsettled : ℕ → Pair → List ℕ → Type 0
-Unsettled m p cells = verd (getD cells (cellAt m p) 0) ≡ 0
-
 -- what applying a pair leaves, and judging it: the pair settled, with those that it applies, and the areas otherwise as they were
 pub record Judged (T : Case) (p : Pair) (cells₀ list₀ : List ℕ) (count₀ : ℕ) (cells list : List ℕ) (count : ℕ) : Type 0 where
   pub areas : Areas T (settleOf T p (doneOf (T .m) list₀ count₀)) (bitsOf (T .m) cells₀) list₀ cells list count
-  pub settled : verd (getD cells (cellAt (T .m) p) 0) ≡ mark ((truthOf T p) .holds)
+  pub settled : verd (getD cells (cellAt (T .m) p) 0) ≡ settledAs ((truthOf T p) .holds)
 
 -- what judging clause i of p leaves, at the marks of p that stood in the cells
 pub record ClauseJudged (T : Case) (p : Pair) (i : ℕ) (cells₀ list₀ : List ℕ) (count₀ : ℕ) (cells list : List ℕ) (r : Done) : Type 0 where
@@ -159,26 +147,22 @@ pub record ClauseJudged (T : Case) (p : Pair) (i : ℕ) (cells₀ list₀ : List
   pub said : r .ok ≡ (answer (truthOf T) (clause (T .doc) p (beforeOf T p i) (bitsOf (T .m) cells₀ p) (clauseAt T p i))) .holds
   pub free : Unsettled (T .m) p cells
 
--- ---- a clause of p between two of its steps
+-- ---- what is read of a pair
 
--- p is not settled, and x steps of its clause i were taken, the last of which applied q; `misses` of them applied a pair that failed
-pub record Advances (ws ts rs us : List ℕ) (cells : List ℕ) (p : Pair) (i from x misses : ℕ) (q : Pair) : Type 0 where
+-- both sheets are laid out as their readers ask, and p is one of their pairs
+pub record Reads (ws ts rs us : List ℕ) (p : Pair) : Type 0 where
   pub sheets : Sheets ws ts rs us (formOf ws) (S.formOf rs)
   pub inside : In (caseOf ws ts rs us) p
-  pub free : Unsettled (schemasWord rs) p cells
+
+-- and i is a clause of its schema
+pub record ReadsClause (ws ts rs us : List ℕ) (p : Pair) (i : ℕ) : Type 0 where
+  pub reads : Reads ws ts rs us p
   pub clause-in : i < schemaAt rs (p .rule) .count
-  pub long : rowsWord ws * schemasWord rs ≤ length cells
-  pub few : misses ≤ x
-  pub low : let T = caseOf ws ts rs us in x ≤ stepsOf (T .doc) p (beforeOf T p i) (clauseAt T p i)
-  pub started : let T = caseOf ws ts rs us in 0 < x → Started (beforeOf T p i) (clauseAt T p i) from
-  pub passes : let T = caseOf ws ts rs us in 0 < x → Passes (T .m) (firstKid T p) (kidCount T p) (p .row) (p .rule) (q .row) (q .rule) cells
 
--- what q has to give is passed on, if a step was taken
-pub record Given (T : Case) (p q : Pair) (x : ℕ) (cells₀ cells : List ℕ) : Type 0 where
-  pub none : x ≡ 0 → cells ≡ cells₀
-  pub some : 0 < x → Marked (T .m) (firstKid T p) (kidCount T p) (p .rule) (passed (T .m) cells₀ (p .row) (p .rule) (q .row) (q .rule)) cells₀ cells
+-- clause i of p applies schemas
+abbrev pub Applying : Case → Pair → ℕ → Type 0
+Applying T p i = (t : Test) → clauseAt T p i ≡ asserts t → ⊥
 
--- and r tells where the clause stands
-pub record Advanced (T : Case) (p : Pair) (i x misses : ℕ) (q : Pair) (cells₀ cells : List ℕ) (r : Turn) : Type 0 where
-  pub given : Given T p q x cells₀ cells
-  pub turned : Turned (T .doc) p (beforeOf T p i) (clauseAt T p i) x misses (column (T .m) cells (p .rule)) r
+-- the steps of clause i of p
+abbrev pub manySteps : Case → Pair → ℕ → ℕ
+manySteps T p i = stepsOf (T .doc) p (beforeOf T p i) (clauseAt T p i)

@@ -3,8 +3,9 @@
 // `judge` is checks (`sheet`, `rules`), areas, clearing and judging (`run`, `cycle`). Its contract cites
 // `specs/Call.antt`.
 pub mod answer;
-pub mod cycle;
-pub mod run;
+mod cycle;
+mod read;
+mod run;
 
 ghost use mathlib.Core.Path.{_≡_};
 ghost use Rattle.sheet.specs.Refusals.{accepted};

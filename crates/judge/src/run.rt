@@ -4,7 +4,7 @@ ghost use Rattle.judge.specs.State.{caseOf, Sheets};
 ghost use Rattle.judge.specs.Whole.{Exact, Roomy, leftBy, judgedOf};
 use crate::cycle::Verdict;
 use crate::cycle::apply;
-use crate::cycle::verdict_of;
+use crate::read::verdict_of;
 use areas::clear;
 use areas::marked_of;
 use rulesheet::form::RuleForm;
@@ -40,7 +40,7 @@ fn run_exact<'a>(
     let count = apply(&sheets, &texts, cells, list, 0, root);
     let ok = verdict_of(rules, cells, root) == 1;
     let kids = children_of(record, form, RecordRow(0));
-    let marked = marked_of(cells, wide(rule_form.m), wide(kids.first), wide(kids.count));
+    let marked = marked_of(cells, wide(rule_form.m), kids);
     Verdict {
         ok: ok,
         count: count,
@@ -49,7 +49,7 @@ fn run_exact<'a>(
 }
 
 // In areas of as many places or more, of which the first are used.
-pub fn run<'a>(
+pub(crate) fn run<'a>(
     record: &'a [u32],
     text: &'a [u8],
     rules: &'a [u32],

@@ -37,7 +37,7 @@ use Rattle.rulesheet.proofs.Items.{schemas-long, members-long}
 use Rattle.meaning.specs.Lists.{concatMap}
 use Rattle.meaning.specs.Rules.{Pair, Marks, namesOf, called, to}
 use Rattle.clause.specs.Read as C
-use Rattle.clause.specs.Read.{RecordRead, RulesRead, ListRead}
+use Rattle.clause.specs.Read.{RecordRead, RulesRead, ListRead, beforeIn, ClauseRead}
 use Rattle.clause.proofs.Having.{never-not}
 use Rattle.clause.proofs.Naming.{child-inside}
 use Rattle.clause.proofs.Asserting.{list-read}
@@ -45,7 +45,7 @@ use Rattle.areas.specs.Cells.{cellOf, column}
 use Rattle.meaning.proofs.Words.{word-inside}
 use Rattle.steps.specs.declared.step.Step.{Step}
 use Rattle.steps.specs.Plan.{memberCount, elementCount, no-member, own, childNamed, prefixed, unnamed, stepsIn, aimIn, goIn, stepsOf, aimOf, goOf}
-use Rattle.steps.specs.Read.{beforeIn, ClauseRead, Started, StepRead}
+use Rattle.steps.specs.Read.{Started, StepRead}
 use Rattle.steps.proofs.Earlier.{before-long}
 use Rattle.steps.proofs.Reading.{asserters, no-steps}
 

@@ -3,17 +3,16 @@
 --     across-picked     43: schemas on children by place
 -- Assumes nothing.
 use mathlib.Core.Bool.{Bool, true, false, cond}
-use mathlib.Core.List.{List, [], _∷_, _++_, map}
+use mathlib.Core.List.{List, [], _∷_, map}
 use mathlib.Core.Logic.{⊎-elim}
 use mathlib.Core.Path.{_≡_, refl, sym, ap, _∙_}
 use Prim.Native.Nat.{ℕ, zero, suc, _+_, _-_, _<_, _≤_, min}
 use native.Mathlib.Omega.{arith}
 use lib.Dec.{ltb}
-use lib.ListN.{length, getD, drop}
+use lib.ListN.{length, getD}
 use borrow.Author.Tests.{lt-ltb, le-ltb}
 use Rattle.laws.specs.Lowest.{lowestFrom, lowest}
 use Rattle.laws.proofs.Tests.{decide}
-use Rattle.laws.proofs.Searches.{at-least}
 use Rattle.meaning.specs.Lists.{range, keep, concatMap}
 use Rattle.meaning.specs.Rules.{Pair, to, across, under}
 use Rattle.steps.specs.Folds.{picked}

@@ -7,28 +7,27 @@
 --     aimed           a step that is applied aims at a pair of lower rank among the n × m, of the row itself or of a child
 -- Assumes nothing.
 use mathlib.Core.Bool.{Bool, true, false, not, _||_, cond}
-use mathlib.Core.List.{List, [], _∷_, _++_, map, append-nil, List·Memᴰ as In, List·Memᴰ·head as at-head, Memᴰ·append-left, Memᴰ·append-right}
+use mathlib.Core.List.{List, [], _∷_, map, append-nil, List·Memᴰ as In, List·Memᴰ·head as at-head, Memᴰ·append-left, Memᴰ·append-right}
 use mathlib.Core.Logic.{⊎-elim}
 use mathlib.Core.Path.{_≡_, refl, sym, ap, _∙_, subst}
-use Prim.Native.Nat.{ℕ, zero, suc, _+_, _-_, _<_, _≤_, min}
+use Prim.Native.Nat.{ℕ, zero, suc, _+_, _-_, _<_, _≤_}
 use native.Mathlib.Nat.{eq-or-lt-of-le}
 use native.Mathlib.Omega.{arith}
 use lib.Dec.{eqb, ltb}
 use lib.ListN.{length, getD}
 use borrow.Author.Tests.{eqb-true, le-ltb}
-use Rattle.laws.proofs.Tests.{decide}
 use Rattle.text.proofs.Bytes.{same-eq}
-use Rattle.sheet.specs.Doc.{Value, null, bool, number, string, array, object, Doc, firstChild, Child, isObject}
+use Rattle.sheet.specs.Doc.{Value, null, bool, number, string, array, object, Doc, firstChild, Child}
 use Rattle.rulesheet.specs.Ruleset.{Mode, allOf, anyOf, oneOf, notOf, ref, Reach, properties, additionalProperties, prefixItems, items}
-use Rattle.rulesheet.specs.Ruleset.{unevaluatedProperties, unevaluatedItems, Clause, asserts, inPlace, takes, guarded, Ruleset}
-use Rattle.meaning.specs.Lists.{all, any, count, range, keep, concatMap}
+use Rattle.rulesheet.specs.Ruleset.{unevaluatedProperties, unevaluatedItems, Clause, asserts, inPlace, takes, Ruleset}
+use Rattle.meaning.specs.Lists.{all, range, keep}
 use Rattle.meaning.specs.Tests.{members?, elements?, rows}
-use Rattle.meaning.specs.Rules.{Pair, Marks, nothing, these, unions, Result, verdicts, Judgement, found, answer, applied, each}
-use Rattle.meaning.specs.Rules.{one?, none?, joined, namesOf, prefixOf, to, here, under, across, called, membersOf, elementsOf, passes, taken, clause}
+use Rattle.meaning.specs.Rules.{Pair, Marks, nothing, these, unions, Result, verdicts, found, answer, applied, each}
+use Rattle.meaning.specs.Rules.{one?, none?, joined, to, here, under, called, membersOf, elementsOf, taken, clause}
 use Rattle.meaning.specs.Fit.{Fit, Inside, rank}
 use Rattle.meaning.proofs.Lists.{in-every}
 use Rattle.meaning.proofs.Judgements.{answer-each, applied-each}
-use Rattle.meaning.proofs.Steps.{Taken, taken-steps, Step, stays, descends, clause-steps, falls, stays-inside}
+use Rattle.meaning.proofs.Steps.{taken-steps, Step, stays, descends, clause-steps, falls, stays-inside}
 use Rattle.steps.specs.Folds.{picked, hitsBy, marksBy}
 use Rattle.steps.specs.Plan.{memberCount, elementCount, no-member, finishedBy, own, childRow, childNamed, finishOf, prefixed, unnamed, stepsIn, aimIn, goIn, stepsOf, aimOf, goOf}
 use Rattle.steps.proofs.Folds.{picked-same, list-picked, kept-picked, run-picked, count-hits, all-hits, unions-marks, these-marks, marks-later, any-count, not-some}

@@ -2,16 +2,21 @@
 --     members-counted, elements-counted    how many members and elements a row has
 --     counted, no-steps     how many steps a clause has, by the variant that was read
 --     named-all, first-of, later     how many `properties`, `prefixItems` and `items` have
---     finished, asserted     what a clause says in the end, by the variant that was read
+--     any-finishes, one-finishes, not-finishes, all-finishes     what a clause says in the end, by the variant that was read and its misses
 -- Assumes nothing.
-use mathlib.Core.Bool.{Bool, true, false, cond}
+use mathlib.Core.Bool.{Bool, cond}
 use mathlib.Core.List.{List, [], _∷_}
 use mathlib.Core.Path.{_≡_, refl, sym, ap, _∙_}
-use Prim.Native.Nat.{ℕ, _-_, min}
-use lib.Dec.{eqb}
+use mathlib.Core.Logic.{⊎-elim}
+use Prim.Native.Nat.{ℕ, _-_, _≤_, _<_, min}
+use native.Mathlib.Omega.{arith}
+use lib.Dec.{eqb, ltb}
+use lib.ListN.{length}
+use borrow.Author.Tests.{lt-ltb, le-ltb, eq-eqb, ne-eqb}
+use Rattle.laws.proofs.Tests.{le-or-lt}
 use types.Run.{OneOf, miss}
 use denote.Enum.Declared.{tagOf}
-use Rattle.sheet.specs.Doc.{Value, null, bool, number, string, array, object, Doc, childCount}
+use Rattle.sheet.specs.Doc.{Value, null, bool, number, string, array, object, Doc}
 use Rattle.sheet.specs.declared.record.RuleRow.{RuleRow}
 use Rattle.rulesheet.proofs.clause.Clause.{the-type}
 use Rattle.rulesheet.specs.declared.clause.Entries.{Entries}
@@ -21,14 +26,13 @@ use Rattle.rulesheet.specs.declared.clause.Clause.the-variants.{MinLength, MaxL
 use Rattle.rulesheet.specs.declared.clause.Clause.the-variants.{AllOf, AnyOf, OneOf as Exactly, Not, Ref, Properties, AdditionalProperties, PrefixItems, Items, UnevaluatedProperties, UnevaluatedItems}
 use Rattle.rulesheet.specs.Ruleset as R
 use Rattle.rulesheet.specs.Ruleset.{Test, asserts}
-use Rattle.rulesheet.specs.Clauses.{clauseMeans}
+use Rattle.rulesheet.specs.Clauses.{schemasIn, clauseMeans}
 use Rattle.rulesheet.proofs.Items.{schemas-long, members-long}
 use Rattle.meaning.specs.Tests.{members?, elements?}
-use Rattle.meaning.specs.Rules.{Pair, passes}
+use Rattle.meaning.specs.Rules.{Pair}
 use Rattle.clause.specs.Read.{sizeOf, orNone}
 use Rattle.meaning.proofs.Members.{range-length}
-use Rattle.clause.proofs.Having.{isOf, never, never-not}
-use Rattle.steps.specs.Plan.{memberCount, elementCount, own, stepsIn, stepsOf, finishOf}
+use Rattle.steps.specs.Plan.{memberCount, elementCount, finishedBy, own, stepsIn, stepsOf, finishOf}
 use Rattle.steps.specs.Read.{Started}
 
 -- ---- how many members and elements a row has
@@ -114,15 +118,75 @@ module _ (d : Doc) (p : Pair) (before : List R.Clause) (rs us : List ℕ) where
   unfolding stepsOf
   no-steps clause k = let a = asserting rs us clause k in rw (a .means)
 
--- ---- what a clause says in the end
+-- ---- what a clause says in the end, by its misses
 
-module _ (d : Doc) (p : Pair) (rs us : List ℕ) (hits many : ℕ) where
-  abbrev ends : Clause → Bool
-  ends clause = finishOf d p (clauseMeans rs us clause) hits many
+none-missed : (misses n : ℕ) → misses ≤ n → eqb misses 0 ≡ eqb (n - misses) n
+none-missed misses n h =
+    ⊎-elim (λ (z : misses ≤ 0). eq-eqb misses 0 (omega arith) ∙ sym (eq-eqb (n - misses) n (omega arith)))
+    (λ (z : 0 < misses). ne-eqb misses 0 (λ e. omega arith) ∙ sym (ne-eqb (n - misses) n (λ e. omega arith)))
+    (le-or-lt misses 0)
 
-  pub finished : (clause variant : Clause) (r : Bool) → clause ≡ variant → r ≡ ends variant → r ≡ ends clause
-  finished clause variant r e is = is ∙ sym (ap ends e)
+some-hit : (misses n : ℕ) → ltb misses n ≡ ltb 0 (n - misses)
+some-hit misses n =
+    ⊎-elim (λ (z : n ≤ misses). le-ltb misses n z ∙ sym (le-ltb 0 (n - misses) (omega arith)))
+    (λ (z : misses < n). lt-ltb misses n z ∙ sym (lt-ltb 0 (n - misses) (omega arith)))
+    (le-or-lt n misses)
 
-  pub asserted : (clause : Clause) → OneOf asserters (tagOf the-type clause) → (r : Bool) → ((t : Test) → clauseMeans rs us clause ≡ asserts t → r ≡ passes d (p .row) t) → r ≡ ends clause
-  unfolding finishOf
-  asserted clause k r f = let a = asserting rs us clause k in f (a .test) (a .means) ∙ sym (rw (a .means))
+one-missed : (misses : ℕ) → misses ≤ 1 → eqb misses 1 ≡ eqb (1 - misses) 0
+one-missed misses h =
+    ⊎-elim (λ (z : misses ≤ 0). ne-eqb misses 1 (λ e. omega arith) ∙ sym (ne-eqb (1 - misses) 0 (λ e. omega arith)))
+    (λ (z : 0 < misses). eq-eqb misses 1 (omega arith) ∙ sym (eq-eqb (1 - misses) 0 (omega arith)))
+    (le-or-lt misses 0)
+
+-- the positions of the variants that need every step to hold, and those that assert
+abbrev pub others : List ℕ
+others = 0 ∷ 1 ∷ 2 ∷ 3 ∷ 4 ∷ 5 ∷ 6 ∷ 7 ∷ 8 ∷ 9 ∷ 10 ∷ 11 ∷ 12 ∷ 13 ∷ 14 ∷ 15 ∷ 19 ∷ 20 ∷ 21 ∷ 22 ∷ 23 ∷ 24 ∷ 25 ∷ []
+
+module _ (misses : ℕ) where
+  -- what the clause says if r is its answer
+  abbrev pub Finishes : Clause → Bool → Type 0
+  Finishes clause r =
+      (d : Doc) (p : Pair) (before : List R.Clause) (rs us : List ℕ) → ((t : Test) → clauseMeans rs us clause ≡ asserts t → ⊥)
+      → misses ≤ stepsOf d p before (clauseMeans rs us clause)
+      → r ≡ finishOf d p (clauseMeans rs us clause) (stepsOf d p before (clauseMeans rs us clause) - misses) (stepsOf d p before (clauseMeans rs us clause))
+
+  pub any-finishes : (es : Entries) → Finishes (AnyOf es) (ltb misses (es .count))
+  unfolding stepsOf finishOf finishedBy
+  any-finishes es d p before rs us applies h = ap (ltb misses) (sym (schemas-long rs es)) ∙ some-hit misses (length (schemasIn rs es))
+
+  pub one-finishes : (es : Entries) → Finishes (Exactly es) (eqb (es .count - misses) 1)
+  unfolding stepsOf finishOf finishedBy
+  one-finishes es d p before rs us applies h = ap (λ (n : ℕ). eqb (n - misses) 1) (sym (schemas-long rs es))
+
+  pub not-finishes : (row : RuleRow) → Finishes (Not row) (eqb misses 1)
+  unfolding stepsOf finishOf finishedBy
+  not-finishes row d p before rs us applies h = one-missed misses h
+
+  pub all-finishes : (clause : Clause) → OneOf others (tagOf the-type clause) → Finishes clause (eqb misses 0)
+  unfolding stepsOf finishOf finishedBy
+  all-finishes Never k d p before rs us applies h = absurd (applies _ refl)
+  all-finishes (Types mask) k d p before rs us applies h = absurd (applies _ refl)
+  all-finishes (Enum es) k d p before rs us applies h = absurd (applies _ refl)
+  all-finishes (Minimum z) k d p before rs us applies h = absurd (applies _ refl)
+  all-finishes (Maximum z) k d p before rs us applies h = absurd (applies _ refl)
+  all-finishes (ExclusiveMinimum z) k d p before rs us applies h = absurd (applies _ refl)
+  all-finishes (ExclusiveMaximum z) k d p before rs us applies h = absurd (applies _ refl)
+  all-finishes (MultipleOf z) k d p before rs us applies h = absurd (applies _ refl)
+  all-finishes (MinLength n) k d p before rs us applies h = absurd (applies _ refl)
+  all-finishes (MaxLength n) k d p before rs us applies h = absurd (applies _ refl)
+  all-finishes (MinItems n) k d p before rs us applies h = absurd (applies _ refl)
+  all-finishes (MaxItems n) k d p before rs us applies h = absurd (applies _ refl)
+  all-finishes (MinProperties n) k d p before rs us applies h = absurd (applies _ refl)
+  all-finishes (MaxProperties n) k d p before rs us applies h = absurd (applies _ refl)
+  all-finishes (Required es) k d p before rs us applies h = absurd (applies _ refl)
+  all-finishes (AllOf es) k d p before rs us applies h = none-missed misses _ h
+  all-finishes (AnyOf es) k d p before rs us applies h = absurd (miss others 16 tt k)
+  all-finishes (Exactly es) k d p before rs us applies h = absurd (miss others 17 tt k)
+  all-finishes (Not row) k d p before rs us applies h = absurd (miss others 18 tt k)
+  all-finishes (Ref row) k d p before rs us applies h = none-missed misses _ h
+  all-finishes (Properties es) k d p before rs us applies h = none-missed misses _ h
+  all-finishes (AdditionalProperties row) k d p before rs us applies h = none-missed misses _ h
+  all-finishes (PrefixItems es) k d p before rs us applies h = none-missed misses _ h
+  all-finishes (Items row) k d p before rs us applies h = none-missed misses _ h
+  all-finishes (UnevaluatedProperties row) k d p before rs us applies h = none-missed misses _ h
+  all-finishes (UnevaluatedItems row) k d p before rs us applies h = none-missed misses _ h

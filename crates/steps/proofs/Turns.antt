@@ -1,22 +1,21 @@
 -- A clause between two of its steps.
 --     skipped-more, skipped-to   one more step that is not applied; their end in other words
---     turned-goes, turned-ends   where the clause stands, by whether a step was found
+--     turned                     where the clause stands, by whether a step was found
 -- Assumes nothing.
 use mathlib.Core.Bool.{true, false}
 use mathlib.Core.List.{List}
 use mathlib.Core.Path.{_≡_, sym, ap, _∙_, subst}
-use Prim.Native.Nat.{ℕ, _+_, _-_, _≤_, _<_}
+use Prim.Native.Nat.{ℕ, _+_, _≤_, _<_}
 use native.Mathlib.Omega.{arith}
 use borrow.Author.Count.{below-more}
 use Rattle.sheet.specs.Doc.{Doc}
 use Rattle.rulesheet.specs.Ruleset.{Clause}
 use Rattle.meaning.specs.Rules.{Pair, Marks}
-use Rattle.clause.proofs.Having.{never, never-not}
 use Rattle.steps.specs.declared.turn.Turn.{Turn}
 use Rattle.steps.specs.declared.turn.Found.{Found}
-use Rattle.steps.specs.Plan.{stepsOf, aimOf, finishOf}
-use Rattle.steps.specs.Read.{Started}
-use Rattle.steps.specs.Turns.{pairIs, goesAt, Skipped, Sought, Turned}
+use Rattle.steps.specs.Plan.{stepsOf, aimOf}
+use Rattle.areas.specs.Cells.{pairIs}
+use Rattle.steps.specs.Turns.{goesAt, Skipped, Sought, Turned}
 
 module _ {D : Doc} {p : Pair} {before : List Clause} {c : Clause} {κ : Marks} where
   pub skipped-more : {x y : ℕ} → Skipped D p before c κ x y → goesAt D p before c κ y ≡ false → Skipped D p before c κ x (y + 1)
@@ -26,37 +25,23 @@ module _ {D : Doc} {p : Pair} {before : List Clause} {c : Clause} {κ : Marks} w
   pub skipped-to : {x y z : ℕ} → z ≡ y → Skipped D p before c κ x y → Skipped D p before c κ x z
   skipped-to e f = record { idle = λ k a b. f .idle k a (omega arith) }
 
-  module _ {x misses many : ℕ} {found : Found} {r : Turn} (started : Started before c (r .from)) (e : many ≡ stepsOf D p before c) (s : Sought D p before c x many κ found) where
-    pub turned-goes : found .step .go ≡ true → many < 4294967296 → r .go ≡ true → r .step ≡ found .at
-        → pairIs (r .pair) ≡ record { row = found .step .row; rule = found .step .rule } → Turned D p before c x misses κ r
-    turned-goes go fits g at same =
-        let low = s .within go in
-        let ahead = s .ahead in
-        record {
-          started = started;
-          goes =
-              λ _.
-              record {
-                ahead = omega arith;
-                within = omega arith;
-                small = omega arith;
-                skipped = skipped-to at (s .skipped);
-                applied = subst (λ (i : ℕ). goesAt D p before c κ i ≡ true) (sym at) (sym (s .read go .go-is) ∙ go);
-                aim-is = same ∙ s .read go .aim-is go ∙ ap (λ (i : ℕ). aimOf D p before c i) (sym at);
-              };
-          ends = λ f. absurd (never-not (sym g ∙ f));
-        }
-
-    pub turned-ends : found .step .go ≡ false → r .go ≡ false → r .ok ≡ finishOf D p c (many - misses) many → Turned D p before c x misses κ r
-    turned-ends go g ok =
-        let end = s .none go in
-        record {
-          started = started;
-          goes = λ f. absurd (never (sym g ∙ f));
-          ends =
-              λ _.
-              record {
-                skipped = skipped-to (sym e ∙ sym end) (s .skipped);
-                said = ok ∙ ap (λ (i : ℕ). finishOf D p c (i - misses) i) e;
-              };
-        }
+  -- where the clause stands, by whether a step was found
+  pub turned : {x many : ℕ} {found : Found} {r : Turn} → many ≡ stepsOf D p before c → Sought D p before c x many κ found → many < 4294967296
+      → r .go ≡ found .step .go → r .step ≡ found .at → pairIs (r .pair) ≡ record { row = found .step .row; rule = found .step .rule } → Turned D p before c x κ r
+  turned e s fits g at same =
+      record {
+        goes =
+            λ f.
+            let go = sym g ∙ f in
+            let low = s .within go in
+            let ahead = s .ahead in
+            record {
+              ahead = omega arith;
+              within = omega arith;
+              small = omega arith;
+              skipped = skipped-to at (s .skipped);
+              applied = subst (λ (i : ℕ). goesAt D p before c κ i ≡ true) (sym at) (sym (s .read go .go-is) ∙ go);
+              aim-is = same ∙ s .read go .aim-is go ∙ ap (λ (i : ℕ). aimOf D p before c i) (sym at);
+            };
+        ends = λ f. skipped-to (sym e ∙ sym (s .none (sym g ∙ f))) (s .skipped);
+      }

@@ -1,36 +1,17 @@
 -- What is read of a clause before its steps are taken, and of a step.
 -- Assumes nothing.
-use Prim.Native.Nat.{ℕ, _<_, _≤_}
+use Prim.Native.Nat.{ℕ, _≤_}
 use mathlib.Core.Bool.{Bool, true}
 use mathlib.Core.List.{List, [], map}
 use mathlib.Core.Path.{_≡_}
-use lib.ListN.{length, getD, take}
+use lib.ListN.{length, take}
 use Rattle.sheet.specs.Doc.{Doc}
-use Rattle.rulesheet.specs.declared.clause.Clause.{Clause}
-use Rattle.rulesheet.specs.declared.form.RuleForm.{RuleForm}
 use Rattle.rulesheet.specs.Ruleset as R
-use Rattle.rulesheet.specs.Ruleset.{never, asserts, takes, additionalProperties, items}
-use Rattle.rulesheet.specs.Sheet.{schemaAt, rulesOf}
-use Rattle.rulesheet.specs.Clauses.{clauseMeans, Tested}
+use Rattle.rulesheet.specs.Ruleset.{takes, additionalProperties, items}
 use Rattle.meaning.specs.Lists.{any, concatMap}
 use Rattle.meaning.specs.Rules.{Pair, Marks, namesOf, prefixOf, called}
 use Rattle.steps.specs.declared.step.Step.{Step}
 use Rattle.steps.specs.Plan.{aimOf, goOf}
-
--- the clauses of schema s: number i, and those before it
-abbrev pub clauseIn : List ℕ → List ℕ → ℕ → ℕ → R.Clause
-clauseIn rs us s i = getD (rulesOf rs us .clauses s) i (asserts never)
-
-abbrev pub beforeIn : List ℕ → List ℕ → ℕ → ℕ → List R.Clause
-beforeIn rs us s i = take i (rulesOf rs us .clauses s)
-
--- clause i of schema s was read, whose clauses start at `first`
-pub record ClauseRead (rs us : List ℕ) (form : RuleForm) (s first i : ℕ) (clause : Clause) : Type 0 where
-  pub schema-in : s < form .m
-  pub first-is : first ≡ schemaAt rs s .first
-  pub clause-in : i < schemaAt rs s .count
-  pub means : clauseMeans rs us clause ≡ clauseIn rs us s i
-  pub tested : Tested rs form clause
 
 -- what the clauses before it tell a clause: `items` how many elements they speak of, `additionalProperties` from which of them on they name members
 pub record Started (before : List R.Clause) (c : R.Clause) (from : ℕ) : Type 0 where

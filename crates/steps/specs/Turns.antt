@@ -1,21 +1,17 @@
--- A clause between two of its steps: which step is applied next, and what the clause says when none is left. κ are the marks that stand in the cells.
+-- A clause between two of its steps: which step is applied next, if one is. κ are the marks that stand in the cells.
 -- Assumes nothing.
-use Prim.Native.Nat.{ℕ, _-_, _≤_, _<_}
+use Prim.Native.Nat.{ℕ, _≤_, _<_}
 use mathlib.Core.Bool.{Bool, true, false}
 use mathlib.Core.List.{List}
 use mathlib.Core.Path.{_≡_}
 use Rattle.sheet.specs.Doc.{Doc}
-use Rattle.sheet.specs.declared.record.Pair as Declared
 use Rattle.rulesheet.specs.Ruleset.{Clause}
 use Rattle.meaning.specs.Rules.{Pair, Marks}
 use Rattle.steps.specs.declared.turn.Turn.{Turn}
 use Rattle.steps.specs.declared.turn.Found.{Found}
-use Rattle.steps.specs.Plan.{stepsOf, aimOf, goOf, finishOf}
-use Rattle.steps.specs.Read.{Started, StepRead}
-
--- the pair that is meant
-abbrev pub pairIs : Declared.Pair → Pair
-pairIs p = record { row = p .row .0; rule = p .rule .0 }
+use Rattle.areas.specs.Cells.{pairIs}
+use Rattle.steps.specs.Plan.{stepsOf, aimOf, goOf}
+use Rattle.steps.specs.Read.{StepRead}
 
 module _ (D : Doc) (p : Pair) (before : List Clause) (c : Clause) where
   -- step k is applied
@@ -43,12 +39,7 @@ module _ (D : Doc) (p : Pair) (before : List Clause) (c : Clause) where
     pub applied : goesAt κ (r .step) ≡ true
     pub aim-is : pairIs (r .pair) ≡ aimOf D p before c (r .step)
 
-  -- none is, and r says what the clause says where `misses` of the steps applied a pair that failed
-  pub record Ends (x misses : ℕ) (κ : Marks) (r : Turn) : Type 0 where
-    pub skipped : Skipped κ x (stepsOf D p before c)
-    pub said : r .ok ≡ finishOf D p c (stepsOf D p before c - misses) (stepsOf D p before c)
-
-  pub record Turned (x misses : ℕ) (κ : Marks) (r : Turn) : Type 0 where
-    pub started : Started before c (r .from)
+  -- where the clause stands after x steps: at the next that is applied, or at its end
+  pub record Turned (x : ℕ) (κ : Marks) (r : Turn) : Type 0 where
     pub goes : r .go ≡ true → Goes x κ r
-    pub ends : r .go ≡ false → Ends x misses κ r
+    pub ends : r .go ≡ false → Skipped κ x (stepsOf D p before c)

@@ -14,14 +14,16 @@ ghost use Rattle.rulesheet.specs.Read.{RulesLaid};
 ghost use Rattle.rulesheet.specs.declared.form.RuleForm.{RuleForm as Form};
 ghost use Rattle.meaning.specs.Lists.{concatMap};
 ghost use Rattle.meaning.specs.Rules.{Pair, namesOf, prefixOf};
-ghost use Rattle.clause.specs.Read.{RecordRead, RulesRead, ListRead};
+ghost use Rattle.clause.specs.Read.{RecordRead, RulesRead, ListRead, clauseIn, beforeIn};
 ghost use Rattle.steps.specs.Plan.{unnamed};
-ghost use Rattle.steps.specs.Read.{beforeIn, namedBy, Started};
+ghost use Rattle.steps.specs.Read.{namedBy, Started};
+use clause::read::clause_in;
 use rulesheet::clause::Clause;
 use rulesheet::clause::Entries;
 use rulesheet::clause::entry_name;
 use rulesheet::clause::telling_of;
 use rulesheet::form::RuleForm;
+use rulesheet::form::schema_at;
 use sheet::record::RecordForm;
 use sheet::record::RecordRow;
 use sheet::record::RuleRow;
@@ -82,14 +84,7 @@ fn names_from(rules: &[u32], form: RuleForm, s: RuleRow, first: u32, i: u32) -> 
 
 // What the first i clauses of the schema tell the clause after them: `items` how many elements they
 // speak of, `additionalProperties` from which of them on they name members, any other nothing.
-pub fn start_of(
-    rules: &[u32],
-    form: RuleForm,
-    s: RuleRow,
-    first: u32,
-    i: u32,
-    clause: Clause,
-) -> u32
+fn start_in(rules: &[u32], form: RuleForm, s: RuleRow, first: u32, i: u32, clause: Clause) -> u32
     requires { ⌜ RulesLaid (now rules) form × (s .0 < form .m) × (first ≡ schemaAt (now rules) (s .0) .first) × (i ≤ schemaAt (now rules) (s .0) .count) ⌝ }
     ensures { λ r. ⌜ ((us : List ℕ) → Started (beforeIn (now (rules .entry)) us (s .0) i) (clauseMeans (now (rules .entry)) us clause) r) ⌝ }
     ensures { λ r. ⌜ r ≤ parts-max * parts-max ⌝ }
@@ -99,6 +94,16 @@ pub fn start_of(
         Clause::AdditionalProperties(_) => names_from(rules, form, s, first, i),
         _ => 0,
     }
+}
+
+// What they tell clause i of the schema.
+pub fn start_of<'a>(rules: &[u32], rule_text: &'a [u8], form: RuleForm, s: RuleRow, i: u32) -> u32
+    requires { ⌜ RulesRead (now rules) (now «rule_text») form × (s .0 < form .m) × (i < schemaAt (now rules) (s .0) .count) ⌝ }
+    ensures { λ r. ⌜ Started (beforeIn (now (rules .entry)) (now («rule_text» .entry)) (s .0) i) (clauseIn (now (rules .entry)) (now («rule_text» .entry)) (s .0) i) r ⌝ }
+{
+    let first = schema_at(rules, form, s).first;
+    let clause = clause_in(rules, rule_text, form, s, i);
+    start_in(rules, form, s, first, i, clause)
 }
 
 // Whether an entry of the list names the row.
@@ -161,7 +166,7 @@ fn clause_names<'a>(
 
 // Whether no `properties` among the first i clauses of the schema names the row, where those before
 // `from` name nothing.
-pub fn unnamed_in<'a>(
+pub(crate) fn unnamed_in<'a>(
     record: &[u32],
     text: &'a [u8],
     form: RecordForm,

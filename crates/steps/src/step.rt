@@ -1,4 +1,4 @@
-// The steps of a clause: how many, what they come to, and each by itself.
+// The steps of a clause: how many, and each by itself.
 ghost use mathlib.Core.Bool.{true, not, cond};
 ghost use mathlib.Core.List.{List, []};
 ghost use mathlib.Core.Path.{_≡_};
@@ -14,25 +14,24 @@ ghost use Rattle.rulesheet.specs.Sheet.{schemaAt};
 ghost use Rattle.rulesheet.specs.Read.{RulesFormed};
 ghost use Rattle.rulesheet.specs.Clauses.{schemasIn, membersIn, clauseMeans, Tested};
 ghost use Rattle.meaning.specs.Lists.{concatMap};
-ghost use Rattle.meaning.specs.Rules.{Pair, Marks, namesOf};
-ghost use Rattle.clause.specs.Read.{RecordRead, RulesRead, ListRead, sizeIn, orNone};
+ghost use Rattle.meaning.specs.Rules.{Pair as Meant, Marks, namesOf};
+ghost use Rattle.clause.specs.Read.{RecordRead, RulesRead, ListRead, beforeIn, ClauseRead, sizeIn, orNone};
 ghost use Rattle.areas.specs.Cells.{cellOf, column};
-ghost use Rattle.steps.specs.Plan.{memberCount, elementCount, unnamed, stepsOf, finishOf};
-ghost use Rattle.steps.specs.Read.{beforeIn, ClauseRead, Started, StepRead};
+ghost use Rattle.steps.specs.Plan.{memberCount, elementCount, unnamed, stepsOf};
+ghost use Rattle.steps.specs.Read.{Started, StepRead};
 use crate::before::unnamed_in;
-use areas::bit_at;
-use areas::cell_of;
+use areas::is_marked;
 use clause::members::child_named;
 use clause::sizes::Measured;
 use clause::sizes::elements_of;
 use clause::sizes::members_of;
-use clause::test::holds;
 use rulesheet::clause::Clause;
 use rulesheet::clause::Entries;
 use rulesheet::clause::entry_name;
 use rulesheet::clause::entry_schema;
 use rulesheet::clause::member_schema;
 use rulesheet::form::RuleForm;
+use sheet::record::Pair;
 use sheet::record::RecordForm;
 use sheet::record::RecordRow;
 use sheet::record::RuleRow;
@@ -81,7 +80,7 @@ fn unless_none(all: u32, n: u32) -> u32
 
 // How many steps a clause has on a row of so many members and elements.
 fn steps_among(clause: Clause, members: u32, elements: u32, from: u32) -> u32
-    ensures { λ r. ⌜ ((d : Doc) (p : Pair) (before : List R.Clause) (rs us : List ℕ) → members ≡ memberCount (d .value (p .row)) → elements ≡ elementCount (d .value (p .row)) → Started before (clauseMeans rs us clause) from → r ≡ stepsOf d p before (clauseMeans rs us clause)) ⌝ }
+    ensures { λ r. ⌜ ((d : Doc) (p : Meant) (before : List R.Clause) (rs us : List ℕ) → members ≡ memberCount (d .value (p .row)) → elements ≡ elementCount (d .value (p .row)) → Started before (clauseMeans rs us clause) from → r ≡ stepsOf d p before (clauseMeans rs us clause)) ⌝ }
 {
     match clause {
         Clause::AllOf(es) => es.count,
@@ -100,48 +99,19 @@ fn steps_among(clause: Clause, members: u32, elements: u32, from: u32) -> u32
 }
 
 // How many steps a clause has on the row.
-pub fn steps_of(record: &[u32], form: RecordForm, row: RecordRow, clause: Clause, from: u32) -> u32
+pub(crate) fn steps_of(
+    record: &[u32],
+    form: RecordForm,
+    row: RecordRow,
+    clause: Clause,
+    from: u32,
+) -> u32
     requires { ⌜ Laid (now «record») form × (row .0 < form .rows) ⌝ }
-    ensures { λ r. ⌜ ((ts rs us : List ℕ) (p : Pair) (before : List R.Clause) → p .row ≡ row .0 → Started before (clauseMeans rs us clause) from → r ≡ stepsOf (docOf (now («record» .entry)) ts) p before (clauseMeans rs us clause)) ⌝ }
+    ensures { λ r. ⌜ ((ts rs us : List ℕ) (p : Meant) (before : List R.Clause) → p .row ≡ row .0 → Started before (clauseMeans rs us clause) from → r ≡ stepsOf (docOf (now («record» .entry)) ts) p before (clauseMeans rs us clause)) ⌝ }
 {
     let members = count_of(members_of(record, form, row));
     let elements = count_of(elements_of(record, form, row));
     steps_among(clause, members, elements, from)
-}
-
-// ---- what a clause says in the end
-
-// Whether the clause holds on the row, where `hits` of its `many` steps hold, or apply nothing.
-pub fn finish_of<'a>(
-    record: &[u32],
-    text: &'a [u8],
-    form: RecordForm,
-    row: RecordRow,
-    rules: &[u32],
-    rule_text: &'a [u8],
-    rule_form: RuleForm,
-    clause: Clause,
-    hits: u32,
-    many: u32,
-) -> bool
-    requires { ⌜ RecordRead (now «record») (now text) form × (row .0 < form .rows) ⌝ }
-    requires { ⌜ RulesRead (now rules) (now «rule_text») «rule_form» × Tested (now rules) «rule_form» clause ⌝ }
-    ensures { λ r. ⌜ ((p : Pair) → p .row ≡ row .0 → r ≡ finishOf (docOf (now («record» .entry)) (now (text .entry))) p (clauseMeans (now (rules .entry)) (now («rule_text» .entry)) clause) hits many) ⌝ }
-{
-    match clause {
-        Clause::AllOf(_) => hits == many,
-        Clause::AnyOf(_) => 0 < hits,
-        Clause::OneOf(_) => hits == 1,
-        Clause::Not(_) => hits == 0,
-        Clause::Ref(_) => hits == many,
-        Clause::Properties(_) => hits == many,
-        Clause::AdditionalProperties(_) => hits == many,
-        Clause::PrefixItems(_) => hits == many,
-        Clause::Items(_) => hits == many,
-        Clause::UnevaluatedProperties(_) => hits == many,
-        Clause::UnevaluatedItems(_) => hits == many,
-        _ => holds(record, text, form, row, rules, rule_text, rule_form, clause),
-    }
 }
 
 // ---- the steps
@@ -192,7 +162,7 @@ fn named_step<'a>(
 ) -> Step
     requires { ⌜ RecordRead (now «record») (now text) form × (row .0 < form .rows) × (0 < memberCount (docOf (now «record») (now text) .value (row .0))) ⌝ }
     requires { ⌜ RulesRead (now rules) (now «rule_text») «rule_form» × ListRead (now rules) «rule_form» Members list × (x < list .count) ⌝ }
-    ensures { λ r. ⌜ ((p : Pair) (before : List R.Clause) (κ : Marks) → p .row ≡ row .0 → StepRead (docOf (now («record» .entry)) (now (text .entry))) p before (R.takes (R.properties (membersIn (now (rules .entry)) (now («rule_text» .entry)) list))) x κ r) ⌝ }
+    ensures { λ r. ⌜ ((p : Meant) (before : List R.Clause) (κ : Marks) → p .row ≡ row .0 → StepRead (docOf (now («record» .entry)) (now (text .entry))) p before (R.takes (R.properties (membersIn (now (rules .entry)) (now («rule_text» .entry)) list))) x κ r) ⌝ }
 {
     let name = entry_name(rules, rule_form, list, x);
     let n = child_named(record, text, form, row, rule_text, name);
@@ -210,7 +180,7 @@ fn fresh_step(cells: &[u8], m: u32, row: RecordRow, s: RuleRow, rule: RuleRow) -
     requires { ⌜ cellOf m (row .0) (s .0) < length (now cells) ⌝ }
     ensures { λ r. ⌜ r ≡ record { go = not (column m (now (cells .entry)) (s .0) (row .0)); row = row .0; rule = rule .0 } ⌝ }
 {
-    let marked = bit_at(cells, cell_of(wide(m), wide(row.0), wide(s.0)));
+    let marked = is_marked(cells, wide(m), Pair { row: row, rule: s });
     Step {
         go: !marked,
         row: row.0,
@@ -236,7 +206,7 @@ fn other_step<'a>(
     requires { ⌜ RecordRead (now «record») (now text) form × (row .0 < form .rows) ⌝ }
     requires { ⌜ RulesRead (now rules) (now «rule_text») «rule_form» × (s .0 < «rule_form» .m) × (first ≡ schemaAt (now rules) (s .0) .first) × (i ≤ schemaAt (now rules) (s .0) .count) ⌝ }
     requires { ⌜ (from ≤ i) × (concatMap namesOf (take from (beforeIn (now rules) (now «rule_text») (s .0) i)) ≡ []) ⌝ }
-    ensures { λ r. ⌜ ((p : Pair) → r ≡ record { go = unnamed (docOf (now («record» .entry)) (now (text .entry))) p (beforeIn (now (rules .entry)) (now («rule_text» .entry)) (s .0) i) (row .0); row = row .0; rule = rule .0 }) ⌝ }
+    ensures { λ r. ⌜ ((p : Meant) → r ≡ record { go = unnamed (docOf (now («record» .entry)) (now (text .entry))) p (beforeIn (now (rules .entry)) (now («rule_text» .entry)) (s .0) i) (row .0); row = row .0; rule = rule .0 }) ⌝ }
 {
     let go = unnamed_in(
         record,
@@ -260,7 +230,7 @@ fn other_step<'a>(
 
 // Step x of clause i of schema s, whose clauses start at `first`, on the row; `from` is what those
 // before it tell it. A clause that asserts something has no steps.
-pub fn step_at<'a>(
+pub(crate) fn step_at<'a>(
     record: &[u32],
     text: &'a [u8],
     form: RecordForm,

@@ -3,36 +3,30 @@ use mathlib.Core.Path.{_≡_, refl}
 use Prim.Native.Nat.{_-_, _≤_}
 use native.Mathlib.Omega.{arith}
 use Rattle.areas.specs.Writers.{Marked, merged}
-use Rattle.areas.proofs.Writers.{marked-none, marked-more, merged-read, cell-below, row-below, writes-row}
+use Rattle.areas.proofs.Writers.{marked-none, marked-more, merged-read, cell-below, writes-row}
 use Rattle.areas.proofs.add_marks.Statement.{statement}
 use Rattle.areas.proofs.add_marks.Tie as tie
 
 abbrev Inv-loop : tie.InvT-loop
-Inv-loop cells₀ m first many s from i₀ cells i = (i ≤ many) × Marked m first i s (merged m cells₀ s from) cells₀ cells
+Inv-loop cells₀ m kids s from i₀ cells i = (i ≤ kids .count) × Marked m (kids .first) i (s .0) (merged m cells₀ (s .0) (from .0)) cells₀ cells
 
 abbrev μ-loop : tie.MeasureT-loop
-μ-loop cells₀ m first many s from i₀ cells i = many - i
+μ-loop cells₀ m kids s from i₀ cells i = kids .count - i
 
 loop-holds : tie.Need-loop-holds Inv-loop μ-loop
 loop-holds c = (omega arith, marked-none _ _ _ _ _)
 
-add-k : tie.Need-add-k Inv-loop μ-loop
-add-k c = omega (arith, row-below (c .before .before .before .pre) (c .before .loop .i) (c .loop-test .taken))
+add-t11 : tie.Need-add-t11 Inv-loop μ-loop
+add-t11 c = omega (arith, c .before .before .before .before .before .pre .1)
 
-cell-of-requires : tie.Need-cell-of-requires Inv-loop μ-loop
-cell-of-requires c κs = omega (arith, cell-below (c .before .before .before .before .pre) (c .before .before .loop .i) (c .before .loop-test .taken) _ (c .before .before .before .before .pre .rule-in))
+is-marked-requires : tie.Need-is-marked-requires Inv-loop μ-loop
+is-marked-requires c κs = let w = c .before .before .before .before .before .before .pre .0 in omega (arith, cell-below w (c .before .before .before .before .loop .i) (c .before .before .if1 .taken) _ (w .rule-in), c .before .before .before .before .loop .inv .1 .len)
 
-bit-at-requires : tie.Need-bit-at-requires Inv-loop μ-loop
-bit-at-requires c κs = omega (arith, cell-below (c .before .before .before .before .before .pre) (c .before .before .before .loop .i) (c .before .before .loop-test .taken) _ (c .before .before .before .before .before .pre .rule-in), c .cell-of .ensures, c .before .before .before .loop .inv .1 .len)
-
-cell-of-requires-2 : tie.Need-cell-of-requires-2 Inv-loop μ-loop
-cell-of-requires-2 c κs = omega (arith, cell-below (c .before .before .before .before .before .before .before .pre) (c .before .before .before .before .before .loop .i) (c .before .before .before .before .loop-test .taken) _ (c .before .before .before .before .before .before .before .pre .from-in))
-
-bit-at-requires-2 : tie.Need-bit-at-requires-2 Inv-loop μ-loop
-bit-at-requires-2 c κs = omega (arith, cell-below (c .before .before .before .before .before .before .before .before .pre) (c .before .before .before .before .before .before .loop .i) (c .before .before .before .before .before .loop-test .taken) _ (c .before .before .before .before .before .before .before .before .pre .from-in), c .cell-of2 .ensures, c .before .before .before .before .before .before .loop .inv .1 .len)
+is-marked-requires-2 : tie.Need-is-marked-requires-2 Inv-loop μ-loop
+is-marked-requires-2 c κs = let w = c .before .before .before .before .before .before .before .before .pre .0 in omega (arith, cell-below w (c .before .before .before .before .before .before .loop .i) (c .before .before .before .before .if1 .taken) _ (w .from-in), c .before .before .before .before .before .before .loop .inv .1 .len)
 
 write-mark-requires : tie.Need-write-mark-requires Inv-loop μ-loop
-write-mark-requires c κs = writes-row (c .before .before .before .before .before .before .before .before .before .before .pre) (c .before .before .before .before .before .before .before .before .loop .inv .1 .len) (omega arith) (omega arith)
+write-mark-requires c κs = writes-row (c .before .before .before .before .before .before .before .before .before .before .pre .0) (c .before .before .before .before .before .before .before .before .loop .inv .1 .len) (omega arith) (omega arith)
 
 add-i : tie.Need-add-i Inv-loop μ-loop
 add-i c = omega arith
@@ -41,13 +35,16 @@ loop-less : tie.Need-loop-less Inv-loop μ-loop
 loop-less c = omega arith
 
 loop-again : tie.Need-loop-again Inv-loop μ-loop
-loop-again c = (omega arith, marked-more (c .before .before .before .before .before .before .before .before .before .before .before .loop .inv .1) (c .before .before .before .before .before .before .before .before .before .before .before .before .before .pre .rule-in) refl (merged-read (c .before .before .before .before .before .before .before .before .before .before .before .loop .inv .1) (c .before .before .before .before .before .before .before .before .before .before .before .before .before .pre .rule-in) (c .before .before .before .before .before .before .before .before .before .before .before .before .before .pre .from-in) refl (c .before .before .before .before .before .before .before .before .cell-of .ensures) (c .before .before .before .before .before .before .before .bit-at .ensures) (c .before .before .before .before .before .cell-of2 .ensures) (c .before .before .before .before .bit-at2 .ensures)) (c .before .before .write-mark .ensures))
+loop-again c =
+    let w = c .before .before .before .before .before .before .before .before .before .before .before .before .before .pre .0 in
+    let p = c .before .before .before .before .before .before .before .before .before .before .before .loop .inv .1 in
+    (omega arith, marked-more p (w .rule-in) refl (merged-read p (w .rule-in) (w .from-in) refl refl (c .before .before .before .before .before .before .is-marked .ensures) refl (c .before .before .before .before .is-marked2 .ensures)) (c .before .before .write-mark .ensures))
 
 same-length : tie.Need-same-length Inv-loop μ-loop
-same-length c = c .before .loop .inv .1 .len
+same-length c = c .before .before .loop .inv .1 .len
 
 returns : tie.Need-returns Inv-loop μ-loop
-returns c = let e : c .before .loop .i ≡ c .before .before .before .args .many = omega arith in rw e at (c .before .loop .inv .1)
+returns c = let e : c .before .before .loop .i ≡ c .before .before .before .before .args .kids .count = omega arith in rw e at (c .before .before .loop .inv .1)
 
 pub add-marks-spec : {M : Type 1} → statement M
 add-marks-spec =
@@ -56,11 +53,9 @@ add-marks-spec =
     Inv-loop
     μ-loop
     loop-holds
-    add-k
-    cell-of-requires
-    bit-at-requires
-    cell-of-requires-2
-    bit-at-requires-2
+    add-t11
+    is-marked-requires
+    is-marked-requires-2
     write-mark-requires
     add-i
     loop-less

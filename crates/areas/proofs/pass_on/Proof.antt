@@ -9,7 +9,7 @@ add-marks-requires : tie.Need-add-marks-requires
 add-marks-requires c κs = search needs
 
 write-mark-requires : tie.Need-write-mark-requires
-write-mark-requires c κs = let z = c .before .before .before .pre .child (c .before .if1 .left) in writes-row (c .before .before .before .pre .writes) refl (z .0) (z .1)
+write-mark-requires c κs = let z = c .before .before .before .before .before .pre .0 .child (c .before .if1 .left) in writes-row (c .before .before .before .before .before .pre .0 .writes) refl (z .0) (z .1)
 
 same-length : tie.Need-same-length
 same-length c = search needs
@@ -21,7 +21,7 @@ same-length-2 : tie.Need-same-length-2
 same-length-2 c = search needs
 
 returns-2 : tie.Need-returns-2
-returns-2 c = marked-child _ _ _ _ _ _ _ (c .before .before .before .before .before .before .pre .writes .rule-in) (c .before .before .before .before .if1 .left) (c .before .before .before .before .before .before .pre .child (c .before .before .before .before .if1 .left)) (c .before .before .write-mark .ensures)
+returns-2 c = let w = c .before .before .before .before .before .before .before .before .pre .0 in marked-child _ _ _ _ _ _ _ (w .writes .rule-in) (c .before .before .before .before .if1 .left) (w .child (c .before .before .before .before .if1 .left)) (c .before .before .write-mark .ensures)
 
 pub pass-on-spec : {M : Type 1} → statement M
 pass-on-spec =

@@ -1,5 +1,4 @@
--- The cycle meets its contracts: the three functions together.
--- Assumes nothing.
+-- The cycle: `apply`, `judge_pair` and `judge_clause` meet their contracts. Assumes nothing.
 use Rattle.judge.proofs.cycle.apply.Reads as apply
 use Rattle.judge.proofs.cycle.+apply+judge_clause+judge_pair.Lts-apply as apply-lts
 use Rattle.judge.proofs.cycle.judge_clause.Reads as judge-clause
@@ -14,8 +13,8 @@ mod JudgeClause
 mod JudgePair
 use Rattle.judge.proofs.cycle.+apply+judge_clause+judge_pair.Proof.Base.{μ-apply, μ-judge-clause, μ-judge-pair, apply-at, judge-clause-at, judge-pair-at, apply-claims, judge-clause-claims, judge-pair-claims}
 use Rattle.judge.proofs.cycle.+apply+judge_clause+judge_pair.Proof.Apply.{apply-element-copy-out-verdict-of, apply-verdict-of-requires, apply-same-length, apply-returns, apply-judge-pair-requires, apply-same-length-2, apply-same-length-3, apply-returns-2}
-use Rattle.judge.proofs.cycle.+apply+judge_clause+judge_pair.Proof.JudgeClause.{judge-clause-Inv-loop, judge-clause-μ-loop, judge-clause-next-requires, judge-clause-loop-holds, judge-clause-apply-requires, judge-clause-element-copy-out-verdict-of, judge-clause-verdict-of-requires, judge-clause-more-requires, judge-clause-add-next, judge-clause-next-requires-2, judge-clause-loop-less, judge-clause-loop-again, judge-clause-same-length, judge-clause-same-length-2, judge-clause-returns}
-use Rattle.judge.proofs.cycle.+apply+judge_clause+judge_pair.Proof.JudgePair.{judge-pair-Inv-loop, judge-pair-μ-loop, judge-pair-element-copy-out-clauses-of, judge-pair-clauses-of-requires, judge-pair-loop-holds, judge-pair-judge-clause-requires, judge-pair-add-i, judge-pair-loop-less, judge-pair-loop-again, judge-pair-element-copy-out-of, judge-pair-of-requires, judge-pair-wide-requires, judge-pair-wide-requires-2, judge-pair-element-copy-out-children-of, judge-pair-element-copy-out-of-2, judge-pair-of-requires-2, judge-pair-children-of-requires, judge-pair-wide-requires-3, judge-pair-wide-requires-4, judge-pair-shut-marks-requires, judge-pair-wide-requires-5, judge-pair-cell-of-requires, judge-pair-settle-requires, judge-pair-same-length, judge-pair-same-length-2, judge-pair-returns}
+use Rattle.judge.proofs.cycle.+apply+judge_clause+judge_pair.Proof.JudgeClause.{judge-clause-Inv-loop, judge-clause-μ-loop, judge-clause-start-requires, judge-clause-turn-requires, judge-clause-loop-holds, judge-clause-apply-requires, judge-clause-element-copy-out-verdict-of, judge-clause-verdict-of-requires, judge-clause-more-requires, judge-clause-give-requires, judge-clause-add-turn, judge-clause-turn-requires-2, judge-clause-loop-less, judge-clause-loop-again, judge-clause-finish-requires, judge-clause-same-length, judge-clause-same-length-2, judge-clause-returns}
+use Rattle.judge.proofs.cycle.+apply+judge_clause+judge_pair.Proof.JudgePair.{judge-pair-Inv-loop, judge-pair-μ-loop, judge-pair-element-copy-out-clauses-of, judge-pair-clauses-of-requires, judge-pair-loop-holds, judge-pair-tried-requires, judge-pair-enum-known-so, judge-pair-enum-told, judge-pair-judge-clause-requires, judge-pair-add-i, judge-pair-loop-less, judge-pair-loop-again, judge-pair-shut-requires, judge-pair-element-copy-out-schemas-of, judge-pair-schemas-of-requires, judge-pair-settle-requires, judge-pair-same-length, judge-pair-same-length-2, judge-pair-returns}
 
 pub +apply+judge-clause+judge-pair-spec : {M : Type 1} → statement M
 +apply+judge-clause+judge-pair-spec =
@@ -33,16 +32,19 @@ pub +apply+judge-clause+judge-pair-spec : {M : Type 1} → statement M
     judge-clause.Post
     judge-clause-Inv-loop
     judge-clause-μ-loop
-    (judge-clause-next-requires t)
+    (judge-clause-start-requires t)
+    (judge-clause-turn-requires t)
     (judge-clause-loop-holds t)
     (judge-clause-apply-requires t)
     (judge-clause-element-copy-out-verdict-of t)
     (judge-clause-verdict-of-requires t)
     (judge-clause-more-requires t)
-    (judge-clause-add-next t)
-    (judge-clause-next-requires-2 t)
+    (judge-clause-give-requires t)
+    (judge-clause-add-turn t)
+    (judge-clause-turn-requires-2 t)
     (judge-clause-loop-less t)
     (judge-clause-loop-again t)
+    (judge-clause-finish-requires t)
     (judge-clause-same-length t)
     (judge-clause-same-length-2 t)
     (judge-clause-returns t))
@@ -53,23 +55,16 @@ pub +apply+judge-clause+judge-pair-spec : {M : Type 1} → statement M
     (judge-pair-element-copy-out-clauses-of t)
     (judge-pair-clauses-of-requires t)
     (judge-pair-loop-holds t)
+    (judge-pair-tried-requires t)
+    (judge-pair-enum-known-so t)
+    (judge-pair-enum-told t)
     (judge-pair-judge-clause-requires t)
     (judge-pair-add-i t)
     (judge-pair-loop-less t)
     (judge-pair-loop-again t)
-    (judge-pair-element-copy-out-of t)
-    (judge-pair-of-requires t)
-    (judge-pair-wide-requires t)
-    (judge-pair-wide-requires-2 t)
-    (judge-pair-element-copy-out-children-of t)
-    (judge-pair-element-copy-out-of-2 t)
-    (judge-pair-of-requires-2 t)
-    (judge-pair-children-of-requires t)
-    (judge-pair-wide-requires-3 t)
-    (judge-pair-wide-requires-4 t)
-    (judge-pair-shut-marks-requires t)
-    (judge-pair-wide-requires-5 t)
-    (judge-pair-cell-of-requires t)
+    (judge-pair-shut-requires t)
+    (judge-pair-element-copy-out-schemas-of t)
+    (judge-pair-schemas-of-requires t)
     (judge-pair-settle-requires t)
     (judge-pair-same-length t)
     (judge-pair-same-length-2 t)

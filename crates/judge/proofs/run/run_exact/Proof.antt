@@ -1,15 +1,17 @@
 -- `run_exact` meets its contract. Assumes nothing.
 use mathlib.Core.Path.{refl, _∙_}
+use native.Mathlib.Omega.{arith}
 use Rattle.judge.specs.State.{pair}
 use Rattle.judge.proofs.Whole.{cleared-fresh, root-ready, root-writes, root-judged}
 use Rattle.judge.proofs.Turning.{cell-asks}
-use Rattle.judge.proofs.Reading.{rules-ok, schemas-are, row-low, kid-first, kid-many, own-sheets, writes-by}
+use Rattle.judge.proofs.Reading.{rules-ok, schemas-are, row-low, kid-first, kid-many, own-sheets, reads-by, kids-small}
 use borrow.Author.Needs.{needs}
 use Rattle.judge.proofs.run.run_exact.Statement.{statement}
 use Rattle.judge.proofs.run.run_exact.Tie as tie
 
 clear-requires : tie.Need-clear-requires
-clear-requires c κs = search needs
+clear-requires c κs =
+    search needs
 
 apply-requires : tie.Need-apply-requires
 apply-requires c κs =
@@ -24,27 +26,24 @@ children-of-requires c κs =
     ((c .before .before .before .before .before .before .before .before .before .before .before .before .before .before .before .before .before .before .before .before .before .pre .0) .record-read .laid .formed, row-low (c .before .before .before .before .before .before .before .before .before .before .before .before .before .before .before .before .before .before .before .before .before .pre .0) ((root-ready {t = 0} (cleared-fresh (c .before .before .before .before .before .before .before .before .before .before .before .before .before .before .before .before .before .before .before .before .before .pre .1) (c .before .before .before .before .before .before .before .before .before .before .before .before .before .clear .ensures))) .inside))
 
 wide-requires : tie.Need-wide-requires
-wide-requires c κs = search needs
-
-wide-requires-2 : tie.Need-wide-requires-2
-wide-requires-2 c κs = search needs
-
-wide-requires-3 : tie.Need-wide-requires-3
-wide-requires-3 c κs = search needs
+wide-requires c κs =
+    search needs
 
 marked-of-requires : tie.Need-marked-of-requires
 marked-of-requires c κs =
-    writes-by (c .before .before .wide .ensures ∙ schemas-are (c .before .before .before .before .before .before .before .before .before .before .before .before .before .before .before .before .before .before .before .before .before .before .before .before .before .before .pre .0)) (kid-first (c .before .before .before .before .before .before .before .before .before .before .before .before .before .before .before .before .before .before .before .before .before .before .before .before .before .before .pre .0) (pair 0 0) (c .before .before .before .before .children-of .ensures) (c .before .wide2 .ensures)) (kid-many (c .before .before .before .before .before .before .before .before .before .before .before .before .before .before .before .before .before .before .before .before .before .before .before .before .before .before .pre .0) (pair 0 0) (c .before .before .before .before .children-of .ensures) (c .wide3 .ensures)) refl (root-writes (c .before .before .before .before .before .before .before .before .before .before .before .apply .ensures) ((c .before .before .before .before .before .before .before .before .before .before .before .before .before .before .before .before .before .before .before .before .before .before .before .before .before .before .pre .1) .fit))
+    let ts = c .before .before .before .before .before .before .before .before .before .before .before .before .before .before .before .before .before .before .before .before .before .before .before .before .args .text .now in (rw (c .wide .ensures ∙ schemas-are (c .before .before .before .before .before .before .before .before .before .before .before .before .before .before .before .before .before .before .before .before .before .before .before .before .pre .0), (c .before .before .children-of .ensures) .first-is ts, (c .before .before .children-of .ensures) .count-is ts) (root-writes (c .before .before .before .before .before .before .before .before .before .apply .ensures) ((c .before .before .before .before .before .before .before .before .before .before .before .before .before .before .before .before .before .before .before .before .before .before .before .before .pre .1) .fit)), kids-small ts (reads-by (own-sheets (c .before .before .before .before .before .before .before .before .before .before .before .before .before .before .before .before .before .before .before .before .before .before .before .before .pre .0)) ((root-ready {t = 0} (cleared-fresh (c .before .before .before .before .before .before .before .before .before .before .before .before .before .before .before .before .before .before .before .before .before .before .before .before .pre .1) (c .before .before .before .before .before .before .before .before .before .before .before .before .before .before .before .before .clear .ensures))) .inside)) ((c .before .before .before .before .before .before .before .before .before .before .before .before .before .before .before .before .before .before .before .before .before .before .before .before .pre .0) .record-read .laid .formed .same-form) (c .before .before .children-of .ensures) (omega arith))
 
 same-length : tie.Need-same-length
-same-length c = search needs
+same-length c =
+    search needs
 
 same-length-2 : tie.Need-same-length-2
-same-length-2 c = search needs
+same-length-2 c =
+    search needs
 
 returns : tie.Need-returns
 returns c =
-    root-judged _ (c .before .before .before .before .before .before .before .before .before .before .before .before .before .before .before .before .before .before .before .before .before .before .before .before .before .before .before .pre .1) (cleared-fresh (c .before .before .before .before .before .before .before .before .before .before .before .before .before .before .before .before .before .before .before .before .before .before .before .before .before .before .before .pre .1) (c .before .before .before .before .before .before .before .before .before .before .before .before .before .before .before .before .before .before .before .clear .ensures)) (c .before .before .before .before .before .before .before .before .before .before .before .before .apply .ensures) (c .before .before .before .before .before .before .verdict-of .ensures) refl refl (kid-first (c .before .before .before .before .before .before .before .before .before .before .before .before .before .before .before .before .before .before .before .before .before .before .before .before .before .before .before .pre .0) (pair 0 0) (c .before .before .before .before .before .children-of .ensures) (c .before .before .wide2 .ensures)) (kid-many (c .before .before .before .before .before .before .before .before .before .before .before .before .before .before .before .before .before .before .before .before .before .before .before .before .before .before .before .pre .0) (pair 0 0) (c .before .before .before .before .before .children-of .ensures) (c .before .wide3 .ensures)) (c .before .before .before .wide .ensures ∙ schemas-are (c .before .before .before .before .before .before .before .before .before .before .before .before .before .before .before .before .before .before .before .before .before .before .before .before .before .before .before .pre .0)) (c .marked-of .ensures)
+    root-judged _ (c .before .before .before .before .before .before .before .before .before .before .before .before .before .before .before .before .before .before .before .before .before .before .before .before .before .pre .1) (cleared-fresh (c .before .before .before .before .before .before .before .before .before .before .before .before .before .before .before .before .before .before .before .before .before .before .before .before .before .pre .1) (c .before .before .before .before .before .before .before .before .before .before .before .before .before .before .before .before .before .clear .ensures)) (c .before .before .before .before .before .before .before .before .before .before .apply .ensures) (c .before .before .before .before .verdict-of .ensures) refl refl (kid-first (c .before .before .before .before .before .before .before .before .before .before .before .before .before .before .before .before .before .before .before .before .before .before .before .before .before .pre .0) (pair 0 0) (c .before .before .before .children-of .ensures) refl) (kid-many (c .before .before .before .before .before .before .before .before .before .before .before .before .before .before .before .before .before .before .before .before .before .before .before .before .before .pre .0) (pair 0 0) (c .before .before .before .children-of .ensures) refl) (c .before .wide .ensures ∙ schemas-are (c .before .before .before .before .before .before .before .before .before .before .before .before .before .before .before .before .before .before .before .before .before .before .before .before .before .pre .0)) (c .marked-of .ensures)
 
 pub run-exact-spec : {M : Type 1} → statement M
 run-exact-spec =
@@ -55,8 +54,6 @@ run-exact-spec =
     verdict-of-requires
     children-of-requires
     wide-requires
-    wide-requires-2
-    wide-requires-3
     marked-of-requires
     same-length
     same-length-2

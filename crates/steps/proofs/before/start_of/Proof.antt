@@ -1,46 +1,30 @@
--- `start_of` meets its contract, by the variant. Assumes nothing.
+-- `start_of` meets its contract. Assumes nothing.
+use mathlib.Core.Path.{ap, subst}
 use native.Mathlib.Omega.{arith}
-use Rattle.steps.specs.Read.{beforeIn}
-use Rattle.steps.proofs.Earlier.{started-items, started-additional, started-other, before-long, clauses-few}
 use borrow.Author.Needs.{needs}
+use Rattle.rulesheet.specs.declared.form.SchemaRow.{SchemaRow}
+use Rattle.clause.specs.Read.{beforeIn}
+use Rattle.steps.specs.Read.{Started}
 use Rattle.steps.proofs.before.start_of.Statement.{statement}
 use Rattle.steps.proofs.before.start_of.Tie as tie
 
-enum-told : tie.Need-enum-told
-enum-told c = search needs
+schema-at-requires : tie.Need-schema-at-requires
+schema-at-requires c κs = search needs
 
-prefix-before-requires : tie.Need-prefix-before-requires
-prefix-before-requires c κs = search needs
+clause-in-requires : tie.Need-clause-in-requires
+clause-in-requires c κs = search needs
 
-enum-told-2 : tie.Need-enum-told-2
-enum-told-2 c = search needs
-
-names-from-requires : tie.Need-names-from-requires
-names-from-requires c κs = search needs
+start-in-requires : tie.Need-start-in-requires
+start-in-requires c κs =
+    let A = c .before .before .before .before .pre in
+    let low = A .2 in
+    (A .0 .laid, A .1, ap (λ (row : SchemaRow). row .first) (c .before .schema-at .ensures), omega arith)
 
 returns : tie.Need-returns
 returns c =
-    let start = c .before .before .before .before in
-    (λ us. started-items (start .args .rules .now) us (start .args .clause) (beforeIn (start .args .rules .now) us (start .args .s .0) (start .args .i)) _ _ (c .before .enum-told .given .1) (c .prefix-before .ensures .0 us), c .prefix-before .ensures .1)
-
-returns-2 : tie.Need-returns-2
-returns-2 c =
-    let start = c .before .before .before .before in
-    (λ us. started-additional (start .args .rules .now) us (start .args .clause) (beforeIn (start .args .rules .now) us (start .args .s .0) (start .args .i)) _ _ (c .before .enum-told2 .given .1) (omega (arith, before-long _ _ _ (start .pre) us, c .names-from .ensures .1)) (c .names-from .ensures .0 us), omega (arith, clauses-few _ _ _ (start .pre)))
-
-returns-3 : tie.Need-returns-3
-returns-3 c =
-    let start = c .before .before in
-    (λ us. started-other (start .args .rules .now) us (start .args .clause) (beforeIn (start .args .rules .now) us (start .args .s .0) (start .args .i)) _ (c .match .keys3), omega arith)
+    let start = c .before .before .before .before .before in
+    let C = c .before .clause-in .ensures _ (ap (λ (row : SchemaRow). row .first) (c .before .before .schema-at .ensures)) in
+    subst (λ x. Started (beforeIn (start .args .rules .now) (start .args .rule-text .now) (start .args .s .0) (start .args .i)) x (c .start-in .result)) (C .means) (c .start-in .ensures .0 (start .args .rule-text .now))
 
 pub start-of-spec : {M : Type 1} → statement M
-start-of-spec =
-    tie.close
-    (tie.spec
-    enum-told
-    prefix-before-requires
-    enum-told-2
-    names-from-requires
-    returns
-    returns-2
-    returns-3)
+start-of-spec = tie.close (tie.spec schema-at-requires clause-in-requires start-in-requires returns)

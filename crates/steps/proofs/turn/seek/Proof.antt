@@ -7,7 +7,7 @@ use Rattle.sheet.specs.Record.{docOf}
 use Rattle.rulesheet.specs.Clauses.{clauseMeans}
 use Rattle.areas.specs.Cells.{column}
 use Rattle.clause.proofs.Having.{never, never-not}
-use Rattle.steps.specs.Read.{beforeIn}
+use Rattle.clause.specs.Read.{beforeIn}
 use Rattle.steps.specs.Turns.{Skipped}
 use Rattle.steps.proofs.Turns.{skipped-more}
 use Rattle.steps.proofs.turn.seek.Statement.{statement}

@@ -1,12 +1,12 @@
--- `apply`: a settled pair's cell answers, another one is judged.
--- Assumes nothing.
-use borrow.Author.Needs.{needs}
-use native.Mathlib.Omega.{arith}
+-- `apply` meets its contract. Assumes nothing.
 use Prim.Native.Nat.{_-_}
-use Rattle.judge.proofs.Turning.{left, cell-asks}
+use native.Mathlib.Omega.{arith}
+use borrow.Author.Needs.{needs}
 use Rattle.judge.proofs.Claused.{known, unsettled-by, cells-kept, list-kept}
+use Rattle.judge.proofs.Turning.{left, cell-asks}
 use Rattle.judge.proofs.Reading.{rules-ok}
 use Prim.Native.Nat.{ℕ}
+use borrow.Fn.PlainCycle.{and}
 use Rattle.judge.proofs.cycle.apply.Reads as apply
 use Rattle.judge.proofs.cycle.+apply+judge_clause+judge_pair.Lts-apply as apply-lts
 use Rattle.judge.proofs.cycle.+apply+judge_clause+judge_pair.Proof.Base.{apply-at, apply-claims}
@@ -29,7 +29,7 @@ apply-returns t c =
 
 pub apply-judge-pair-requires : (t : ℕ) → apply-lts.Need-judge-pair-requires (apply-claims t) (apply-at t) apply.Post
 apply-judge-pair-requires t c κs =
-    (omega arith, ((c .before .before .before .before .before .before .before .before .pre .1 .0), ((c .before .before .before .before .before .before .before .before .pre .1 .1), unsettled-by _ _ _ (c .before .before .before .verdict-of .ensures) (c .before .before .if1 .left))))
+    (omega (arith, c .before .before .before .before .before .before .before .before .pre .0), ((c .before .before .before .before .before .before .before .before .pre .1 .0), ((c .before .before .before .before .before .before .before .before .pre .1 .1), unsettled-by _ _ _ (c .before .before .before .verdict-of .ensures) (c .before .before .if1 .left))))
 
 pub apply-same-length-2 : (t : ℕ) → apply-lts.Need-same-length-2 (apply-claims t) (apply-at t) apply.Post
 apply-same-length-2 t c =

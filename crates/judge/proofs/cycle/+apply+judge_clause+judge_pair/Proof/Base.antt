@@ -1,7 +1,7 @@
 -- The falling number of each function of the cycle, and what its callees ask and promise.
 -- Assumes nothing.
 use Prim.Native.Nat.{_+_, _*_, _-_}
-use Rattle.steps.specs.Turns.{pairIs}
+use Rattle.areas.specs.Cells.{pairIs}
 use Rattle.judge.specs.State.{lentCase, rankOf}
 use Prim.Native.Nat.{ℕ, _<_}
 use borrow.Fn.Kinds.{In}
@@ -15,17 +15,17 @@ use Rattle.judge.proofs.cycle.+apply+judge_clause+judge_pair.Lts-judge_
 use Rattle.judge.proofs.cycle.judge_pair.Reads as judge-pair
 use Rattle.judge.proofs.cycle.judge_pair.Kinds as judge-pair-kinds
 use Rattle.judge.proofs.cycle.+apply+judge_clause+judge_pair.Lts-judge_pair as judge-pair-lts
-use Rattle.areas.proofs.cell_of.Reads as cell-of-reads
 use Rattle.areas.proofs.settle.Reads as settle-reads
-use Rattle.areas.proofs.shut_marks.Reads as shut-marks-reads
-use Rattle.judge.proofs.cycle.clauses_of.Reads as clauses-of-reads
-use Rattle.judge.proofs.cycle.more.Reads as more-reads
-use Rattle.judge.proofs.cycle.next.Reads as next-reads
-use Rattle.judge.proofs.cycle.verdict_of.Reads as verdict-of-reads
-use Rattle.rulesheet.proofs.form.RuleForm.of.Reads as form-RuleForm-of-reads
-use Rattle.sheet.proofs.record.RecordForm.of.Reads as record-RecordForm-of-reads
-use Rattle.sheet.proofs.record.children_of.Reads as children-of-reads
-use Rattle.sheet.proofs.record.wide.Reads as wide-reads
+use Rattle.judge.proofs.read.clauses_of.Reads as clauses-of-reads
+use Rattle.judge.proofs.read.finish.Reads as finish-reads
+use Rattle.judge.proofs.read.give.Reads as give-reads
+use Rattle.judge.proofs.read.more.Reads as more-reads
+use Rattle.judge.proofs.read.schemas_of.Reads as schemas-of-reads
+use Rattle.judge.proofs.read.shut.Reads as shut-reads
+use Rattle.judge.proofs.read.start.Reads as start-reads
+use Rattle.judge.proofs.read.tried.Reads as tried-reads
+use Rattle.judge.proofs.read.turn.Reads as turn-reads
+use Rattle.judge.proofs.read.verdict_of.Reads as verdict-of-reads
 
 abbrev pub μ-apply : Measures 4 apply-kinds.ps ℕ
 μ-apply κs a =
@@ -69,7 +69,7 @@ abbrev pub apply-claims : ℕ → apply-lts.Claims
 apply-claims t = (verdict-of-reads.Asked, verdict-of-reads.Learnt, judge-pair-below t, judge-pair.Post)
 
 abbrev pub judge-clause-claims : ℕ → judge-clause-lts.Claims
-judge-clause-claims t = (next-reads.Asked, next-reads.Learnt, apply-below t, apply.Post, verdict-of-reads.Asked, verdict-of-reads.Learnt, more-reads.Asked, more-reads.Learnt)
+judge-clause-claims t = (start-reads.Asked, start-reads.Learnt, turn-reads.Asked, turn-reads.Learnt, apply-below t, apply.Post, verdict-of-reads.Asked, verdict-of-reads.Learnt, more-reads.Asked, more-reads.Learnt, give-reads.Asked, give-reads.Learnt, finish-reads.Asked, finish-reads.Learnt)
 
 abbrev pub judge-pair-claims : ℕ → judge-pair-lts.Claims
-judge-pair-claims t = (clauses-of-reads.Asked, clauses-of-reads.Learnt, judge-clause-below t, judge-clause.Post, form-RuleForm-of-reads.Asked, form-RuleForm-of-reads.Learnt, wide-reads.Asked, wide-reads.Learnt, record-RecordForm-of-reads.Asked, record-RecordForm-of-reads.Learnt, children-of-reads.Asked, children-of-reads.Learnt, shut-marks-reads.Asked, shut-marks-reads.Learnt, cell-of-reads.Asked, cell-of-reads.Learnt, settle-reads.Asked, settle-reads.Learnt)
+judge-pair-claims t = (clauses-of-reads.Asked, clauses-of-reads.Learnt, tried-reads.Asked, tried-reads.Learnt, judge-clause-below t, judge-clause.Post, shut-reads.Asked, shut-reads.Learnt, schemas-of-reads.Asked, schemas-of-reads.Learnt, settle-reads.Asked, settle-reads.Learnt)

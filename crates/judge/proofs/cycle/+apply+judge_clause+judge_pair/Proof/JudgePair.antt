@@ -1,16 +1,18 @@
--- `judge_pair`: after i clauses the areas are as `Claused` says, and the last step settles the pair.
--- Assumes nothing.
-use borrow.Author.Needs.{needs}
-use native.Mathlib.Omega.{arith}
-use mathlib.Core.Path.{refl, _∙_}
+-- `judge_pair` meets its contract. Assumes nothing.
+use mathlib.Core.Logic.{⊎-elim}
+use mathlib.Core.Path.{ap, _∙_, subst}
 use Prim.Native.Nat.{_-_, _≤_}
-use Rattle.steps.specs.Turns.{pairIs}
-use Rattle.judge.specs.State.{lentCase}
+use native.Mathlib.Omega.{arith}
+use borrow.Author.Needs.{needs}
+use Rattle.areas.specs.Cells.{pairIs, cellAt}
+use Rattle.clause.specs.Read.{Tries}
+use Rattle.judge.specs.State.{lentCase, clauseAt}
 use Rattle.judge.proofs.Going.{going-ready, going-unsettled, going-writes, going-open}
-use Rattle.judge.proofs.Turning.{left, cell-asks}
 use Rattle.judge.proofs.Claused.{Claused, claused-none, claused-more, claused-shut, claused-end, cells-kept, list-kept}
-use Rattle.judge.proofs.Reading.{formed-by, schemas-by, cell-by, rules-ok, row-low, clauses-many, kid-first, kid-many, lent-sheets, writes-by, shut-by, lt-by}
+use Rattle.judge.proofs.Turning.{claused-test, left}
+use Rattle.judge.proofs.Reading.{rules-ok, clauses-many, reads-by, reads-clause, lt-next, lt-by}
 use Prim.Native.Nat.{ℕ}
+use borrow.Fn.PlainCycle.{and}
 use Rattle.judge.proofs.cycle.judge_pair.Reads as judge-pair
 use Rattle.judge.proofs.cycle.+apply+judge_clause+judge_pair.Lts-judge_pair as judge-pair-lts
 use Rattle.judge.proofs.cycle.+apply+judge_clause+judge_pair.Proof.Base.{judge-pair-at, judge-pair-claims}
@@ -35,86 +37,58 @@ pub judge-pair-loop-holds : (t : ℕ) → judge-pair-lts.Need-loop-holds (judge-
 judge-pair-loop-holds t c =
     (omega arith, claused-none (c .before .before .before .before .pre .1 .1 .0) (c .before .before .before .before .pre .1 .1 .1))
 
+pub judge-pair-tried-requires : (t : ℕ) → judge-pair-lts.Need-tried-requires (judge-pair-claims t) (judge-pair-at t) judge-pair.Post judge-pair-Inv-loop judge-pair-μ-loop
+judge-pair-tried-requires t c κs =
+    (reads-clause (c .before .before .before .before .before .before .before .pre .1 .0) ((c .before .before .before .before .before .before .before .pre .1 .1 .0) .inside) (lt-by (c .before .loop-test .taken) (c .before .before .before .clauses-of .ensures)), going-unsettled ((c .before .before .loop .inv .1) .going))
+
+pub judge-pair-enum-known-so : (t : ℕ) → judge-pair-lts.Need-enum-known-so (judge-pair-claims t) (judge-pair-at t) judge-pair.Post judge-pair-Inv-loop judge-pair-μ-loop
+judge-pair-enum-known-so t c =
+    search needs
+
+pub judge-pair-enum-told : (t : ℕ) → judge-pair-lts.Need-enum-told (judge-pair-claims t) (judge-pair-at t) judge-pair.Post judge-pair-Inv-loop judge-pair-μ-loop
+judge-pair-enum-told t c =
+    search needs
+
 pub judge-pair-judge-clause-requires : (t : ℕ) → judge-pair-lts.Need-judge-clause-requires (judge-pair-claims t) (judge-pair-at t) judge-pair.Post judge-pair-Inv-loop judge-pair-μ-loop
 judge-pair-judge-clause-requires t c κs =
-    (omega arith, ((c .before .before .before .before .before .before .before .before .pre .1 .0), (going-ready ((c .before .before .before .loop .inv .1) .going), (going-unsettled ((c .before .before .before .loop .inv .1) .going), lt-by (c .before .before .loop-test .taken) (c .before .before .before .before .clauses-of .ensures)))))
+    (omega (arith, c .before .before .before .before .before .before .before .before .before .before .before .before .pre .0), ((c .before .before .before .before .before .before .before .before .before .before .before .before .pre .1 .0), (going-ready ((c .before .before .before .before .before .before .before .loop .inv .1) .going), (going-unsettled ((c .before .before .before .before .before .before .before .loop .inv .1) .going), ((lt-by (c .before .before .before .before .before .before .loop-test .taken) (c .before .before .before .before .before .before .before .before .clauses-of .ensures)), subst (λ r. Tries ((lentCase (c .before .before .before .before .before .before .before .before .before .before .before .before .args .sheets .now) (c .before .before .before .before .before .before .before .before .before .before .before .before .args .texts .now)) .doc) (c .before .before .before .before .before .before .before .before .before .before .before .before .args .p .row .0) (clauseAt (lentCase (c .before .before .before .before .before .before .before .before .before .before .before .before .args .sheets .now) (c .before .before .before .before .before .before .before .before .before .before .before .before .args .texts .now)) (pairIs (c .before .before .before .before .before .before .before .before .before .before .before .before .args .p)) (c .before .before .before .before .before .before .before .loop .i)) r) (c .before .before .enum-told .given .1) (c .before .before .before .before .tried .ensures))))))
 
 pub judge-pair-add-i : (t : ℕ) → judge-pair-lts.Need-add-i (judge-pair-claims t) (judge-pair-at t) judge-pair.Post judge-pair-Inv-loop judge-pair-μ-loop
 judge-pair-add-i t c =
-    omega arith
+    let h = c .before .before .before .loop-test .taken in omega arith
 
 pub judge-pair-loop-less : (t : ℕ) → judge-pair-lts.Need-loop-less (judge-pair-claims t) (judge-pair-at t) judge-pair.Post judge-pair-Inv-loop judge-pair-μ-loop
 judge-pair-loop-less t c =
-    omega arith
+    let h = c .before .before .before .loop-test .taken in omega arith
 
 pub judge-pair-loop-again : (t : ℕ) → judge-pair-lts.Need-loop-again (judge-pair-claims t) (judge-pair-at t) judge-pair.Post judge-pair-Inv-loop judge-pair-μ-loop
 judge-pair-loop-again t c =
-    (omega arith, claused-more (c .before .before .before .before .before .before .before .before .before .loop .inv .1) (c .before .before .before .before .before .judge-clause .ensures) refl)
+    (lt-next (c .before .before .before .loop-test .taken), ⊎-elim (λ w. rw (w .3, w .4, w .6) (claused-test (c .before .before .before .before .loop .inv .1) (subst (λ r. Tries ((lentCase (c .before .before .before .before .before .before .before .before .before .args .sheets .now) (c .before .before .before .before .before .before .before .before .before .args .texts .now)) .doc) (c .before .before .before .before .before .before .before .before .before .args .p .row .0) (clauseAt (lentCase (c .before .before .before .before .before .before .before .before .before .args .sheets .now) (c .before .before .before .before .before .before .before .before .before .args .texts .now)) (pairIs (c .before .before .before .before .before .before .before .before .before .args .p)) (c .before .before .before .before .loop .i)) r) (w .1 .given .1) (c .before .tried .ensures)) (w .5))) (λ w. rw (w .10, w .11, w .13) (claused-more (c .before .before .before .before .loop .inv .1) (w .4 .ensures) (w .12))) (c .match .came))
 
-pub judge-pair-element-copy-out-of : (t : ℕ) → judge-pair-lts.Need-element-copy-out-of (judge-pair-claims t) (judge-pair-at t) judge-pair.Post judge-pair-Inv-loop judge-pair-μ-loop
-judge-pair-element-copy-out-of t c =
+pub judge-pair-shut-requires : (t : ℕ) → judge-pair-lts.Need-shut-requires (judge-pair-claims t) (judge-pair-at t) judge-pair.Post judge-pair-Inv-loop judge-pair-μ-loop
+judge-pair-shut-requires t c κs =
+    (reads-by (c .before .before .before .before .before .before .before .pre .1 .0) ((c .before .before .before .before .before .before .before .pre .1 .1 .0) .inside), going-writes ((c .before .before .loop .inv .1) .going) _ ((c .before .before .before .before .before .before .before .pre .1 .1 .0) .inside .rule-in))
+
+pub judge-pair-element-copy-out-schemas-of : (t : ℕ) → judge-pair-lts.Need-element-copy-out-schemas-of (judge-pair-claims t) (judge-pair-at t) judge-pair.Post judge-pair-Inv-loop judge-pair-μ-loop
+judge-pair-element-copy-out-schemas-of t c =
     search needs
 
-pub judge-pair-of-requires : (t : ℕ) → judge-pair-lts.Need-of-requires (judge-pair-claims t) (judge-pair-at t) judge-pair.Post judge-pair-Inv-loop judge-pair-μ-loop
-judge-pair-of-requires t c κs =
-    rules-ok (c .before .before .before .before .before .before .before .pre .1 .0)
-
-pub judge-pair-wide-requires : (t : ℕ) → judge-pair-lts.Need-wide-requires (judge-pair-claims t) (judge-pair-at t) judge-pair.Post judge-pair-Inv-loop judge-pair-μ-loop
-judge-pair-wide-requires t c κs =
-    search needs
-
-pub judge-pair-wide-requires-2 : (t : ℕ) → judge-pair-lts.Need-wide-requires-2 (judge-pair-claims t) (judge-pair-at t) judge-pair.Post judge-pair-Inv-loop judge-pair-μ-loop
-judge-pair-wide-requires-2 t c κs =
-    search needs
-
-pub judge-pair-element-copy-out-children-of : (t : ℕ) → judge-pair-lts.Need-element-copy-out-children-of (judge-pair-claims t) (judge-pair-at t) judge-pair.Post judge-pair-Inv-loop judge-pair-μ-loop
-judge-pair-element-copy-out-children-of t c =
-    search needs
-
-pub judge-pair-element-copy-out-of-2 : (t : ℕ) → judge-pair-lts.Need-element-copy-out-of-2 (judge-pair-claims t) (judge-pair-at t) judge-pair.Post judge-pair-Inv-loop judge-pair-μ-loop
-judge-pair-element-copy-out-of-2 t c =
-    search needs
-
-pub judge-pair-of-requires-2 : (t : ℕ) → judge-pair-lts.Need-of-requires-2 (judge-pair-claims t) (judge-pair-at t) judge-pair.Post judge-pair-Inv-loop judge-pair-μ-loop
-judge-pair-of-requires-2 t c κs =
-    (c .before .before .before .before .before .before .before .before .before .before .before .before .pre .1 .0) .record-read .laid .formed .trailer
-
-pub judge-pair-children-of-requires : (t : ℕ) → judge-pair-lts.Need-children-of-requires (judge-pair-claims t) (judge-pair-at t) judge-pair.Post judge-pair-Inv-loop judge-pair-μ-loop
-judge-pair-children-of-requires t c κs =
-    let Z = lent-sheets (c .before .before .before .before .before .before .before .before .before .before .before .before .before .pre .1 .0) (c .of2 .ensures) (c .before .before .before .before .before .of .ensures) in (Z .record-read .laid .formed, row-low Z ((c .before .before .before .before .before .before .before .before .before .before .before .before .before .pre .1 .1 .0) .inside))
-
-pub judge-pair-wide-requires-3 : (t : ℕ) → judge-pair-lts.Need-wide-requires-3 (judge-pair-claims t) (judge-pair-at t) judge-pair.Post judge-pair-Inv-loop judge-pair-μ-loop
-judge-pair-wide-requires-3 t c κs =
-    search needs
-
-pub judge-pair-wide-requires-4 : (t : ℕ) → judge-pair-lts.Need-wide-requires-4 (judge-pair-claims t) (judge-pair-at t) judge-pair.Post judge-pair-Inv-loop judge-pair-μ-loop
-judge-pair-wide-requires-4 t c κs =
-    search needs
-
-pub judge-pair-shut-marks-requires : (t : ℕ) → judge-pair-lts.Need-shut-marks-requires (judge-pair-claims t) (judge-pair-at t) judge-pair.Post judge-pair-Inv-loop judge-pair-μ-loop
-judge-pair-shut-marks-requires t c κs =
-    writes-by (schemas-by (formed-by (rules-ok (c .before .before .before .before .before .before .before .before .before .before .before .before .before .before .before .before .before .pre .1 .0)) (c .before .before .before .before .before .before .before .before .before .of .ensures)) (c .before .before .before .before .before .before .before .before .wide .ensures)) (kid-first (c .before .before .before .before .before .before .before .before .before .before .before .before .before .before .before .before .before .pre .1 .0) (pairIs (c .before .before .before .before .before .before .before .before .before .before .before .before .before .before .before .before .before .args .p)) (c .before .before .before .children-of .ensures) (c .before .wide3 .ensures)) (kid-many (c .before .before .before .before .before .before .before .before .before .before .before .before .before .before .before .before .before .pre .1 .0) (pairIs (c .before .before .before .before .before .before .before .before .before .before .before .before .before .before .before .before .before .args .p)) (c .before .before .before .children-of .ensures) (c .wide4 .ensures)) (c .before .before .before .before .before .before .before .wide2 .ensures) (going-writes ((c .before .before .before .before .before .before .before .before .before .before .before .before .loop .inv .1) .going) _ ((c .before .before .before .before .before .before .before .before .before .before .before .before .before .before .before .before .before .pre .1 .1 .0) .inside .rule-in))
-
-pub judge-pair-wide-requires-5 : (t : ℕ) → judge-pair-lts.Need-wide-requires-5 (judge-pair-claims t) (judge-pair-at t) judge-pair.Post judge-pair-Inv-loop judge-pair-μ-loop
-judge-pair-wide-requires-5 t c κs =
-    search needs
-
-pub judge-pair-cell-of-requires : (t : ℕ) → judge-pair-lts.Need-cell-of-requires (judge-pair-claims t) (judge-pair-at t) judge-pair.Post judge-pair-Inv-loop judge-pair-μ-loop
-judge-pair-cell-of-requires t c κs =
-    let h = cell-asks ((c .before .before .before .before .before .before .before .before .before .before .before .before .before .before .before .before .before .before .before .before .before .before .before .pre .1 .1 .0) .fit) ((c .before .before .before .before .before .before .before .before .before .before .before .before .before .before .before .before .before .before .before .before .before .before .before .pre .1 .1 .0) .inside) ((c .before .before .before .before .before .before .before .before .before .before .before .before .before .before .before .before .before .before .before .before .before .before .before .pre .1 .1 .0) .areas) in omega (arith, cell-by (schemas-by (formed-by (rules-ok (c .before .before .before .before .before .before .before .before .before .before .before .before .before .before .before .before .before .before .before .before .before .before .before .pre .1 .0)) (c .before .before .before .before .before .before .before .before .before .before .before .before .before .before .before .of .ensures)) (c .before .before .before .before .before .before .before .before .before .before .before .before .before .before .wide .ensures)) (c .wide5 .ensures) (c .before .before .before .before .before .before .before .before .before .before .before .before .before .wide2 .ensures), h .0, h .1)
+pub judge-pair-schemas-of-requires : (t : ℕ) → judge-pair-lts.Need-schemas-of-requires (judge-pair-claims t) (judge-pair-at t) judge-pair.Post judge-pair-Inv-loop judge-pair-μ-loop
+judge-pair-schemas-of-requires t c κs =
+    rules-ok (c .before .before .before .before .before .before .before .before .before .before .before .before .before .pre .1 .0)
 
 pub judge-pair-settle-requires : (t : ℕ) → judge-pair-lts.Need-settle-requires (judge-pair-claims t) (judge-pair-at t) judge-pair.Post judge-pair-Inv-loop judge-pair-μ-loop
 judge-pair-settle-requires t c κs =
-    going-open (claused-shut (c .before .before .before .before .before .before .before .before .before .before .before .before .before .before .before .before .before .before .before .loop .inv .1) (shut-by _ (schemas-by (formed-by (rules-ok (c .before .before .before .before .before .before .before .before .before .before .before .before .before .before .before .before .before .before .before .before .before .before .before .before .pre .1 .0)) (c .before .before .before .before .before .before .before .before .before .before .before .before .before .before .before .before .of .ensures)) (c .before .before .before .before .before .before .before .before .before .before .before .before .before .before .before .wide .ensures)) (kid-first (c .before .before .before .before .before .before .before .before .before .before .before .before .before .before .before .before .before .before .before .before .before .before .before .before .pre .1 .0) (pairIs (c .before .before .before .before .before .before .before .before .before .before .before .before .before .before .before .before .before .before .before .before .before .before .before .before .args .p)) (c .before .before .before .before .before .before .before .before .before .before .children-of .ensures) (c .before .before .before .before .before .before .before .before .wide3 .ensures)) (kid-many (c .before .before .before .before .before .before .before .before .before .before .before .before .before .before .before .before .before .before .before .before .before .before .before .before .pre .1 .0) (pairIs (c .before .before .before .before .before .before .before .before .before .before .before .before .before .before .before .before .before .before .before .before .before .before .before .before .args .p)) (c .before .before .before .before .before .before .before .before .before .before .children-of .ensures) (c .before .before .before .before .before .before .before .wide4 .ensures)) (c .before .before .before .before .before .before .before .before .before .before .before .before .before .before .wide2 .ensures) (c .before .before .before .before .before .before .shut-marks .ensures))) (c .cell-of .ensures ∙ cell-by (schemas-by (formed-by (rules-ok (c .before .before .before .before .before .before .before .before .before .before .before .before .before .before .before .before .before .before .before .before .before .before .before .before .pre .1 .0)) (c .before .before .before .before .before .before .before .before .before .before .before .before .before .before .before .before .of .ensures)) (c .before .before .before .before .before .before .before .before .before .before .before .before .before .before .before .wide .ensures)) (c .before .wide5 .ensures) (c .before .before .before .before .before .before .before .before .before .before .before .before .before .before .wide2 .ensures))
+    going-open (claused-shut (c .before .before .before .before .before .before .before .before .before .loop .inv .1) (c .before .before .before .before .before .before .shut .ensures)) (ap (λ (k : ℕ). cellAt k (pairIs (c .before .before .before .before .before .before .before .before .before .before .before .before .before .before .args .p))) (c .schemas-of .ensures))
 
 pub judge-pair-same-length : (t : ℕ) → judge-pair-lts.Need-same-length (judge-pair-claims t) (judge-pair-at t) judge-pair.Post judge-pair-Inv-loop judge-pair-μ-loop
 judge-pair-same-length t c =
-    c .before .before .before .before .settle .kept .0 ∙ c .before .before .before .before .before .before .before .before .before .before .before .shut-marks .ensures .len ∙ cells-kept ((c .before .before .before .before .before .before .before .before .before .before .before .before .before .before .before .before .before .before .before .before .before .before .before .before .before .before .before .before .before .pre .1 .1 .0) .areas) ((c .before .before .before .before .before .before .before .before .before .before .before .before .before .before .before .before .before .before .before .before .before .before .before .before .loop .inv .1) .going .areas)
+    c .before .before .before .before .settle .kept .0 ∙ c .before .before .before .before .before .before .before .before .before .before .before .shut .ensures .len ∙ cells-kept ((c .before .before .before .before .before .before .before .before .before .before .before .before .before .before .before .before .before .before .before .pre .1 .1 .0) .areas) ((c .before .before .before .before .before .before .before .before .before .before .before .before .before .before .loop .inv .1) .going .areas)
 
 pub judge-pair-same-length-2 : (t : ℕ) → judge-pair-lts.Need-same-length-2 (judge-pair-claims t) (judge-pair-at t) judge-pair.Post judge-pair-Inv-loop judge-pair-μ-loop
 judge-pair-same-length-2 t c =
-    c .before .before .before .before .settle .kept .1 .0 ∙ list-kept ((c .before .before .before .before .before .before .before .before .before .before .before .before .before .before .before .before .before .before .before .before .before .before .before .before .before .before .before .before .before .pre .1 .1 .0) .areas) ((c .before .before .before .before .before .before .before .before .before .before .before .before .before .before .before .before .before .before .before .before .before .before .before .before .loop .inv .1) .going .areas)
+    c .before .before .before .before .settle .kept .1 .0 ∙ list-kept ((c .before .before .before .before .before .before .before .before .before .before .before .before .before .before .before .before .before .before .before .pre .1 .1 .0) .areas) ((c .before .before .before .before .before .before .before .before .before .before .before .before .before .before .loop .inv .1) .going .areas)
 
 pub judge-pair-returns : (t : ℕ) → judge-pair-lts.Need-returns (judge-pair-claims t) (judge-pair-at t) judge-pair.Post judge-pair-Inv-loop judge-pair-μ-loop
 judge-pair-returns t c =
-    claused-end (clauses-many (c .before .before .before .before .before .before .before .before .before .before .before .before .before .before .before .before .before .before .before .before .before .before .before .before .before .before .before .before .before .pre .1 .0) ((c .before .before .before .before .before .before .before .before .before .before .before .before .before .before .before .before .before .before .before .before .before .before .before .before .before .before .before .before .before .pre .1 .1 .0) .inside) (c .before .before .before .before .before .before .before .before .before .before .before .before .before .before .before .before .before .before .before .before .before .before .before .before .before .clauses-of .ensures)) (c .before .before .before .before .before .before .before .before .before .before .before .before .before .before .before .before .before .before .before .before .before .before .before .before .loop .inv .0) (c .before .before .before .before .before .before .before .before .before .before .before .before .before .before .before .before .before .before .before .before .before .before .before .loop-test .left) (c .before .before .before .before .before .before .before .before .before .before .before .before .before .before .before .before .before .before .before .before .before .before .before .before .before .before .before .before .before .pre .1 .1 .0) (c .before .before .before .before .before .before .before .before .before .before .before .before .before .before .before .before .before .before .before .before .before .before .before .before .before .before .before .before .before .pre .1 .1 .1) (c .before .before .before .before .before .before .before .before .before .before .before .before .before .before .before .before .before .before .before .before .before .before .before .before .loop .inv .1) (shut-by _ (schemas-by (formed-by (rules-ok (c .before .before .before .before .before .before .before .before .before .before .before .before .before .before .before .before .before .before .before .before .before .before .before .before .before .before .before .before .before .pre .1 .0)) (c .before .before .before .before .before .before .before .before .before .before .before .before .before .before .before .before .before .before .before .before .before .of .ensures)) (c .before .before .before .before .before .before .before .before .before .before .before .before .before .before .before .before .before .before .before .before .wide .ensures)) (kid-first (c .before .before .before .before .before .before .before .before .before .before .before .before .before .before .before .before .before .before .before .before .before .before .before .before .before .before .before .before .before .pre .1 .0) (pairIs (c .before .before .before .before .before .before .before .before .before .before .before .before .before .before .before .before .before .before .before .before .before .before .before .before .before .before .before .before .before .args .p)) (c .before .before .before .before .before .before .before .before .before .before .before .before .before .before .before .children-of .ensures) (c .before .before .before .before .before .before .before .before .before .before .before .before .before .wide3 .ensures)) (kid-many (c .before .before .before .before .before .before .before .before .before .before .before .before .before .before .before .before .before .before .before .before .before .before .before .before .before .before .before .before .before .pre .1 .0) (pairIs (c .before .before .before .before .before .before .before .before .before .before .before .before .before .before .before .before .before .before .before .before .before .before .before .before .before .before .before .before .before .args .p)) (c .before .before .before .before .before .before .before .before .before .before .before .before .before .before .before .children-of .ensures) (c .before .before .before .before .before .before .before .before .before .before .before .before .wide4 .ensures)) (c .before .before .before .before .before .before .before .before .before .before .before .before .before .before .before .before .before .before .before .wide2 .ensures) (c .before .before .before .before .before .before .before .before .before .before .before .shut-marks .ensures)) (c .before .before .before .before .before .cell-of .ensures ∙ cell-by (schemas-by (formed-by (rules-ok (c .before .before .before .before .before .before .before .before .before .before .before .before .before .before .before .before .before .before .before .before .before .before .before .before .before .before .before .before .before .pre .1 .0)) (c .before .before .before .before .before .before .before .before .before .before .before .before .before .before .before .before .before .before .before .before .before .of .ensures)) (c .before .before .before .before .before .before .before .before .before .before .before .before .before .before .before .before .before .before .before .before .wide .ensures)) (c .before .before .before .before .before .before .wide5 .ensures) (c .before .before .before .before .before .before .before .before .before .before .before .before .before .before .before .before .before .before .before .wide2 .ensures)) (c .before .before .before .before .settle .ensures)
+    claused-end (clauses-many (c .before .before .before .before .before .before .before .before .before .before .before .before .before .before .before .before .before .before .before .pre .1 .0) ((c .before .before .before .before .before .before .before .before .before .before .before .before .before .before .before .before .before .before .before .pre .1 .1 .0) .inside) (c .before .before .before .before .before .before .before .before .before .before .before .before .before .before .before .clauses-of .ensures)) (c .before .before .before .before .before .before .before .before .before .before .before .before .before .before .loop .inv .0) (c .before .before .before .before .before .before .before .before .before .before .before .before .before .loop-test .left) (c .before .before .before .before .before .before .before .before .before .before .before .before .before .before .before .before .before .before .before .pre .1 .1 .0) (c .before .before .before .before .before .before .before .before .before .before .before .before .before .before .before .before .before .before .before .pre .1 .1 .1) (c .before .before .before .before .before .before .before .before .before .before .before .before .before .before .loop .inv .1) (c .before .before .before .before .before .before .before .before .before .before .before .shut .ensures) (ap (λ (k : ℕ). cellAt k (pairIs (c .before .before .before .before .before .before .before .before .before .before .before .before .before .before .before .before .before .before .before .args .p))) (c .before .before .before .before .before .schemas-of .ensures)) (c .before .before .before .before .settle .ensures)

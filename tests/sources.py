@@ -1,0 +1,60 @@
+#!/usr/bin/env python3
+"""What the prover does not see, read off the sources: from the clearing on, two functions alone store into cells, one that settles a pair and one that
+writes marks (a store that changes no value, as cells[0] = cells[0], breaks no contract)."""
+import glob
+import os
+import re
+import sys
+
+ROOT = os.path.dirname(os.path.dirname(os.path.realpath(__file__)))
+STORERS = {('areas', 'clear'), ('areas', 'settle'), ('areas', 'write_mark')}
+FUNCTION = re.compile(r'^\s*(?:pub(?:\(crate\))? )?(?:extern "C" )?fn (\w+)', re.M)
+STORE = re.compile(r'\b(\w+)\[[^\]]*\]\s*[-+*/%&|^]?=(?!=)')
+BYTES = re.compile(r'(\w+): &mut \[u8\]')
+
+
+def functions(text):
+    """Each function of a source, its name and its lines."""
+    starts = [(found.start(), found.group(1)) for found in FUNCTION.finditer(text)]
+    for (start, name), (end, _) in zip(starts, starts[1:] + [(len(text), '')]):
+        yield name, text[start:end]
+
+
+def stores(crate, text):
+    """The functions of a crate's source that store into bytes that are lent to them."""
+    for name, body in functions(text):
+        lent = set(BYTES.findall(body))
+        if any(found in lent for found in STORE.findall(body)):
+            yield crate, name
+
+
+def found():
+    for path in sorted(glob.glob(os.path.join(ROOT, 'crates', '*', 'src', '**', '*.rt'), recursive=True)):
+        crate = os.path.relpath(path, os.path.join(ROOT, 'crates')).split(os.sep)[0]
+        with open(path) as source:
+            yield from stores(crate, source.read())
+
+
+def main():
+    passed = failed = 0
+    seen = set(found())
+    for crate, name in sorted(seen | STORERS):
+        if (crate, name) in seen and (crate, name) in STORERS:
+            passed += 1
+        else:
+            failed += 1
+            print('%s::%s %s' % (crate, name, 'stores into lent bytes' if (crate, name) in seen else 'stores no more'))
+    # The scan itself: a store elsewhere is seen, a comparison is none.
+    for body, expected in (('fn f(cells: &mut [u8]) {\n    cells[0] = cells[0];\n}', 1), ('fn f(cells: &mut [u8]) -> bool {\n    cells[0] == 1\n}', 0),
+                           ('fn f(cells: &[u8], words: &mut [u32]) {\n    words[0] = 1;\n}', 0), ('fn f(cells: &mut [u8]) {\n    cells[at] += 4;\n}', 1)):
+        if len(list(stores('x', body))) == expected:
+            passed += 1
+        else:
+            failed += 1
+            print('the scan is wrong about: ' + body)
+    print('%d passed, %d failed' % (passed, failed))
+    return failed != 0
+
+
+if __name__ == '__main__':
+    sys.exit(main())
