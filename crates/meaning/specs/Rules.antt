@@ -1,4 +1,4 @@
--- The rules of judgement.
+-- The rules of judgement. Beside the line of a keyword stands 01's code, with the name that document 000 gives the rule.
 -- Assumes nothing.
 use Prim.Native.Nat.{ℕ, zero, suc, _+_, _*_}
 use mathlib.Core.Bool.{Bool, true, false, not, _&&_, _||_}
@@ -83,11 +83,11 @@ none? bs = not (any bs)
 
 -- the verdicts of schemas on the row itself, joined
 unfoldable pub joined : Mode → List Bool → Bool
-joined allOf bs = all bs
-joined anyOf bs = any bs
-joined oneOf bs = one? bs
-joined notOf bs = none? bs
-joined ref bs = all bs
+joined allOf bs = all bs  -- 30 (allOf)
+joined anyOf bs = any bs  -- 31 (anyOf)
+joined oneOf bs = one? bs  -- 32 (oneOf)
+joined notOf bs = none? bs  -- 33 (not)
+joined ref bs = all bs  -- 34 ($ref)
 
 -- the names of an earlier `properties`
 unfoldable pub namesOf : Clause → List (List ℕ)
@@ -144,31 +144,31 @@ module _ (D : Doc) where
   present names ks = all (map (λ n. any (map (λ k. called n k) ks)) names)
 
   unfoldable pub passes : ℕ → Test → Bool
-  passes j never = false
-  passes j (type mask) = typed mask (D .value j)
-  passes j (enum vs) = any (map (λ v. equal (D .value j) v) vs)
-  passes j (minimum z) = given (number? (D .value j)) (λ y. leZ z y)
-  passes j (maximum z) = given (number? (D .value j)) (λ y. leZ y z)
-  passes j (exclusiveMinimum z) = given (number? (D .value j)) (λ y. ltZ z y)
-  passes j (exclusiveMaximum z) = given (number? (D .value j)) (λ y. ltZ y z)
-  passes j (multipleOf z) = given (number? (D .value j)) (λ y. isMultiple y z)
-  passes j (minLength k) = atLeast k (bytes? (D .value j))
-  passes j (maxLength k) = atMost k (bytes? (D .value j))
-  passes j (minItems k) = atLeast k (elements? (D .value j))
-  passes j (maxItems k) = atMost k (elements? (D .value j))
-  passes j (minProperties k) = atLeast k (members? (D .value j))
-  passes j (maxProperties k) = atMost k (members? (D .value j))
-  passes j (required names) = given (members? (D .value j)) (present names)
+  passes j never = false  -- 1 (false)
+  passes j (type mask) = typed mask (D .value j)  -- 2 (type)
+  passes j (enum vs) = any (map (λ v. equal (D .value j) v) vs)  -- 3 (enum)
+  passes j (minimum z) = given (number? (D .value j)) (λ y. leZ z y)  -- 10 (minimum)
+  passes j (maximum z) = given (number? (D .value j)) (λ y. leZ y z)  -- 11 (maximum)
+  passes j (exclusiveMinimum z) = given (number? (D .value j)) (λ y. ltZ z y)  -- 12 (exclusiveMinimum)
+  passes j (exclusiveMaximum z) = given (number? (D .value j)) (λ y. ltZ y z)  -- 13 (exclusiveMaximum)
+  passes j (multipleOf z) = given (number? (D .value j)) (λ y. isMultiple y z)  -- 14 (multipleOf)
+  passes j (minLength k) = atLeast k (bytes? (D .value j))  -- 20 (minLength)
+  passes j (maxLength k) = atMost k (bytes? (D .value j))  -- 21 (maxLength)
+  passes j (minItems k) = atLeast k (elements? (D .value j))  -- 22 (minItems)
+  passes j (maxItems k) = atMost k (elements? (D .value j))  -- 23 (maxItems)
+  passes j (minProperties k) = atLeast k (members? (D .value j))  -- 24 (minProperties)
+  passes j (maxProperties k) = atMost k (members? (D .value j))  -- 25 (maxProperties)
+  passes j (required names) = given (members? (D .value j)) (present names)  -- 26 (required)
 
   -- the children that a clause takes, with their schemas, after the clauses `before` of the same schema, which mark κ
   unfoldable pub taken : Pair → List Clause → Marks → Reach → List Pair
-  taken p before κ (properties es) = concatMap (λ e. under p (e .1) (keep (called (e .0)) (membersOf (p .row)))) es
-  taken p before κ (additionalProperties s) =
+  taken p before κ (properties es) = concatMap (λ e. under p (e .1) (keep (called (e .0)) (membersOf (p .row)))) es  -- 40 (properties)
+  taken p before κ (additionalProperties s) =  -- 42 (additionalProperties)
       under p s (keep (λ k. none? (map (λ n. called n k) (concatMap namesOf before))) (membersOf (p .row)))
-  taken p before κ (prefixItems ss) = across p (elementsOf (p .row)) ss
-  taken p before κ (items s) = under p s (drop (length (concatMap prefixOf before)) (elementsOf (p .row)))
-  taken p before κ (unevaluatedProperties s) = under p s (keep (λ k. not (κ k)) (membersOf (p .row)))
-  taken p before κ (unevaluatedItems s) = under p s (keep (λ k. not (κ k)) (elementsOf (p .row)))
+  taken p before κ (prefixItems ss) = across p (elementsOf (p .row)) ss  -- 43 (prefixItems)
+  taken p before κ (items s) = under p s (drop (length (concatMap prefixOf before)) (elementsOf (p .row)))  -- 44 (items)
+  taken p before κ (unevaluatedProperties s) = under p s (keep (λ k. not (κ k)) (membersOf (p .row)))  -- 60 (unevaluatedProperties)
+  taken p before κ (unevaluatedItems s) = under p s (keep (λ k. not (κ k)) (elementsOf (p .row)))  -- 61 (unevaluatedItems)
 
   -- ---- the rules
 
