@@ -1,7 +1,8 @@
 -- The samples of 01, and some of ours, as whole calls: with the areas, in which cells hold 9 and list words 77 before the call, one place more than asked
 -- where nothing else is said.
 --     samples       the twelve of 01
---     further       not, marks of other schemas, items without and with prefixItems, marks passed on by a clause that fails, short areas
+--     further       not, marks of other schemas, items without and with prefixItems, marks passed on by a clause that fails, short areas,
+--                   additionalProperties beside marks, the mark of a pair that was never settled, unevaluatedItems
 -- Assumes nothing.
 use Prim.Native.Nat.{ℕ}
 use mathlib.Core.Path.{_≡_, refl}
@@ -309,6 +310,58 @@ t9 =
       leaves = record { answer = refuses 11 6; cells = 9 ∷ 9 ∷ 9 ∷ 9 ∷ 9 ∷ 9 ∷ []; list = 77 ∷ 77 ∷ 77 ∷ 77 ∷ 77 ∷ [] };
     }
 
+-- 0 (allOf 1; additionalProperties 2), 1 (properties p is 3), 2 never, 3 empty; {"p":7}: 40 stands in another schema, so 42 takes p, marked or not
+abbrev t10 : Sample
+t10 =
+    record {
+      words = 6 ∷ 1 ∷ 1 ∷ 0 ∷ 0 ∷ 0 ∷ 3 ∷ 7 ∷ 0 ∷ 0 ∷ 0 ∷ 1 ∷ 2 ∷ 12 ∷ 1 ∷ 1 ∷ [];
+      text = 112 ∷ [];
+      ruleWords = 0 ∷ 2 ∷ 2 ∷ 1 ∷ 3 ∷ 1 ∷ 4 ∷ 0 ∷ 30 ∷ 0 ∷ 1 ∷ 42 ∷ 2 ∷ 0 ∷ 40 ∷ 1 ∷ 1 ∷ 1 ∷ 0 ∷ 0 ∷ 1 ∷ 0 ∷ 0 ∷ 0 ∷ 1 ∷ 3 ∷ 4 ∷ 4 ∷ 2 ∷ 26 ∷ 1 ∷ 2 ∷ [];
+      ruleText = 112 ∷ [];
+      cells = 9;
+      list = 9;
+      leaves = record { answer = invalid 4 0; cells = 2 ∷ 1 ∷ 0 ∷ 0 ∷ 0 ∷ 4 ∷ 2 ∷ 1 ∷ 9 ∷ []; list = 7 ∷ 1 ∷ 6 ∷ 0 ∷ 77 ∷ 77 ∷ 77 ∷ 77 ∷ 77 ∷ [] };
+    }
+
+-- 0 (properties p is 1), 1 (properties p is 0); {"p":7}: 1 would mark p, but was never applied to the root, so the cell of p and 1 has no 4
+abbrev t11 : Sample
+t11 =
+    record {
+      words = 6 ∷ 1 ∷ 1 ∷ 0 ∷ 0 ∷ 0 ∷ 3 ∷ 7 ∷ 0 ∷ 0 ∷ 0 ∷ 1 ∷ 2 ∷ 12 ∷ 1 ∷ 1 ∷ [];
+      text = 112 ∷ [];
+      ruleWords = 0 ∷ 1 ∷ 1 ∷ 1 ∷ 40 ∷ 0 ∷ 1 ∷ 40 ∷ 1 ∷ 1 ∷ 0 ∷ 1 ∷ 1 ∷ 0 ∷ 1 ∷ 0 ∷ 2 ∷ 2 ∷ 2 ∷ 16 ∷ 1 ∷ 2 ∷ [];
+      ruleText = 112 ∷ [];
+      cells = 5;
+      list = 5;
+      leaves = record { answer = valid 2 1; cells = 1 ∷ 0 ∷ 4 ∷ 1 ∷ 9 ∷ []; list = 3 ∷ 0 ∷ 77 ∷ 77 ∷ 77 ∷ [] };
+    }
+
+-- 0 (allOf 1; unevaluatedItems 2), 1 (prefixItems 3), 2 never, 3 empty; [7]: 61 takes no element that allOf passed on as marked
+abbrev t12 : Sample
+t12 =
+    record {
+      words = 5 ∷ 1 ∷ 1 ∷ 0 ∷ 0 ∷ 0 ∷ 3 ∷ 7 ∷ 0 ∷ 0 ∷ 0 ∷ 0 ∷ 2 ∷ 12 ∷ 0 ∷ 1 ∷ [];
+      text = [];
+      ruleWords = 0 ∷ 2 ∷ 2 ∷ 1 ∷ 3 ∷ 1 ∷ 4 ∷ 0 ∷ 30 ∷ 0 ∷ 1 ∷ 61 ∷ 2 ∷ 0 ∷ 43 ∷ 1 ∷ 1 ∷ 1 ∷ 0 ∷ 0 ∷ 1 ∷ 0 ∷ 0 ∷ 3 ∷ 0 ∷ 0 ∷ 4 ∷ 4 ∷ 2 ∷ 26 ∷ 0 ∷ 2 ∷ [];
+      ruleText = [];
+      cells = 9;
+      list = 9;
+      leaves = record { answer = valid 3 1; cells = 1 ∷ 1 ∷ 0 ∷ 0 ∷ 4 ∷ 4 ∷ 0 ∷ 1 ∷ 9 ∷ []; list = 7 ∷ 1 ∷ 0 ∷ 77 ∷ 77 ∷ 77 ∷ 77 ∷ 77 ∷ 77 ∷ [] };
+    }
+
+-- 0 (prefixItems 1; unevaluatedItems 2), 1 and 2 empty; [7,8]: 61 takes what 43 did not, and marks it
+abbrev t13 : Sample
+t13 =
+    record {
+      words = 5 ∷ 1 ∷ 2 ∷ 0 ∷ 0 ∷ 0 ∷ 3 ∷ 7 ∷ 0 ∷ 0 ∷ 0 ∷ 0 ∷ 3 ∷ 8 ∷ 0 ∷ 0 ∷ 0 ∷ 0 ∷ 3 ∷ 18 ∷ 0 ∷ 1 ∷ [];
+      text = [];
+      ruleWords = 0 ∷ 2 ∷ 2 ∷ 0 ∷ 2 ∷ 0 ∷ 43 ∷ 0 ∷ 1 ∷ 61 ∷ 2 ∷ 0 ∷ 1 ∷ 0 ∷ 0 ∷ 3 ∷ 2 ∷ 1 ∷ 15 ∷ 0 ∷ 2 ∷ [];
+      ruleText = [];
+      cells = 10;
+      list = 10;
+      leaves = record { answer = valid 3 2; cells = 1 ∷ 0 ∷ 0 ∷ 4 ∷ 1 ∷ 0 ∷ 4 ∷ 0 ∷ 1 ∷ 9 ∷ []; list = 4 ∷ 8 ∷ 0 ∷ 77 ∷ 77 ∷ 77 ∷ 77 ∷ 77 ∷ 77 ∷ 77 ∷ [] };
+    }
+
 abbrev leftOf : Sample → Left
 leftOf s = judge (s .words) (s .text) (s .ruleWords) (s .ruleText) (replicate (s .cells) 9) (replicate (s .list) 77)
 
@@ -324,7 +377,7 @@ unfolding samples-compute
 samples = refl
 
 abbrev ours : List Sample
-ours = t1 ∷ t2 ∷ t3 ∷ t4 ∷ t5 ∷ t6 ∷ t7 ∷ t8 ∷ t9 ∷ []
+ours = t1 ∷ t2 ∷ t3 ∷ t4 ∷ t5 ∷ t6 ∷ t7 ∷ t8 ∷ t9 ∷ t10 ∷ t11 ∷ t12 ∷ t13 ∷ []
 
 pub further : map leftOf ours ≡ map (λ s. s .leaves) ours
 unfolding samples-compute
