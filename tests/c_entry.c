@@ -3,6 +3,8 @@
  *
  *     c_entry          every call on this thread
  *     c_entry BYTES    each on a thread whose stack has that many bytes, nothing mapped below it
+ *     c_entry past N   none: reads a byte past array N, which must kill it
+ *     c_entry into N   none: writes array N, which must kill it if the calls only read that
  *
  * A call is six lengths in elements (record, record text, rules, rule text, cells, list), ABSENT for a
  * null pointer and length 0, and then the six arrays. What came of it is the answer, whether it is valid,
@@ -124,10 +126,21 @@ static void look_before(const struct part *part)
             give_up("bytes before an array were written");
 }
 
+static void trespass(const char *how, const struct part *part)
+{
+    volatile uint8_t *end = part->pages + part->mapped;
+    if (strcmp(how, "past") == 0)
+        (void)*end;
+    else
+        end[-1] = 0;
+}
+
 int main(int count, char **arguments)
 {
     while (read_call()) {
-        if (count > 1)
+        if (count > 2)
+            trespass(arguments[1], &parts[strtoul(arguments[2], NULL, 10)]);
+        else if (count > 1)
             call_on_thread(strtoul(arguments[1], NULL, 10));
         else
             call(NULL);

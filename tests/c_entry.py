@@ -11,11 +11,14 @@ import itertools
 import os
 import random
 import re
+import resource
+import signal
 import struct
 import subprocess
 import sys
 
 import judged
+import machine
 import second
 import sheets
 
@@ -169,14 +172,14 @@ def build():
     """Runs the example, and builds the caller; what the example printed."""
     printed = subprocess.run([os.path.join(ROOT, 'examples', 'build-host')], stdout=subprocess.PIPE,
                              stderr=subprocess.DEVNULL).stdout
-    subprocess.run(['gcc', '-std=gnu99', '-Wall', '-Wextra', '-Werror', '-O2', '-pthread',
+    subprocess.run([machine.tool('gcc'), '-std=gnu99', '-Wall', '-Wextra', '-Werror', '-O2', '-pthread',
                     '-I', os.path.join(ROOT, 'include'), '-o', CALLER,
                     os.path.join(ROOT, 'tests', 'c_entry.c'), ARCHIVE], check=True)
     return printed
 
 
 def run_caller(sent, *arguments):
-    return subprocess.run([CALLER, *arguments], input=sent, capture_output=True)
+    return subprocess.run(machine.call(CALLER, *arguments), input=sent, capture_output=True)
 
 
 def compare(results, calls):
@@ -216,15 +219,24 @@ def check_calls(results, rng, count, seed):
     compare(results, [Call(label, *parts, rng.randbytes(areas), second.to_words(rng.randbytes(4 * areas)))])
 
 
+def check_guards(results):
+    """The emulator keeps to the caller's pages: a byte past an array kills it, and a write where it may only read."""
+    sent = Call('guards', [0] * 4, b'x', [0] * 6, b'x', b'x', [0]).sent()
+    for how, arrays in (('past', range(6)), ('into', range(4))):
+        for array in arrays:
+            ended = run_caller(sent, how, str(array)).returncode
+            results.check(ended == -signal.SIGSEGV, '%s array %d: ended with %d' % (how, array, ended))
+
+
 # ---- what the header says of the archive ----
 
 def check_archive(results):
     """No writable data, so no state; nothing asked of C but moving bytes, so no allocation and no input or output."""
-    sections = subprocess.run(['objdump', '-h', ARCHIVE], capture_output=True, text=True).stdout
+    sections = subprocess.run([machine.tool('objdump'), '-h', ARCHIVE], capture_output=True, text=True).stdout
     sizes = re.findall(r'^ *\d+ (\.data|\.bss|\.tdata|\.tbss)\S* +([0-9a-f]+)', sections, re.M)
     results.check('.text' in sections and all(int(size, 16) == 0 for _, size in sizes),
                   'the archive has data: %s' % sizes)
-    symbols = subprocess.run(['nm', '-u', ARCHIVE], capture_output=True, text=True).stdout
+    symbols = subprocess.run([machine.tool('nm'), '-u', ARCHIVE], capture_output=True, text=True).stdout
     asked = set(re.findall(r' U (\S+)', symbols))
     results.check(asked <= FROM_C, 'the archive asks for %s' % (asked - FROM_C))
 
@@ -261,7 +273,10 @@ def check_stack(results):
 
 def main(count=1500, seed=1):
     results, rng = Results(), random.Random(seed)
+    resource.setrlimit(resource.RLIMIT_CORE, (0, 0))        # some callers die, as they must
     results.check(build() == HOST_PRINTS, 'the example host prints something else')
+    if machine.EMULATED:
+        check_guards(results)
     check_calls(results, rng, count, seed)
     check_archive(results)
     check_stack(results)

@@ -8,8 +8,10 @@ import os
 import subprocess
 import sys
 from collections import Counter
+from concurrent.futures import ThreadPoolExecutor
 
 import judged
+import machine
 import second
 import sheets
 
@@ -22,7 +24,7 @@ NOT_PRINTED = 'marks below the root, refusals 10 and 11, what stands behind the 
 
 
 def program(bundle):
-    return subprocess.run([BENCH], input=bundle, capture_output=True).stdout.decode()
+    return subprocess.run(machine.call(BENCH), input=bundle, capture_output=True).stdout.decode()
 
 
 class Results:
@@ -36,9 +38,15 @@ class Results:
         if not true and self.failed <= 20:
             print('failed: ' + what)
 
-    def compare(self, label, bundle):
-        """The program and the second program must print the same; gives the first line, without a refusal's place."""
-        got, want = program(bundle), second.bench(bundle).decode()
+    def compare_all(self, cases):
+        """Compares for each (label, bundle), two programs at a time, and gives the answers."""
+        with ThreadPoolExecutor(2) as workers:
+            printed = workers.map(program, [bundle for _, bundle in cases])
+            return [self.compare(*case, got) for case, got in zip(cases, printed)]
+
+    def compare(self, label, bundle, got):
+        """The second program must print the same; gives the first line, without a refusal's place."""
+        want = second.bench(bundle).decode()
         self.check(got == want, '%s: the program says %r, the second program %r' % (label, got[:200], want[:200]))
         first = want.split('\n')[0]
         answer = first.rpartition(' ')[0] if first.startswith('refused') else first
@@ -80,16 +88,16 @@ def check_samples(results):
 
 def check_sheets(results, seed, count):
     """Fixed cases, and random and damaged sheets; gives what of them is good but only too large for the program."""
-    larger = Counter()
-    for label, *parts in list(sheets.limits()) + list(sheets.cases(seed, count)):
-        answer = results.compare(label, second.bundle(*parts))
-        larger[answer] += answer in ('bad bundle', 'too large')
-    return larger
+    cases = [*sheets.limits(), *sheets.cases(seed, count)]
+    answers = Counter(results.compare_all([(label, second.bundle(*parts)) for label, *parts in cases]))
+    return {answer: answers[answer] for answer in ('bad bundle', 'too large')}
 
 
 def check_judged(results, seed, count):
-    for label, *parts in judged.cases(seed, count):
-        if results.compare(label, second.bundle(*parts)) in ('valid', 'invalid'):
+    cases = list(judged.cases(seed, count))
+    answers = results.compare_all([(label, second.bundle(*parts)) for label, *parts in cases])
+    for (_, *parts), answer in zip(cases, answers):
+        if answer in ('valid', 'invalid'):
             results.spread.note(*parts)
     for what, least in results.spread.wanted().items():
         met = results.spread.met[what]
@@ -97,8 +105,7 @@ def check_judged(results, seed, count):
 
 
 def check_bundles(results, seed, count):
-    for label, bundle in sheets.bundles(seed, count):
-        results.compare(label, bundle)
+    results.compare_all(list(sheets.bundles(seed, count)))
     for answer in ['bad bundle', 'too large', 'valid', 'invalid'] + ['refused %d' % number for number in range(1, 10)]:
         results.check(results.answers[answer] > 0, 'no bundle got the answer ' + answer)
 
