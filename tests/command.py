@@ -13,6 +13,7 @@ from pathlib import Path
 
 import command_cases
 import judges
+import machine
 import second
 
 EXAMPLES = Path(judges.ROOT) / 'examples'
@@ -203,6 +204,8 @@ class Tests:
         os.symlink(sys.executable, tools / 'python3')
         for name in ('sh', 'mkdir', 'cp'):
             os.symlink('/bin/' + name, tools / name)
+        if machine.EMULATED:        # where the kit of the rt below would have its emulator
+            os.symlink(os.path.join(machine.kit(), 'on'), self.folder / 'on')
         fresh = self.folder / 'fresh'
         fresh.mkdir()
         command = judges.command_tree(fresh, program=False)

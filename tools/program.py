@@ -1,6 +1,7 @@
 """The proved program: built if it is not there, run over a bundle, its lines read."""
 import os
 import re
+import shutil
 import subprocess
 import time
 from collections import namedtuple
@@ -36,11 +37,26 @@ def make_ready(say):
     say('built in %d s' % (time.monotonic() - start))
 
 
+def call():
+    """The words that run the program: it is for x86-64, and on another machine the kit's emulator runs it."""
+    program, machine = os.path.join(ROOT, BENCH), os.uname().machine
+    if machine == 'x86_64':
+        return [program]
+    rt = os.path.realpath(shutil.which('rt') or 'rt')
+    kit = os.environ.get('RATTLE_HOME') or os.path.dirname(os.path.dirname(rt))
+    toolchain = os.path.join(kit, 'on', machine, 'toolchain')
+    emulator, libraries = os.path.join(toolchain, 'bin', 'qemu-x86_64'), os.path.join(toolchain, 'lib')
+    with open(program, 'rb') as file:
+        if not os.path.exists(emulator) or file.read(4) != b'\x7fELF':
+            return [program]
+    return [emulator, os.path.join(libraries, 'ld-linux-x86-64.so.2'), '--library-path', libraries, program]
+
+
 def judged(record, rules):
     """The program's answer for two sheets."""
     bundle = bundle_of(record, rules)
     try:
-        ran = subprocess.run([os.path.join(ROOT, BENCH)], input=bundle, capture_output=True)
+        ran = subprocess.run(call(), input=bundle, capture_output=True)
     except OSError as fault:
         raise CannotJudge('does not run: %s' % fault.strerror.lower(), file=BENCH)
     return answer_in(ran.stdout.decode('ascii', 'replace'))
