@@ -4,7 +4,7 @@
 use mathlib.Core.Path.{_≡_, sym, ap, _∙_}
 use mathlib.Core.Bool.{true, false}
 use Prim.Native.Nat.{ℕ, _+_, _-_, _*_, _/_, _%_, _^_, _≤_, _<_}
-use native.Mathlib.Nat.{add-zero, zero-mul, mul-assoc, mul-comm, mul-one, mul-pos, mul-div-cancel, mul-mod-left, mul-add-mod-self-right, div-add-mod', mod-zero, pow-suc}
+use native.Mathlib.Nat.{add-zero, zero-mul, mul-assoc, mul-comm, mul-one, mul-pos, mul-div-cancel, mul-mod-left, mul-add-mod-self-right, div-add-mod', mod-zero, mod-one, pow-suc}
 use native.Mathlib.Numerals.{add-one}
 use native.Mathlib.Omega.{arith}
 use lib.Arith.{mod-mul}
@@ -12,7 +12,7 @@ use lib.Dec.{eqb}
 use lib.IntN.{ℤ, natAbs}
 use borrow.Author.Tests.{eq-eqb, eqb-true}
 use Rattle.decimal.specs.declared.Decimal.{Decimal}
-use Rattle.decimal.specs.Value.{scale-max, value, isMultiple}
+use Rattle.decimal.specs.Value.{scale-max, value, isWhole, isMultiple}
 use Rattle.decimal.proofs.Tests.{zero-times, sum-not-zero}
 use Rattle.decimal.proofs.Powers.{ten-above, ten-split}
 use Rattle.decimal.proofs.Sizes.{size-is, zero-is}
@@ -30,6 +30,17 @@ times-multiple k z m e = eq-eqb (natAbs z % natAbs m) 0 (rw (e, mul-mod-left))
 common-factor : (x m k : ℕ) → 0 < m → 0 < k → eqb ((x * k) % (m * k)) 0 ≡ eqb (x % m) 0
 common-factor x m k hm hk =
     rw (mod-mul (x * k) hm hk, mul-div-cancel x hk, mul-mod-left x k, add-zero) (zero-times (x % m) k hk)
+
+-- whole exactly where the digits are a multiple of as many tens as the scale says
+pub whole-is : (d : Decimal) → d .scale ≤ scale-max → eqb (d .digits % 10 ^ d .scale) 0 ≡ isWhole (value d)
+unfolding isWhole
+whole-is d few =
+    sym
+    (rw (size-is d, ten-split scale-max (d .scale) (scale-max - d .scale) (omega arith))
+    (common-factor (d .digits) (10 ^ d .scale) (10 ^ (scale-max - d .scale)) (ten-above (d .scale)) (ten-above (scale-max - d .scale))))
+
+pub whole-at-once : (d : Decimal) → d .scale ≡ 0 → true ≡ isWhole (value d)
+whole-at-once d e = sym (eq-eqb (d .digits % 10 ^ d .scale) 0 (rw (e, mod-one))) ∙ whole-is d (omega arith)
 
 -- what is left with one place more
 step : (x m : ℕ) → ((x % m) * 10) % m ≡ (x * 10) % m

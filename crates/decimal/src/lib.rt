@@ -9,7 +9,6 @@ ghost use lib.Dec.{leb};
 ghost use lib.IntN.{natAbs};
 ghost use lib.Signed.{leZ, ltZ};
 ghost use Rattle.decimal.specs.Value.{scale-max, digits-max, value, Plain, equalZ, isWhole, isMultiple, OfWord};
-ghost use Rattle.decimal.specs.Parts.{PartsOf};
 
 // digits / 10^scale, below zero if `below` says so. Zero may have either sign.
 pub struct Decimal {
@@ -40,58 +39,39 @@ impl Decimal {
     }
 }
 
-// The powers of ten that a scale up to `SCALE_MAX` needs.
-const POWERS: [u64; 10] = [
-    1,
-    10,
-    100,
-    1_000,
-    10_000,
-    100_000,
-    1_000_000,
-    10_000_000,
-    100_000_000,
-    1_000_000_000,
-];
-
 // 10^n, for an `n` up to `SCALE_MAX`.
 fn power(n: u32) -> u64
     requires { ⌜ n ≤ scale-max ⌝ }
     ensures { λ r. ⌜ r ≡ 10 ^ n ⌝ }
 {
-    POWERS[n as usize]
-}
-
-// The size of a decimal, its sign left out: whole ones, and a rest in billionths, which is less than one.
-struct Parts {
-    whole: u64,
-    rest: u64,
-}
-
-// The size of `d`, taken apart.
-fn parts_of(d: Decimal) -> Parts
-    requires { ⌜ Plain d ⌝ }
-    ensures { λ r. ⌜ PartsOf (natAbs (value d)) r ⌝ }
-{
-    let unit = power(d.scale);
-    let lift = power(Decimal::SCALE_MAX - d.scale);
-    Parts {
-        whole: d.digits / unit,
-        rest: (d.digits % unit) * lift,
+    match n {
+        1 => 10,
+        2 => 100,
+        3 => 1_000,
+        4 => 10_000,
+        5 => 100_000,
+        6 => 1_000_000,
+        7 => 10_000_000,
+        8 => 100_000_000,
+        Decimal::SCALE_MAX => 1_000_000_000,
+        _ => 1,
     }
 }
 
-// Whether the size of `a` is at most that of `b`, their signs left out.
+// Whether the size of `a` is at most that of `b`, their signs left out. At different scales the digits with more places are divided,
+// rounded up on the left and down on the right: the others multiplied may not fit.
 fn size_at_most(a: Decimal, b: Decimal) -> bool
     requires { ⌜ Plain a × Plain b ⌝ }
     ensures { λ r. ⌜ r ≡ leb (natAbs (value a)) (natAbs (value b)) ⌝ }
 {
-    let p = parts_of(a);
-    let q = parts_of(b);
-    if p.whole == q.whole {
-        return p.rest <= q.rest;
+    if a.scale == b.scale {
+        return a.digits <= b.digits;
     }
-    p.whole < q.whole
+    if a.scale < b.scale {
+        return a.digits <= b.digits / power(b.scale - a.scale);
+    }
+    let unit = power(a.scale - b.scale);
+    (a.digits + (unit - 1)) / unit <= b.digits
 }
 
 // Whether a ≤ b. The two zeros are at most each other.
@@ -132,8 +112,10 @@ pub fn whole(a: Decimal) -> bool
     requires { ⌜ Plain a ⌝ }
     ensures { λ r. ⌜ r ≡ isWhole (value a) ⌝ }
 {
-    let p = parts_of(a);
-    p.rest == 0
+    if a.scale == 0 {
+        return true;
+    }
+    a.digits % power(a.scale) == 0
 }
 
 // What division of digits * 10^places by `m` leaves. The product may not fit and is never made: each place is added and divided at once.

@@ -1,17 +1,23 @@
--- `decimal::whole` meets its contract: a size is whole exactly where its rest is zero.
+-- `decimal::whole` meets its contract: without places at once, and else by what division by 10 ^ scale leaves of the digits.
 -- Assumes nothing.
+use native.Mathlib.Omega.{arith}
 use borrow.Author.Needs.{needs}
-use Rattle.decimal.specs.Value.{isWhole}
-use Rattle.decimal.proofs.Splits.{rest-is}
+use Rattle.decimal.proofs.Powers.{ten-above}
+use Rattle.decimal.proofs.Multiples.{whole-is, whole-at-once}
 use Rattle.decimal.proofs.whole.Statement.{statement}
 use Rattle.decimal.proofs.whole.Tie as tie
 
-parts-of-requires : tie.Need-parts-of-requires
-parts-of-requires c κs = search needs
-
 returns : tie.Need-returns
-unfolding isWhole
-returns c = rest-is _ (c .before .parts-of .result) (c .before .parts-of .ensures)
+returns c = whole-at-once (c .before .before .args .a) (c .if1 .taken)
+
+power-requires : tie.Need-power-requires
+power-requires c κs = search needs
+
+rem-result : tie.Need-rem-result
+rem-result c = rw (c .before .power .ensures) (ten-above _)
+
+returns-2 : tie.Need-returns-2
+returns-2 c = rw (c .before .power .ensures) (whole-is (c .before .before .before .before .args .a) (omega arith))
 
 pub whole-spec : {M : Type 1} → statement M
-whole-spec = tie.close (tie.spec parts-of-requires returns)
+whole-spec = tie.close (tie.spec returns power-requires rem-result returns-2)
