@@ -3,6 +3,7 @@ pub mod Lines
 pub mod Schemas
 pub mod Runs
 pub mod Taking
+mod Passes
 pub mod Reaching
 pub mod Repeating
 pub mod Items

@@ -1,12 +1,12 @@
 // Refusals 5 and 6 of a rule sheet: the trailer; then the schemas, their clauses and the clauses'
 // entries, each passed once. Contracts cite `specs/Faults.antt`.
-ghost use mathlib.Core.Bool.{true, cond, not, _&&_};
+ghost use mathlib.Core.Bool.{not, _&&_};
 ghost use mathlib.Core.Path.{_≡_};
 ghost use Prim.Native.Nat.{_+_, _-_, _≤_, _<_};
 ghost use Rattle.laws.specs.Lowest.{lowest, lowestFrom};
-ghost use Rattle.rulesheet.specs.Sheet.{schemasWord, clausesWord, entriesWord, textWord, schemaAt, clauseAt, entryAt};
-ghost use Rattle.rulesheet.specs.Faults.{trailerFits, wordsOk, textOk, positiveOk, fieldsOk, isList, fieldsAt, rises, listStart, listOk, clauseFineIn, entryOk, schemaFault, clauseFault, entryFault};
-ghost use Rattle.rulesheet.specs.Read.{RulesFormed, SchemasLaid, ClausesLaid, ClausesPassed};
+ghost use Rattle.rulesheet.specs.Sheet.{schemasWord, clausesWord, entriesWord, textWord, schemaAt, entryAt};
+ghost use Rattle.rulesheet.specs.Faults.{trailerFits, wordsOk, textOk, positiveOk, fieldsOk, listStart, entryOk, schemaFault, clauseFault, entryFault};
+ghost use Rattle.rulesheet.specs.Read.{RulesFormed, SchemasLaid, ClausesLaid, passedBy, ClausesPassed};
 use crate::code::Fields;
 use crate::code::Shape;
 use crate::form::ClauseRow;
@@ -28,6 +28,12 @@ use text::Range;
 pub struct ClausePass {
     pub fault: u32,
     pub start: usize,
+}
+
+// What passing one clause finds: that it is at fault, or where the next list starts.
+pub enum Passed {
+    Fault,
+    Next(usize),
 }
 
 // Whether the trailer's words fit each other and a sheet of `size` words.
@@ -115,78 +121,29 @@ fn positive_ok(first: u32, count: u32) -> bool
     (1 <= first) & ((first as u64 <= RowKind::NUMBER_MAX) & (count <= Decimal::SCALE_MAX))
 }
 
-// One less, and 0 of 0.
-fn one_before(k: u32) -> u32
-    ensures { λ r. ⌜ r ≡ k - 1 ⌝ }
-{
-    if k == 0 {
-        return 0;
-    }
-    k - 1
-}
-
-// Whether clause k is the first of its schema, or its code is above that of the clause before.
-fn code_rises(words: &[u32], form: RuleForm, first: u32, k: u32) -> bool
-    requires { ⌜ RulesFormed (now words) form × (k < form .c) ⌝ }
-    ensures { λ r. ⌜ r ≡ rises (now (words .entry)) first k ⌝ }
-{
-    if k == first {
-        return true;
-    }
-    let last = clause_at(words, form, one_before(k));
-    let clause = clause_at(words, form, k);
-    last.code < clause.code
-}
-
-// Whether a clause that is a list starts at `start`, ends within the entries and has as many as its
-// code asks.
-fn list_ok(words: &[u32], form: RuleForm, start: usize, clause: ClauseRow) -> bool
+// Passes a clause of a schema, but for the rise of its code; `start` is where the next list starts
+// before it.
+fn pass_clause(words: &[u32], form: RuleForm, start: usize, clause: ClauseRow) -> Passed
     requires { ⌜ RulesFormed (now words) form ⌝ }
-    ensures { λ r. ⌜ r ≡ listOk (now (words .entry)) start clause ⌝ }
+    ensures { λ r. ⌜ r ≡ passedBy (now (words .entry)) start clause ⌝ }
 {
-    let shape = Shape::of(clause.code);
-    let fields = shape.fields;
-    if !fields.is_list() {
-        return true;
-    }
-    let first = wide(clause.first);
-    let end = first + wide(clause.count);
-    (first == start) & ((end <= wide(form.e)) & (shape.least <= clause.count))
-}
-
-// Whether clause k, of a schema whose clauses start at `first`, is not at fault; `start` is where
-// the next list starts.
-fn clause_fine(words: &[u32], form: RuleForm, first: u32, start: usize, k: u32) -> bool
-    requires { ⌜ RulesFormed (now words) form × (k < form .c) ⌝ }
-    ensures { λ r. ⌜ r ≡ clauseFineIn (now (words .entry)) first start k ⌝ }
-{
-    let clause = clause_at(words, form, k);
-    let shape = Shape::of(clause.code);
-    let fields = shape.fields;
-    if !fields_ok(fields, form.m, clause.first, clause.count) {
-        return false;
-    }
-    if !code_rises(words, form, first, k) {
-        return false;
-    }
-    list_ok(words, form, start, clause)
-}
-
-// Where the next list starts after clause k, `start` being where it starts before.
-fn next_start(words: &[u32], form: RuleForm, start: usize, k: u32) -> usize
-    requires { ⌜ RulesFormed (now words) form × (k < form .c) ⌝ }
-    ensures { λ r. ⌜ r ≡ cond (isList (fieldsAt (now (words .entry)) k)) (clauseAt (now (words .entry)) k .first + clauseAt (now (words .entry)) k .count) start ⌝ }
-{
-    let clause = clause_at(words, form, k);
     let shape = Shape::of(clause.code);
     let fields = shape.fields;
     if fields.is_list() {
-        return wide(clause.first) + wide(clause.count);
+        let first = wide(clause.first);
+        let end = first + wide(clause.count);
+        if (first == start) & ((end <= wide(form.e)) & (shape.least <= clause.count)) {
+            return Passed::Next(end);
+        }
+        return Passed::Fault;
     }
-    start
+    if fields_ok(fields, form.m, clause.first, clause.count) {
+        return Passed::Next(start);
+    }
+    Passed::Fault
 }
 
-// The clauses of a schema, each asked once; the pass ends at the first at fault.
+// The clauses of a schema, each read once; the pass ends at the first at fault.
 fn pass_clauses(words: &[u32], form: RuleForm, schema: RuleRow, from: usize) -> ClausePass
     requires { ⌜ SchemasLaid (now words) form × (schema .0 < form .m) × (from ≡ listStart (now words) (schemaAt (now words) (schema .0) .first)) ⌝ }
     ensures { λ r. ⌜ ClausesPassed (now (words .entry)) (schema .0) r ⌝ }
@@ -195,15 +152,26 @@ fn pass_clauses(words: &[u32], form: RuleForm, schema: RuleRow, from: usize) -> 
     let first = row.first;
     let end = first + row.count;
     let mut start = from;
+    let mut last = 0;
     let mut k = first;
     while k < end {
-        if !clause_fine(words, form, first, start, k) {
+        let clause = clause_at(words, form, k);
+        let code = clause.code;
+        if !((k == first) | (last < code)) {
             return ClausePass {
                 fault: k,
                 start: start,
             };
         }
-        start = next_start(words, form, start, k);
+        let passed = pass_clause(words, form, start, clause);
+        let Passed::Next(next) = passed else {
+            return ClausePass {
+                fault: k,
+                start: start,
+            };
+        };
+        start = next;
+        last = code;
         k += 1;
     }
     ClausePass {

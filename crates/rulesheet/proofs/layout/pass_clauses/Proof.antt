@@ -1,51 +1,90 @@
--- `pass_clauses` meets its contract: `start` is where the list clauses passed say that the next list starts. Assumes nothing.
+-- `pass_clauses` meets its contract: the laws of `Passes` at each place of the loop. Assumes nothing.
+use Prim.Native.Nat.{_-_}
 use native.Mathlib.Omega.{arith}
-use mathlib.Core.Path.{_≡_, refl, sym, ap, _∙_}
-use Prim.Native.Nat.{_+_, _-_, _≤_}
-use Rattle.laws.specs.Lowest.{lowestFrom}
-use Rattle.laws.proofs.Searches.{left, begun, found, passed, ended}
-use Rattle.rulesheet.specs.declared.form.SchemaRow.{SchemaRow}
-use Rattle.rulesheet.specs.Faults.{listStart, clauseFault}
+use borrow.Author.Needs.{needs}
+use borrow.Author.Tests.{not-true, not-false}
 use Rattle.rulesheet.proofs.Trailers.{facts, form-c}
-use Rattle.rulesheet.proofs.Taking.{schema-within, clause-asked, next-list}
+use Rattle.rulesheet.proofs.Passes.{Going, ends-inside, going-begins, going-falls, going-stops, going-on, going-ends}
 use Rattle.rulesheet.proofs.layout.pass_clauses.Statement.{statement}
 use Rattle.rulesheet.proofs.layout.pass_clauses.Tie as tie
 
 abbrev Inv-loop : tie.InvT-loop
-Inv-loop words form from first end start₀ k₀ start k = (first ≤ k) × (k ≤ end) × (lowestFrom (clauseFault words) (end - first) first ≡ left (clauseFault words) end k) × (start ≡ listStart words k)
+Inv-loop words form from first end start₀ last₀ k₀ start last k = Going words first end start last k
 
 abbrev μ-loop : tie.MeasureT-loop
-μ-loop words form from first end start₀ k₀ start k = end - k
+μ-loop words form from first end start₀ last₀ k₀ start last k = end - k
 
 schema-at-requires : tie.Need-schema-at-requires Inv-loop μ-loop
 schema-at-requires c κs = (c .before .pre .0 .formed, c .before .pre .1)
 
 add-end : tie.Need-add-end Inv-loop μ-loop
-add-end c = omega (arith, schema-within (c .before .before .before .args .words .now) (c .before .before .before .args .form) (c .before .before .before .pre .0) (c .before .before .before .args .schema .0) (c .before .before .before .pre .1), ap (λ (x : SchemaRow). x .first) (c .before .schema-at .ensures), ap (λ (x : SchemaRow). x .count) (c .before .schema-at .ensures), facts (c .before .before .before .args .words .now) (c .before .before .before .args .form) (c .before .before .before .pre .0 .formed) .few-clauses)
+add-end c =
+    let s = c .before .before .before in
+    let row = c .before .schema-at in
+    let ends = ends-inside (s .args .words .now) (s .args .form) (s .pre .0) (s .args .schema .0) (s .pre .1) (row .result) (row .ensures) in
+    omega (arith, form-c (s .args .words .now) (s .args .form) (s .pre .0 .formed), facts (s .args .words .now) (s .args .form) (s .pre .0 .formed) .few-clauses)
 
 loop-holds : tie.Need-loop-holds Inv-loop μ-loop
-loop-holds c = (omega arith, omega arith, refl, c .before .before .before .pre .2 ∙ ap (listStart (c .before .before .before .args .words .now)) (sym (ap (λ (x : SchemaRow). x .first) (c .before .schema-at .ensures))))
+loop-holds c =
+    let s = c .before .before .before in
+    let row = c .before .schema-at in
+    going-begins (s .args .words .now) (s .args .form) (s .pre .0) (s .args .schema .0) (s .pre .1) (row .result) (row .ensures) 0 (s .pre .2)
 
-clause-fine-requires : tie.Need-clause-fine-requires Inv-loop μ-loop
-clause-fine-requires c κs = ((c .before .before .before .before .before .pre .0 .formed), omega (arith, schema-within (c .before .before .before .before .before .args .words .now) (c .before .before .before .before .before .args .form) (c .before .before .before .before .before .pre .0) (c .before .before .before .before .before .args .schema .0) (c .before .before .before .before .before .pre .1), ap (λ (x : SchemaRow). x .first) (c .before .before .before .schema-at .ensures), ap (λ (x : SchemaRow). x .count) (c .before .before .before .schema-at .ensures), form-c (c .before .before .before .before .before .args .words .now) (c .before .before .before .before .before .args .form) (c .before .before .before .before .before .pre .0 .formed)))
+clause-at-requires : tie.Need-clause-at-requires Inv-loop μ-loop
+clause-at-requires c κs =
+    let s = c .before .before .before .before .before in
+    let row = c .before .before .before .schema-at in
+    (s .pre .0 .formed, omega (arith, ends-inside (s .args .words .now) (s .args .form) (s .pre .0) (s .args .schema .0) (s .pre .1) (row .result) (row .ensures)))
 
 returns : tie.Need-returns Inv-loop μ-loop
-returns c = record { fault-is = rw (← (c .before .before .before .before .before .schema-at .ensures)) (sym (begun (clauseFault (c .before .before .before .before .before .before .before .args .words .now)) ((c .before .before .before .before .before .schema-at .result) .count) ((c .before .before .before .before .before .schema-at .result) .first) ∙ c .before .before .before .loop .inv .2 ∙ found (clauseFault (c .before .before .before .before .before .before .before .args .words .now)) ((c .before .before .before .before .before .schema-at .result) .first + (c .before .before .before .before .before .schema-at .result) .count) (c .before .before .before .loop .k) (omega arith) (rw (clause-asked (c .before .before .before .before .before .before .before .args .words .now) (c .before .before .before .before .before .before .before .args .form) (c .before .before .before .before .before .before .before .pre .0) (c .before .before .before .before .before .before .before .args .schema .0) (c .before .before .before .loop .k) (c .before .before .before .loop .start) (c .before .before .before .before .before .schema-at .result) (c .before .clause-fine .result) (c .before .before .before .before .before .before .before .pre .1) (c .before .before .before .before .before .schema-at .ensures) (omega arith) (omega arith) (c .before .before .before .loop .inv .3) (c .before .clause-fine .ensures)) (c .if1 .taken)))); start-is = λ h. absurd (omega (arith, h, ap (λ (x : SchemaRow). x .first) (c .before .before .before .before .before .schema-at .ensures), ap (λ (x : SchemaRow). x .count) (c .before .before .before .before .before .schema-at .ensures))) }
+returns c =
+    let l = c .before .before .before in
+    let s = l .before .before .before .before in
+    let row = l .before .before .schema-at in
+    let clause = c .before .clause-at in
+    going-falls (s .args .words .now) (s .args .form) (s .pre .0) (s .args .schema .0) (s .pre .1) (row .result) (row .ensures) (l .loop .inv) (c .before .before .loop-test .taken) (clause .result) (clause .ensures) (not-true _ (c .if1 .taken))
 
-next-start-requires : tie.Need-next-start-requires Inv-loop μ-loop
-next-start-requires c κs = ((c .before .before .before .before .before .before .before .pre .0 .formed), omega (arith, schema-within (c .before .before .before .before .before .before .before .args .words .now) (c .before .before .before .before .before .before .before .args .form) (c .before .before .before .before .before .before .before .pre .0) (c .before .before .before .before .before .before .before .args .schema .0) (c .before .before .before .before .before .before .before .pre .1), ap (λ (x : SchemaRow). x .first) (c .before .before .before .before .before .schema-at .ensures), ap (λ (x : SchemaRow). x .count) (c .before .before .before .before .before .schema-at .ensures), form-c (c .before .before .before .before .before .before .before .args .words .now) (c .before .before .before .before .before .before .before .args .form) (c .before .before .before .before .before .before .before .pre .0 .formed)))
+pass-clause-requires : tie.Need-pass-clause-requires Inv-loop μ-loop
+pass-clause-requires c κs = c .before .before .before .before .before .before .before .pre .0 .formed
+
+enum-known-passed : tie.Need-enum-known-passed Inv-loop μ-loop
+enum-known-passed c = search needs
+
+enum-told : tie.Need-enum-told Inv-loop μ-loop
+enum-told c = search needs
+
+returns-2 : tie.Need-returns-2 Inv-loop μ-loop
+returns-2 c =
+    let l = c .before .before .before .before .before .before in
+    let s = l .before .before .before .before in
+    let row = l .before .before .schema-at in
+    let clause = c .before .before .before .before .clause-at in
+    going-stops (s .args .words .now) (s .args .form) (s .pre .0) (s .args .schema .0) (s .pre .1) (row .result) (row .ensures) (l .loop .inv) (c .before .before .before .before .before .loop-test .taken) (clause .result) (clause .ensures) (c .before .before .pass-clause .ensures) (c .enum-told .given .1)
 
 add-k : tie.Need-add-k Inv-loop μ-loop
-add-k c = omega (arith, schema-within (c .before .before .before .before .before .before .before .before .args .words .now) (c .before .before .before .before .before .before .before .before .args .form) (c .before .before .before .before .before .before .before .before .pre .0) (c .before .before .before .before .before .before .before .before .args .schema .0) (c .before .before .before .before .before .before .before .before .pre .1), ap (λ (x : SchemaRow). x .first) (c .before .before .before .before .before .before .schema-at .ensures), ap (λ (x : SchemaRow). x .count) (c .before .before .before .before .before .before .schema-at .ensures), facts (c .before .before .before .before .before .before .before .before .args .words .now) (c .before .before .before .before .before .before .before .before .args .form) (c .before .before .before .before .before .before .before .before .pre .0 .formed) .few-clauses)
+add-k c =
+    let s = c .before .before .before .before .before .before .before .before .before .before .before in
+    let row = c .before .before .before .before .before .before .before .before .before .schema-at in
+    let ends = ends-inside (s .args .words .now) (s .args .form) (s .pre .0) (s .args .schema .0) (s .pre .1) (row .result) (row .ensures) in
+    omega (arith, c .before .before .before .before .before .before .loop-test .taken, form-c (s .args .words .now) (s .args .form) (s .pre .0 .formed), facts (s .args .words .now) (s .args .form) (s .pre .0 .formed) .few-clauses)
 
 loop-less : tie.Need-loop-less Inv-loop μ-loop
 loop-less c = omega arith
 
 loop-again : tie.Need-loop-again Inv-loop μ-loop
-loop-again c = (omega arith, omega arith, c .before .before .before .before .loop .inv .2 ∙ passed (clauseFault (c .before .before .before .before .before .before .before .before .args .words .now)) ((c .before .before .before .before .before .before .schema-at .result) .first + (c .before .before .before .before .before .before .schema-at .result) .count) (c .before .before .before .before .loop .k) (omega arith) (rw (clause-asked (c .before .before .before .before .before .before .before .before .args .words .now) (c .before .before .before .before .before .before .before .before .args .form) (c .before .before .before .before .before .before .before .before .pre .0) (c .before .before .before .before .before .before .before .before .args .schema .0) (c .before .before .before .before .loop .k) (c .before .before .before .before .loop .start) (c .before .before .before .before .before .before .schema-at .result) (c .before .before .clause-fine .result) (c .before .before .before .before .before .before .before .before .pre .1) (c .before .before .before .before .before .before .schema-at .ensures) (omega arith) (omega arith) (c .before .before .before .before .loop .inv .3) (c .before .before .clause-fine .ensures)) (c .before .if1 .left)), next-list (c .before .before .before .before .before .before .before .before .args .words .now) (c .before .before .before .before .loop .k) (c .before .before .before .before .loop .start) (c .next-start .result) (c .before .before .before .before .loop .inv .3) (c .next-start .ensures))
+loop-again c =
+    let l = c .before .before .before .before .before .before .before in
+    let s = l .before .before .before .before in
+    let row = l .before .before .schema-at in
+    let clause = c .before .before .before .before .before .clause-at in
+    going-on (s .args .words .now) (s .args .form) (s .pre .0) (s .args .schema .0) (s .pre .1) (row .result) (row .ensures) (l .loop .inv) (c .before .before .before .before .before .before .loop-test .taken) (clause .result) (clause .ensures) (not-false _ (c .before .before .before .before .if1 .left)) (c .before .before .before .pass-clause .ensures) (c .before .passed .given .1)
 
-returns-2 : tie.Need-returns-2 Inv-loop μ-loop
-returns-2 c = record { fault-is = rw (← (c .before .before .before .schema-at .ensures)) (sym (begun (clauseFault (c .before .before .before .before .before .args .words .now)) ((c .before .before .before .schema-at .result) .count) ((c .before .before .before .schema-at .result) .first) ∙ c .before .loop .inv .2 ∙ ended (clauseFault (c .before .before .before .before .before .args .words .now)) ((c .before .before .before .schema-at .result) .first + (c .before .before .before .schema-at .result) .count) (c .before .loop .k) (omega arith))); start-is = λ h. c .before .loop .inv .3 ∙ ap (listStart (c .before .before .before .before .before .args .words .now)) (omega (arith, ap (λ (x : SchemaRow). x .first) (c .before .before .before .schema-at .ensures), ap (λ (x : SchemaRow). x .count) (c .before .before .before .schema-at .ensures))) }
+returns-3 : tie.Need-returns-3 Inv-loop μ-loop
+returns-3 c =
+    let l = c .before in
+    let s = l .before .before .before .before in
+    let row = l .before .before .schema-at in
+    going-ends (s .args .words .now) (s .args .form) (s .pre .0) (s .args .schema .0) (s .pre .1) (row .result) (row .ensures) (l .loop .inv) (c .loop-test .left)
 
 pub pass-clauses-spec : {M : Type 1} → statement M
 pass-clauses-spec =
@@ -56,10 +95,13 @@ pass-clauses-spec =
     schema-at-requires
     add-end
     loop-holds
-    clause-fine-requires
+    clause-at-requires
     returns
-    next-start-requires
+    pass-clause-requires
+    enum-known-passed
+    enum-told
+    returns-2
     add-k
     loop-less
     loop-again
-    returns-2)
+    returns-3)
