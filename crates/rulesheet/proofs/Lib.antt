@@ -4,6 +4,7 @@ pub mod Schemas
 pub mod Runs
 pub mod Taking
 mod Passes
+mod Walking
 pub mod Reaching
 pub mod Repeating
 pub mod Items

@@ -171,13 +171,15 @@ module _ (ws : List ℕ) (form : RuleForm) (laid : ClausesLaid ws form) where
       )
 
   -- the search through the entries of a list, by the clause and the fields that were read
-  pub entries-asked : (k r : ℕ) (row : ClauseRow) (fields : Fields) → k < clausesWord ws → isList (fieldsAt ws k) ≡ true → row ≡ clauseAt ws k → fields ≡ fieldsAt ws k
+  pub entries-asked : (k r : ℕ) (row : ClauseRow) (fields : Fields) → k < form .c → isList (fieldsAt ws k) ≡ true → row ≡ clauseAt ws k → fields ≡ fieldsAt ws k
       → r ≡ lowestFrom (λ x. not (entryOk fields (textWord ws) (schemasWord ws) (entryAt ws x))) ((row .first + row .count) - row .first) (row .first)
-      → r ≡ lowestFrom (entryFault ws) (row .count) (row .first)
+      → r ≡ lowestFrom (entryFault ws) (clauseAt ws k .count) (clauseAt ws k .first)
   entries-asked k r row fields h t read same e =
+      let c = form-c ws form (laid .schemas-laid .formed) in
       let a = ap (λ (x : ClauseRow). x .first) read in
       let b = ap (λ (x : ClauseRow). x .count) read in
       e
       ∙ sym (begun (λ x. not (entryOk fields (textWord ws) (schemasWord ws) (entryAt ws x))) (row .count) (row .first))
       ∙ alike (λ x. not (entryOk fields (textWord ws) (schemasWord ws) (entryAt ws x))) (entryFault ws) (row .count) (row .first)
-      (λ (x : ℕ) (low : row .first ≤ x) (high : x < row .first + row .count). ap not (ap (λ (f : Fields). entryOk f (textWord ws) (schemasWord ws) (entryAt ws x)) same ∙ sym (entry-taken k x h t (omega arith) (omega arith))))
+      (λ (x : ℕ) (low : row .first ≤ x) (high : x < row .first + row .count). ap not (ap (λ (f : Fields). entryOk f (textWord ws) (schemasWord ws) (entryAt ws x)) same ∙ sym (entry-taken k x (omega arith) t (omega arith) (omega arith))))
+      ∙ ap (λ (x : ClauseRow). lowestFrom (entryFault ws) (x .count) (x .first)) read

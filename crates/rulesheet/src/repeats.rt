@@ -6,7 +6,7 @@ ghost use Prim.Native.Nat.{_<_};
 ghost use lib.ListN.{length};
 ghost use Rattle.laws.specs.Lowest.{lowest, lowestFrom};
 ghost use Rattle.rulesheet.specs.Sheet.{entriesWord, textWord, clauseAt};
-ghost use Rattle.rulesheet.specs.Faults.{isList, fieldsAt, repeated};
+ghost use Rattle.rulesheet.specs.Faults.{isNamed, fieldsAt, repeated};
 ghost use Rattle.rulesheet.specs.Read.{RulesLaid};
 use crate::code::Shape;
 use crate::form::RuleForm;
@@ -14,19 +14,14 @@ use crate::form::clause_at;
 use names::Names;
 use sheet::record::wide;
 
-// The lowest entry of clause k, which is a list, whose name an earlier one has, or where its entries
-// end.
+// The lowest entry of clause k, whose entries have names, whose name an earlier one has, or where
+// they end.
 fn first_repeated_in(words: &[u32], text: &[u8], form: RuleForm, k: u32) -> u32
     requires { ⌜ RulesLaid (now words) form × (length (now text) ≡ textWord (now words)) ⌝ }
-    requires { ⌜ (k < form .c) × (isList (fieldsAt (now words) k) ≡ true) ⌝ }
+    requires { ⌜ (k < form .c) × (isNamed (fieldsAt (now words) k) ≡ true) ⌝ }
     ensures { λ r. ⌜ r ≡ lowestFrom (repeated (now (words .entry)) (now (text .entry))) (clauseAt (now (words .entry)) k .count) (clauseAt (now (words .entry)) k .first) ⌝ }
 {
     let clause = clause_at(words, form, k);
-    let shape = Shape::of(clause.code);
-    let fields = shape.fields;
-    if !fields.is_named() {
-        return clause.first + clause.count;
-    }
     let lying = Names {
         base: form.entries + RuleForm::ENTRY_WORDS * wide(clause.first),
         stride: RuleForm::ENTRY_WORDS,
@@ -49,21 +44,18 @@ pub fn first_repeated_entry(words: &[u32], text: &[u8], form: RuleForm) -> u32
     ensures { λ r. ⌜ r ≡ lowest (repeated (now (words .entry)) (now (text .entry))) (entriesWord (now (words .entry))) ⌝ }
 {
     let c = form.c;
-    let mut x = 0;
     let mut k = 0;
     while k < c {
         let clause = clause_at(words, form, k);
         let shape = Shape::of(clause.code);
         let fields = shape.fields;
-        if fields.is_list() {
-            let end = clause.first + clause.count;
+        if fields.is_named() {
             let again = first_repeated_in(words, text, form, k);
-            if again < end {
+            if again < clause.first + clause.count {
                 return again;
             }
-            x = end;
         }
         k += 1;
     }
-    x
+    form.e
 }
