@@ -1,13 +1,13 @@
 -- What a clause stands for and what its tests say of it, by the row that was read.
---     means-by                         the clause is what its code's line makes of the row
---     of-number                        a number whose words are in bounds is within the limits of exact arithmetic
---     number-plain, positive-plain     a clause's number is within the limits of exact arithmetic
---     schema-inside                    a clause's schema is one of the sheet
---     list-inside, entries-fine-in     a clause's list ends within the entries, and each has what the fields ask
+--     of-number     a number whose words are in bounds is within the limits of exact arithmetic
+--     decodes       a clause is decoded by the number of its code
+--     means-by      a clause that was decoded from its row is the clause of the rules
+--     tested-by     and what it holds is within its bounds
 -- Assumes nothing.
 use mathlib.Core.Bool.{true, _&&_}
-use mathlib.Core.List.{List, map}
-use mathlib.Core.Path.{_≡_, sym, ap, _∙_}
+use mathlib.Core.List.{List}
+use mathlib.Core.Logic.{⊎-elim}
+use mathlib.Core.Path.{_≡_, sym, ap, subst, _∙_}
 use Prim.Native.Nat.{ℕ, _+_, _^_, _≤_, _<_}
 use native.Mathlib.Omega.{arith}
 use lib.Dec.{eqb, leb, ltb}
@@ -17,15 +17,19 @@ use Rattle.laws.proofs.Tests.{left, right}
 use Rattle.decimal.specs.declared.Decimal.{Decimal}
 use Rattle.decimal.specs.Value.{scale-max, signed, Plain, OfWord}
 use Rattle.sheet.specs.Kinds.{number-max, numberOk}
+use Rattle.rulesheet.specs.declared.code.Fields.{Fields}
 use Rattle.rulesheet.specs.declared.code.Fields.the-variants.{Number, Positive, Schema}
+use Rattle.rulesheet.specs.declared.clause.Clause.{Clause}
 use Rattle.rulesheet.specs.declared.form.ClauseRow.{ClauseRow}
 use Rattle.rulesheet.specs.declared.form.RuleForm.{RuleForm}
-use Rattle.rulesheet.specs.Codes.{Parts, shapeOf, meansOf}
-use Rattle.rulesheet.specs.Sheet.{schemasWord, clausesWord, textWord, clauseAt, entryAt, run, clauseOf}
+use Rattle.rulesheet.specs.Codes.{shapeOf}
+use Rattle.rulesheet.specs.Sheet.{schemasWord, clausesWord, textWord, clauseAt, entryAt, clauseOf}
 use Rattle.rulesheet.specs.Faults.{isList, positiveOk, fieldsOk, entryOk, fieldsAt}
 use Rattle.rulesheet.specs.Read.{ClausesLaid, RulesLaid}
-use Rattle.rulesheet.proofs.Trailers.{form-m, form-c, form-e}
-use Rattle.rulesheet.proofs.Taking.{clause-facts, list-facts, entry-taken}
+use Rattle.rulesheet.specs.Clauses.{clauseMeans, Held, bare, number, schema, list, held, Bounded, Listed, Tested, Holds, Decoded}
+use Rattle.rulesheet.proofs.Trailers.{form-m, form-c}
+use Rattle.rulesheet.proofs.Taking.{clause-facts, entry-taken}
+use Rattle.rulesheet.proofs.Walking.{list-inside}
 
 -- ---- numbers
 
@@ -52,51 +56,63 @@ module _ (first count : ℕ) (d : Decimal) (o : OfWord first count d) where
       let a = leb-true first number-max (left t2 t3 rest) in
       by-size (omega (arith, itself a)) (leb-true count scale-max (right t2 t3 rest))
 
--- ---- a clause by its row
+-- ---- a clause that was decoded
 
--- what the row's clause is made of
-abbrev pub partsBy : List ℕ → List ℕ → ClauseRow → Parts
-partsBy ws ts row = record { text = ts; first = row .first; count = row .count; entries = map (entryAt ws) (run (row .count) (row .first)) }
+-- it is enough to decode the number that the code is
+pub decodes : {code first count : ℕ} {clause : Clause} (n : ℕ) → code ≡ n → Decoded n first count clause → Decoded code first count clause
+decodes {code} {first} {count} {clause} n e d = subst (λ (m : ℕ). Decoded m first count clause) (sym e) d
 
-module _ (ws : List ℕ) (k : ℕ) (row : ClauseRow) (read : row ≡ clauseAt ws k) where
-  pub means-by : (code : ℕ) → row .code ≡ code → (ts : List ℕ) → meansOf code (partsBy ws ts row) ≡ clauseOf ws ts k
+module _ (ws : List ℕ) (form : RuleForm) (k : ℕ) (h : k < form .c) (row : ClauseRow) (read : row ≡ clauseAt ws k) (clause : Clause) (d : Decoded (row .code) (row .first) (row .count) clause) where
+  pub means-by : (ts : List ℕ) → clauseMeans ws ts clause ≡ clauseOf ws ts k
   unfolding clauseOf
-  means-by code e ts = rw (← e, read)
+  means-by ts = d .means ws ts ∙ rw read
 
-  module _ (form : RuleForm) (h : k < form .c) (code : ℕ) (e : row .code ≡ code) where
-    fields-by : ClausesLaid ws form → fieldsOk (shapeOf code .fields) (schemasWord ws) (row .first) (row .count) ≡ true
-    fields-by laid = rw (← e, read) (clause-facts ws k (laid .clauses-fine k h) .fields-fine)
+  abbrev fields : Fields
+  fields = shapeOf (row .code) .fields
 
-    pub number-plain : (d : Decimal) → OfWord (row .first) (row .count) d → shapeOf code .fields ≡ Number → ClausesLaid ws form → Plain d
-    number-plain d o f laid = of-number (row .first) (row .count) d o (rw f at (fields-by laid))
+  fields-by : ClausesLaid ws form → fieldsOk fields (schemasWord ws) (row .first) (row .count) ≡ true
+  fields-by laid = rw read (clause-facts ws k (laid .clauses-fine k h) .fields-fine)
 
-    pub positive-plain : (d : Decimal) → OfWord (row .first) (row .count) d → shapeOf code .fields ≡ Positive → ClausesLaid ws form → Plain d
-    positive-plain d o f laid = of-positive (row .first) (row .count) d o (rw f at (fields-by laid))
+  schema-inside : fields ≡ Schema → ClausesLaid ws form → row .first < form .m
+  schema-inside f laid =
+      let m = schemasWord ws in
+      let t : fieldsOk Schema m (row .first) (row .count) ≡ true = rw f at (fields-by laid) in
+      let below = ltb-true (row .first) m (left (ltb (row .first) m) (eqb (row .count) 0) t) in
+      omega (arith, form-m ws form (laid .schemas-laid .formed))
 
-    pub schema-inside : shapeOf code .fields ≡ Schema → ClausesLaid ws form → row .first < form .m
-    schema-inside f laid =
-        let m = schemasWord ws in
-        let t : fieldsOk Schema m (row .first) (row .count) ≡ true = rw f at (fields-by laid) in
-        let below = ltb-true (row .first) m (left (ltb (row .first) m) (eqb (row .count) 0) t) in
-        omega (arith, form-m ws form (laid .schemas-laid .formed))
+  module _ (f : isList fields ≡ true) where
+    is-list : isList (fieldsAt ws k) ≡ true
+    is-list = sym (ap (λ (x : ClauseRow). isList (shapeOf (x .code) .fields)) read) ∙ f
 
-    is-list : isList (shapeOf code .fields) ≡ true → isList (fieldsAt ws k) ≡ true
-    is-list f = sym (ap (λ (x : ClauseRow). isList (shapeOf (x .code) .fields)) read) ∙ ap (λ (n : ℕ). isList (shapeOf n .fields)) e ∙ f
+    entries-inside : ClausesLaid ws form → row .first + row .count ≤ form .e
+    entries-inside laid = list-inside ws form laid h row read is-list
 
-    pub list-inside : isList (shapeOf code .fields) ≡ true → ClausesLaid ws form → row .first + row .count ≤ form .e
-    list-inside f laid =
-        let within = list-facts ws k (laid .clauses-fine k h) (is-list f) .list-within in
-        let a = ap (λ (x : ClauseRow). x .first) read in
-        let b = ap (λ (x : ClauseRow). x .count) read in
-        omega (arith, form-e ws form (laid .schemas-laid .formed))
-
-    pub entries-fine-in : isList (shapeOf code .fields) ≡ true → RulesLaid ws form → (i : ℕ) → i < row .count
-        → entryOk (shapeOf code .fields) (textWord ws) (schemasWord ws) (entryAt ws (row .first + i)) ≡ true
-    entries-fine-in f laid i l =
+    entries-fine-in : RulesLaid ws form → (i : ℕ) → i < row .count → entryOk fields (textWord ws) (schemasWord ws) (entryAt ws (row .first + i)) ≡ true
+    entries-fine-in laid i l =
         let under = laid .clauses-laid in
         let a = ap (λ (x : ClauseRow). x .first) read in
         let b = ap (λ (x : ClauseRow). x .count) read in
-        let inside = list-inside f under in
+        let inside = entries-inside under in
         let fine = laid .entries-fine (row .first + i) (omega arith) in
         let below : k < clausesWord ws = omega (arith, form-c ws form (under .schemas-laid .formed)) in
-        rw (← e, read) (rw read at (sym (entry-taken ws form under k (row .first + i) below (is-list f) (omega arith) (omega arith)) ∙ fine))
+        rw read (rw read at (sym (entry-taken ws form under k (row .first + i) below is-list (omega arith) (omega arith)) ∙ fine))
+
+  -- what it holds is within its bounds
+  bounded-by : (what : Held) → Holds fields (row .first) (row .count) what → ClausesLaid ws form → Bounded form what
+  bounded-by bare holds laid = tt
+  bounded-by (number dec) holds laid =
+      ⊎-elim
+      (λ (e : fields ≡ Number). of-number (row .first) (row .count) dec (holds .0) (rw e at (fields-by laid)))
+      (λ (e : fields ≡ Positive). of-positive (row .first) (row .count) dec (holds .0) (rw e at (fields-by laid)))
+      (holds .1)
+  bounded-by (schema it) holds laid = rw (holds .0) (schema-inside (holds .1) laid)
+  bounded-by (list named es) holds laid = rw (holds .0, holds .1) (entries-inside (holds .3) laid)
+
+  listed-by : (what : Held) → Holds fields (row .first) (row .count) what → RulesLaid ws form → Listed ws what
+  listed-by bare holds laid = tt
+  listed-by (number dec) holds laid = tt
+  listed-by (schema it) holds laid = tt
+  listed-by (list named es) holds laid = λ i l. rw (holds .0, holds .2) (entries-fine-in (holds .3) laid i (omega (arith, holds .1)))
+
+  pub tested-by : Tested ws form clause
+  tested-by = record { bounded = bounded-by (held clause) (d .holds); listed = listed-by (held clause) (d .holds) }

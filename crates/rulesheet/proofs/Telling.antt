@@ -1,5 +1,6 @@
 -- The clauses that tell something to those after them are those of two codes.
---     tells-nothing     a clause of another code tells nothing
+--     tells-members, tells-prefix     what those two are decoded to
+--     tells-nothing                   a clause of another code tells nothing
 -- Assumes nothing.
 use mathlib.Core.List.{List, [], _∷_}
 use mathlib.Core.Logic.{⊎-elim}
@@ -9,9 +10,10 @@ use Prim.Native.Nat.{ℕ}
 use native.Mathlib.Omega.{arith}
 use lib.Dec.{eqb}
 use borrow.Author.Tests.{eqb-true}
+use Rattle.rulesheet.specs.declared.clause.Clause.the-variants.{Properties, PrefixItems}
 use Rattle.rulesheet.specs.Ruleset.{asserts, never}
 use Rattle.rulesheet.specs.Codes.{Parts, Line, codes, pickLine, lineIn, meansOf}
-use Rattle.rulesheet.specs.Clauses.{telling}
+use Rattle.rulesheet.specs.Clauses.{Decoded, telling}
 use Rattle.rulesheet.proofs.Reaching.{Every, done, and, in-table}
 
 -- a line that is found has the code, or none
@@ -37,3 +39,11 @@ tells-nothing code f g = in-table Quiet codes code (λ _ _ p. refl) table-quiet 
   where
     other : (n : ℕ) → (0 ≡ n → ⊥) → (code ≡ n → ⊥) → lineIn codes code .code ≡ n → ⊥
     other n some differs e = some (sym (line-code codes code (λ z. differs (sym z ∙ e))) ∙ e)
+
+pub tells-members : (first count : ℕ) → Decoded 40 first count (Properties (record { first = first; count = count }))
+unfolding lineIn
+tells-members first count = record { means = λ ws ts. refl; holds = (refl, refl, refl, refl) }
+
+pub tells-prefix : (first count : ℕ) → Decoded 43 first count (PrefixItems (record { first = first; count = count }))
+unfolding lineIn
+tells-prefix first count = record { means = λ ws ts. refl; holds = (refl, refl, refl, refl) }

@@ -3,17 +3,18 @@
 -- Assumes nothing.
 use mathlib.Core.Bool.{true}
 use mathlib.Core.List.{List, [], _∷_, map}
+use mathlib.Core.Logic.{_⊎_}
 use mathlib.Core.Path.{_≡_}
 use Prim.Native.Nat.{ℕ, _+_, _≤_, _<_}
 use lib.ListN.{getD}
 use Rattle.decimal.specs.declared.Decimal.{Decimal}
-use Rattle.decimal.specs.Value.{value, Plain}
+use Rattle.decimal.specs.Value.{value, Plain, OfWord}
 use Rattle.text.specs.declared.Range.{Range}
 use Rattle.text.specs.Part.{fits, part}
 use Rattle.sheet.specs.declared.record.RuleRow.{RuleRow}
 use Rattle.sheet.specs.Doc.{Value}
 use Rattle.rulesheet.specs.declared.code.Fields.{Fields}
-use Rattle.rulesheet.specs.declared.code.Fields.the-variants.{Values, Names, Schemas, Members}
+use Rattle.rulesheet.specs.declared.code.Fields.the-variants.{Number, Positive, Schema, Values, Names, Schemas, Members}
 use Rattle.rulesheet.specs.declared.form.RuleForm.{RuleForm}
 use Rattle.rulesheet.specs.declared.form.EntryRow.{EntryRow}
 use Rattle.rulesheet.specs.declared.clause.Entries.{Entries}
@@ -23,9 +24,9 @@ use Rattle.rulesheet.specs.declared.clause.Clause.the-variants.{MinLengt
 use Rattle.rulesheet.specs.declared.clause.Clause.the-variants.{AllOf, AnyOf, OneOf, Not, Ref, Properties, AdditionalProperties, PrefixItems, Items}
 use Rattle.rulesheet.specs.declared.clause.Clause.the-variants.{UnevaluatedProperties, UnevaluatedItems}
 use Rattle.rulesheet.specs.Ruleset as R
-use Rattle.rulesheet.specs.Codes.{entryValue, entryName, entryMember}
-use Rattle.rulesheet.specs.Sheet.{schemasWord, textWord, entryAt, run}
-use Rattle.rulesheet.specs.Faults.{entryOk, isNamed}
+use Rattle.rulesheet.specs.Codes.{entryValue, entryName, entryMember, shapeOf, meansOf}
+use Rattle.rulesheet.specs.Sheet.{schemasWord, textWord, entryAt, run, partsOf}
+use Rattle.rulesheet.specs.Faults.{isList, entryOk, isNamed}
 use Rattle.rulesheet.specs.Read.{ClausesLaid, RulesLaid}
 
 -- the entries of a list, read from the words
@@ -128,6 +129,22 @@ Listed ws (list fields es) = (i : ℕ) → i < es .count → entryOk fields (tex
 pub record Tested (ws : List ℕ) (form : RuleForm) (clause : Clause) : Type 0 where
   pub bounded : ClausesLaid ws form → Bounded form (held clause)
   pub listed : RulesLaid ws form → Listed ws (held clause)
+
+-- ---- a clause that was decoded from its three words
+
+-- what it holds is what its first and count are, by the fields of its code
+abbrev pub Holds : Fields → ℕ → ℕ → Held → Type 0
+Holds fields first count bare = Unit
+Holds fields first count (number d) = OfWord first count d × ((fields ≡ Number) ⊎ (fields ≡ Positive))
+Holds fields first count (schema row) = (row .0 ≡ first) × (fields ≡ Schema)
+Holds fields first count (list named es) = (es .first ≡ first) × (es .count ≡ count) × (named ≡ fields) × (isList fields ≡ true)
+
+-- and it means what its code's line makes of them, whatever the entries and the text
+pub record Decoded (code first count : ℕ) (clause : Clause) : Type 0 where
+  pub means : (ws ts : List ℕ) → clauseMeans ws ts clause ≡ meansOf code (partsOf ws ts first count)
+  pub holds : Holds (shapeOf code .fields) first count (held clause)
+
+-- ---- what is read of a list, and of the clauses before
 
 -- the range that is read as the name of item i of a list: its bytes, and that a list of names has them within the text
 pub record EntryNameRead (ws : List ℕ) (es : Entries) (i : ℕ) (r : Range) : Type 0 where

@@ -12,7 +12,7 @@ use Rattle.rulesheet.specs.declared.form.ClauseRow.{ClauseRow}
 use Rattle.rulesheet.specs.declared.form.EntryRow.{EntryRow}
 use Rattle.rulesheet.specs.declared.form.RuleForm.{RuleForm}
 use Rattle.rulesheet.specs.Ruleset.{Clause, Ruleset, unguarded, next}
-use Rattle.rulesheet.specs.Codes.{meansOf}
+use Rattle.rulesheet.specs.Codes.{Parts, meansOf}
 
 abbrev pub trailer-words : ℕ
 trailer-words = 6
@@ -79,10 +79,12 @@ unfoldable pub run : ℕ → ℕ → List ℕ
 run zero from = []
 run (suc many) from = from ∷ run many (from + 1)
 
+-- what a clause with this first and count is made of
+abbrev pub partsOf : List ℕ → List ℕ → ℕ → ℕ → Parts
+partsOf ws ts first count = record { text = ts; first = first; count = count; entries = map (entryAt ws) (run count first) }
+
 unfoldable pub clauseOf : List ℕ → List ℕ → ℕ → Clause
-clauseOf ws ts k =
-    let row = clauseAt ws k in
-    meansOf (row .code) (record { text = ts; first = row .first; count = row .count; entries = map (entryAt ws) (run (row .count) (row .first)) })
+clauseOf ws ts k = let row = clauseAt ws k in meansOf (row .code) (partsOf ws ts (row .first) (row .count))
 
 -- past the schemas there are no clauses
 unfoldable pub rulesOf : List ℕ → List ℕ → Ruleset

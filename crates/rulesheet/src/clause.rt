@@ -5,7 +5,7 @@ ghost use Prim.Native.Nat.{ℕ, _+_, _≤_, _<_};
 ghost use lib.ListN.{getD};
 ghost use Rattle.rulesheet.specs.Sheet.{entryAt, clauseOf};
 ghost use Rattle.rulesheet.specs.Read.{RulesFormed};
-ghost use Rattle.rulesheet.specs.Clauses.{schemasIn, membersIn, clauseMeans, Tested, EntryNameRead, telling};
+ghost use Rattle.rulesheet.specs.Clauses.{schemasIn, membersIn, clauseMeans, Tested, Decoded, EntryNameRead, telling};
 use crate::form::EntryRow;
 use crate::form::RuleForm;
 use crate::form::clause_at;
@@ -50,22 +50,16 @@ pub enum Clause {
     UnevaluatedItems(RuleRow),
 }
 
-// Clause k. One whose code the table does not have reads as `Clause::Never`; no sheet with it is
-// accepted.
-pub fn clause_of(words: &[u32], form: RuleForm, k: u32) -> Clause
-    requires { ⌜ RulesFormed (now words) form × (k < form .c) ⌝ }
-    ensures { λ r. ⌜ ((ts : List ℕ) → clauseMeans (now (words .entry)) ts r ≡ clauseOf (now (words .entry)) ts k) ⌝ }
-    ensures { λ r. ⌜ Tested (now (words .entry)) form r ⌝ }
+// The clause of these three words. One whose code the table does not have reads as `Clause::Never`;
+// no sheet with it is accepted.
+fn decoded(code: u32, first: u32, count: u32) -> Clause
+    ensures { λ r. ⌜ Decoded code first count r ⌝ }
 {
-    let row = clause_at(words, form, k);
-    let first = row.first;
-    let count = row.count;
     let schema = RuleRow(first);
     let entries = Entries {
         first: first,
         count: count,
     };
-    let code = row.code;
     match code {
         1 => Clause::Never,
         2 => Clause::Types(first),
@@ -95,6 +89,16 @@ pub fn clause_of(words: &[u32], form: RuleForm, k: u32) -> Clause
         61 => Clause::UnevaluatedItems(schema),
         _ => Clause::Never,
     }
+}
+
+// Clause k.
+pub fn clause_of(words: &[u32], form: RuleForm, k: u32) -> Clause
+    requires { ⌜ RulesFormed (now words) form × (k < form .c) ⌝ }
+    ensures { λ r. ⌜ ((ts : List ℕ) → clauseMeans (now (words .entry)) ts r ≡ clauseOf (now (words .entry)) ts k) ⌝ }
+    ensures { λ r. ⌜ Tested (now (words .entry)) form r ⌝ }
+{
+    let row = clause_at(words, form, k);
+    decoded(row.code, row.first, row.count)
 }
 
 // Clause k if it tells something to those after it, as `properties` and `prefixItems` do, and else

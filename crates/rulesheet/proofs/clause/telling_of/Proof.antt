@@ -1,9 +1,9 @@
 -- `telling_of` meets its contract: two codes tell something, and no other. Assumes nothing.
-use mathlib.Core.Path.{_≡_, refl, sym, ap, _∙_}
-use Rattle.rulesheet.specs.Codes.{lineIn}
+use mathlib.Core.Path.{sym, ap, _∙_}
+use Rattle.rulesheet.specs.Sheet.{partsOf, clauseOf}
 use Rattle.rulesheet.specs.Clauses.{telling}
-use Rattle.rulesheet.proofs.Meanings.{partsBy, means-by, list-inside, entries-fine-in}
-use Rattle.rulesheet.proofs.Telling.{tells-nothing}
+use Rattle.rulesheet.proofs.Meanings.{decodes, means-by, tested-by}
+use Rattle.rulesheet.proofs.Telling.{tells-members, tells-prefix, tells-nothing}
 use borrow.Author.Needs.{needs}
 use Rattle.rulesheet.proofs.clause.telling_of.Statement.{statement}
 use Rattle.rulesheet.proofs.clause.telling_of.Tie as tie
@@ -12,20 +12,33 @@ clause-at-requires : tie.Need-clause-at-requires
 clause-at-requires c κs = search needs
 
 returns : tie.Need-returns
-unfolding lineIn telling
-returns c = (λ ts. ap telling (means-by (c .before .before .before .args .words .now) (c .before .before .before .args .k) (c .before .clause-at .result) (c .before .clause-at .ensures) 40 (c .match .keys1) ts), record { bounded = list-inside (c .before .before .before .args .words .now) (c .before .before .before .args .k) (c .before .clause-at .result) (c .before .clause-at .ensures) (c .before .before .before .args .form) (c .before .before .before .pre .1) 40 (c .match .keys1) refl; listed = entries-fine-in (c .before .before .before .args .words .now) (c .before .before .before .args .k) (c .before .clause-at .result) (c .before .clause-at .ensures) (c .before .before .before .args .form) (c .before .before .before .pre .1) 40 (c .match .keys1) refl })
+unfolding telling
+returns c =
+    let s = c .before .before .before in
+    let row = c .before .clause-at in
+    let d = decodes 40 (c .match .keys1) (tells-members (row .result .first) (row .result .count)) in (
+      λ ts. ap telling (means-by (s .args .words .now) (s .args .form) (s .args .k) (s .pre .1) (row .result) (row .ensures) _ d ts),
+      tested-by (s .args .words .now) (s .args .form) (s .args .k) (s .pre .1) (row .result) (row .ensures) _ d,
+    )
 
 returns-2 : tie.Need-returns-2
-unfolding lineIn telling
-returns-2 c = (λ ts. ap telling (means-by (c .before .before .before .args .words .now) (c .before .before .before .args .k) (c .before .clause-at .result) (c .before .clause-at .ensures) 43 (c .match .keys2) ts), record { bounded = list-inside (c .before .before .before .args .words .now) (c .before .before .before .args .k) (c .before .clause-at .result) (c .before .clause-at .ensures) (c .before .before .before .args .form) (c .before .before .before .pre .1) 43 (c .match .keys2) refl; listed = entries-fine-in (c .before .before .before .args .words .now) (c .before .before .before .args .k) (c .before .clause-at .result) (c .before .clause-at .ensures) (c .before .before .before .args .form) (c .before .before .before .pre .1) 43 (c .match .keys2) refl })
+unfolding telling
+returns-2 c =
+    let s = c .before .before .before in
+    let row = c .before .clause-at in
+    let d = decodes 43 (c .match .keys2) (tells-prefix (row .result .first) (row .result .count)) in (
+      λ ts. ap telling (means-by (s .args .words .now) (s .args .form) (s .args .k) (s .pre .1) (row .result) (row .ensures) _ d ts),
+      tested-by (s .args .words .now) (s .args .form) (s .args .k) (s .pre .1) (row .result) (row .ensures) _ d,
+    )
 
 returns-3 : tie.Need-returns-3
-returns-3 c = (
-  λ ts.
-      sym (tells-nothing (c .before .clause-at .result .code) (c .match .rest .0 .1) (c .match .rest .1) (partsBy (c .before .before .before .args .words .now) ts (c .before .clause-at .result)))
-      ∙ ap telling (means-by (c .before .before .before .args .words .now) (c .before .before .before .args .k) (c .before .clause-at .result) (c .before .clause-at .ensures) (c .before .clause-at .result .code) refl ts),
-  record { bounded = λ laid. tt; listed = λ laid. tt },
-)
+unfolding clauseOf
+returns-3 c =
+    let s = c .before .before .before in
+    let row = c .before .clause-at in (
+      λ ts. sym (tells-nothing (row .result .code) (c .match .rest .0 .1) (c .match .rest .1) (partsOf (s .args .words .now) ts (row .result .first) (row .result .count))) ∙ rw (row .ensures),
+      record { bounded = λ laid. tt; listed = λ laid. tt },
+    )
 
 pub telling-of-spec : {M : Type 1} → statement M
 telling-of-spec = tie.close (tie.spec clause-at-requires returns returns-2 returns-3)
