@@ -6,6 +6,7 @@ pub mod Taking
 mod Passes
 mod Walking
 pub mod Reaching
+pub mod Stepping
 pub mod Repeating
 pub mod Items
 pub mod Naming

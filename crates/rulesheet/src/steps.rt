@@ -1,11 +1,11 @@
 // The unguarded steps of a clause: the schemas that it applies to the row itself. They do not depend
-// on the text.
+// on the text. Every clause of a sheet is asked for them, so the codes that have some are told here by
+// their numbers: 30 to 32 have a list of them, 33 and 34 one.
 ghost use mathlib.Core.Path.{_≡_};
 ghost use Prim.Native.Nat.{_<_};
 ghost use lib.ListN.{length, getD};
 ghost use Rattle.rulesheet.specs.Sheet.{targetsOf};
 ghost use Rattle.rulesheet.specs.Read.{RulesFormed, ClausesLaid};
-use crate::code::Shape;
 use crate::form::RuleForm;
 use crate::form::clause_at;
 use crate::form::entry_at;
@@ -17,15 +17,11 @@ pub fn steps_of(words: &[u32], form: RuleForm, k: u32) -> u32
     ensures { λ r. ⌜ r ≡ length (targetsOf (now (words .entry)) k) ⌝ }
 {
     let clause = clause_at(words, form, k);
-    let shape = Shape::of(clause.code);
-    if !shape.unguarded {
-        return 0;
+    match clause.code {
+        30..=32 => clause.count,
+        33..=34 => 1,
+        _ => 0,
     }
-    let fields = shape.fields;
-    if fields.is_list() {
-        return clause.count;
-    }
-    1
 }
 
 // The ith of them.
@@ -34,9 +30,7 @@ pub fn step_at(words: &[u32], form: RuleForm, k: u32, i: u32) -> RuleRow
     ensures { λ r. ⌜ r .0 ≡ getD (targetsOf (now (words .entry)) k) i 0 ⌝ }
 {
     let clause = clause_at(words, form, k);
-    let shape = Shape::of(clause.code);
-    let fields = shape.fields;
-    if fields.is_list() {
+    if clause.code <= 32 {
         return RuleRow(entry_at(words, form, clause.first + i).first);
     }
     RuleRow(clause.first)
