@@ -3,7 +3,9 @@ pub mod Paths
 pub mod Agreement
 pub mod Targets
 pub mod Steps
-pub mod Rounds
+pub mod Takers
 pub mod Worklists
+pub mod Lengths
+pub mod Passes
 pub mod Grounds
 pub mod Samples

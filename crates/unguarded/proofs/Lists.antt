@@ -1,13 +1,14 @@
 -- Membership and tests of lists.
 --     at-in                      the number at a place of a list is in it
 --     take-more                  the first i + 1 numbers
+--     empty-none                 nothing is in a list without length
 --     any-in, any-out            some number in the list passes a test
 --     any-append                 some number of two lists does
 --     none-first, none-more, none-end     none of the first i numbers does
 --     any-same                   two tests that say the same
 -- Assumes nothing.
 use mathlib.Core.Bool.{Bool, true, false, _||_, or-true, or-assoc, true≢false, false≢true}
-use mathlib.Core.List.{List, [], _∷_, _++_, List·Memᴰ as In, List·Memᴰ·head as at-head, List·Memᴰ·tail as in-tail}
+use mathlib.Core.List.{List, [], _∷_, _++_, List·Memᴰ as In, List·Memᴰ·head as at-head, List·Memᴰ·tail as in-tail, List·Memᴰ·not-nil as in-none}
 use mathlib.Core.Logic.{⊎-elim}
 use mathlib.Core.Path.{_≡_, refl, sym, _∙_}
 use Prim.Native.Nat.{ℕ, zero, suc, _+_, _≤_, _<_}
@@ -27,6 +28,14 @@ is-false false h = refl
 pub not-both : (b : Bool) → b ≡ true → b ≡ false → ⊥
 not-both b p q = true≢false (sym p ∙ q)
 
+pub neither-left : (a b : Bool) → (a || b) ≡ false → a ≡ false
+neither-left true b e = e
+neither-left false b e = refl
+
+pub neither-right : (a b : Bool) → (a || b) ≡ false → b ≡ false
+neither-right true b e = absurd (true≢false e)
+neither-right false b e = e
+
 -- ---- places in a list
 
 pub at-in : (xs : List ℕ) (i : ℕ) → i < length xs → In (getD xs i 0) xs
@@ -39,6 +48,10 @@ at-in (x ∷ xs) (suc i) h = in-tail (at-in xs i (omega arith))
 
 pub take-more : (xs : List ℕ) (i : ℕ) → i < length xs → take (i + 1) xs ≡ take i xs ++ (getD xs i 0 ∷ [])
 take-more xs i h = rw (add-one, take-suc xs i 0 h)
+
+pub empty-none : (xs : List ℕ) → length xs ≡ 0 → {x : ℕ} → In x xs → ⊥
+empty-none [] e i = in-none i
+empty-none (y ∷ xs) e i = omega arith
 
 -- ---- some number passes
 

@@ -51,7 +51,7 @@ joined-first f from (suc many) =
     ∙ append-assoc (f from) (joined f (from + 1) many) (f (from + suc many))
     ∙ ap (λ (n : ℕ). f from ++ (joined f (from + 1) many ++ f n)) e
 
-joined-in : (f : ℕ → List ℕ) (from many : ℕ) {x : ℕ} → In x (joined f from many) → (i : ℕ) × ((i < many) × In x (f (from + i)))
+pub joined-in : (f : ℕ → List ℕ) (from many : ℕ) {x : ℕ} → In x (joined f from many) → (i : ℕ) × ((i < many) × In x (f (from + i)))
 unfolding joined
 joined-in f from zero m = absurd (in-none m)
 joined-in f from (suc many) m =
@@ -60,7 +60,7 @@ joined-in f from (suc many) m =
     (λ n. (many, (omega arith, n)))
     (in-split (joined f from many) m)
 
-in-joined : (f : ℕ → List ℕ) (from many i : ℕ) {x : ℕ} → i < many → In x (f (from + i)) → In x (joined f from many)
+pub in-joined : (f : ℕ → List ℕ) (from many i : ℕ) {x : ℕ} → i < many → In x (f (from + i)) → In x (joined f from many)
 unfolding joined
 in-joined f from zero i h m = absurd (omega arith)
 in-joined f from (suc many) i {x} h m =

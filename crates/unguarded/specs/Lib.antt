@@ -1,4 +1,4 @@
 pub mod Graph
 pub mod Places
-pub mod Rounds
+pub mod Lengths
 pub mod Worklist
