@@ -1,21 +1,20 @@
--- Membership and tests of lists.
+-- Tests, and membership in lists.
+--     is-false, not-both         a test that does not hold fails, and none does both
+--     neither-left, neither-right     a disjunction that fails has no part that holds
 --     at-in                      the number at a place of a list is in it
 --     take-more                  the first i + 1 numbers
 --     empty-none                 nothing is in a list without length
 --     any-in, any-out            some number in the list passes a test
---     any-append                 some number of two lists does
---     none-first, none-more, none-end     none of the first i numbers does
---     any-same                   two tests that say the same
 -- Assumes nothing.
-use mathlib.Core.Bool.{Bool, true, false, _||_, or-true, or-assoc, true≢false, false≢true}
+use mathlib.Core.Bool.{Bool, true, false, _||_, or-true, true≢false, false≢true}
 use mathlib.Core.List.{List, [], _∷_, _++_, List·Memᴰ as In, List·Memᴰ·head as at-head, List·Memᴰ·tail as in-tail, List·Memᴰ·not-nil as in-none}
 use mathlib.Core.Logic.{⊎-elim}
 use mathlib.Core.Path.{_≡_, refl, sym, _∙_}
-use Prim.Native.Nat.{ℕ, zero, suc, _+_, _≤_, _<_}
+use Prim.Native.Nat.{ℕ, zero, suc, _+_, _<_}
 use native.Mathlib.Numerals.{add-one}
 use native.Mathlib.Omega.{arith}
 use lib.ListN.{length, getD, take}
-use lib.Seq.{take-all, take-suc}
+use lib.Seq.{take-suc}
 use Rattle.laws.proofs.Tests.{either}
 use Rattle.unguarded.specs.Graph.{any}
 
@@ -66,27 +65,3 @@ module _ (test : ℕ → Bool) where
   any-out [] t = absurd (false≢true t)
   any-out (x ∷ xs) t =
       ⊎-elim (λ h. (x, (at-head refl, h))) (λ h. let r = any-out xs h in (r .0, (in-tail (r .1 .0), r .1 .1))) (either (test x) (any test xs) t)
-
-  pub any-append : (xs ys : List ℕ) → any test (xs ++ ys) ≡ (any test xs || any test ys)
-  unfolding any
-  any-append [] ys = refl
-  any-append (x ∷ xs) ys = rw (any-append xs ys, or-assoc)
-
-  -- ---- none of the first i does
-
-  pub none-first : (xs : List ℕ) → any test (take 0 xs) ≡ false
-  unfolding any
-  none-first xs = refl
-
-  pub none-more : (xs : List ℕ) (i : ℕ) → i < length xs → any test (take i xs) ≡ false → test (getD xs i 0) ≡ false → any test (take (i + 1) xs) ≡ false
-  unfolding any
-  none-more xs i h e t = rw (take-more xs i h, any-append, e, t)
-
-  pub none-end : (xs : List ℕ) (i : ℕ) → length xs ≤ i → any test (take i xs) ≡ false → any test xs ≡ false
-  none-end xs i h e = rw (take-all i xs h) at e
-
--- two tests that say the same of the numbers in the list
-pub any-same : (p q : ℕ → Bool) (xs : List ℕ) → ((x : ℕ) → In x xs → p x ≡ q x) → any p xs ≡ any q xs
-unfolding any
-any-same p q [] h = refl
-any-same p q (x ∷ xs) h = rw (h x (at-head refl), any-same p q xs (λ y m. h y (in-tail m)))

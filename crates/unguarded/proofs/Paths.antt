@@ -4,7 +4,7 @@
 --     chain-is, is-chain                the chains that are computed are all the chains
 --     shorter, fewer                    a chain has shorter chains
 --     loop-chain                        a loop has chains of every length
---     longest-low, -yes, -no, -full, -next     the longest chain of at most k steps
+--     longest-low, -yes, -no            the longest chain of at most k steps
 -- Assumes nothing.
 use mathlib.Core.Bool.{Bool, true, false, _&&_, _||_, cond, or-true}
 use mathlib.Core.List.{List, List·Memᴰ as In, Memᴰ·cast as cast}
@@ -13,9 +13,9 @@ use mathlib.Core.Path.{_≡_, refl, sym, _∙_, subst}
 use Prim.Native.Nat.{ℕ, zero, suc, _≤_, _<_}
 use native.Mathlib.Nat.{eq-or-lt-of-le, le-of-suc-le-suc}
 use native.Mathlib.Omega.{arith}
-use lib.Dec.{eqb, leb}
-use borrow.Author.Tests.{eqb-true, eq-eqb, le-leb, lt-leb}
-use Rattle.laws.proofs.Tests.{decide, left, right, either}
+use lib.Dec.{eqb}
+use borrow.Author.Tests.{eqb-true, eq-eqb}
+use Rattle.laws.proofs.Tests.{left, right, either}
 use Rattle.unguarded.specs.Graph.{Path, here, step, Reached, OnLoop, Chain, any, chain, via, longest}
 use Rattle.unguarded.proofs.Lists.{any-in, any-out}
 
@@ -141,20 +141,3 @@ module _ (next : ℕ → List ℕ) where
   pub longest-no : (k s : ℕ) → chain next (suc k) s ≡ false → longest next (suc k) s ≡ longest next k s
   unfolding longest
   longest-no k s e = rw e
-
-  -- it tells which chains there are
-  pub longest-full : (k s : ℕ) → leb k (longest next k s) ≡ chain next k s
-  unfolding chain
-  longest-full zero s = le-leb 0 (longest next 0 s) (omega arith)
-  longest-full (suc k) s =
-      ⊎-elim
-      (λ e. rw (longest-yes k s e) (le-leb (suc k) (suc k) (omega arith) ∙ sym e))
-      (λ e. rw (longest-no k s e) (lt-leb (suc k) (longest next k s) (omega (arith, longest-low k s)) ∙ sym e))
-      (decide (chain next (suc k) s))
-
-  pub longest-next : (k s : ℕ) → leb k (longest next (suc k) s) ≡ chain next k s
-  longest-next k s =
-      ⊎-elim
-      (λ e. rw (longest-yes k s e) (le-leb k (suc k) (omega arith) ∙ sym (shorter k s e)))
-      (λ e. rw (longest-no k s e) (longest-full k s))
-      (decide (chain next (suc k) s))

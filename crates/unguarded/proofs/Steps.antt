@@ -1,13 +1,13 @@
 -- The unguarded steps of a schema of a sheet.
---     joined, joined-more, joined-none, joined-missed     lists after each other, one more at the end, and tests of them
+--     joined, joined-more        lists after each other, and one more at the end
+--     joined-in, in-joined       what is in them is in one of them
 --     next-is, next-none         a schema's steps are its clauses' steps in turn; past the schemas there are none
 --     next-same, same-next       they are the same over every text
---     next-read, clause-hit      the same by the row that was read
+--     next-read                  the same by the row that was read
 --     schema-count, clause-count, few-schemas, few-clauses     the counts of an accepted layout
 --     clause-inside, clause-read     a clause of a schema is a clause
 --     next-inside                each step leads to a schema
 -- Assumes nothing.
-use mathlib.Core.Bool.{Bool, true, false}
 use mathlib.Core.List.{List, [], _++_, map, append-assoc, append-nil, List·Memᴰ as In, List·Memᴰ·not-nil as in-none, Memᴰ·append-left as in-left, Memᴰ·append-right as in-right, List·Memᴰ·append-cases as in-split}
 use mathlib.Core.Logic.{⊎-elim}
 use mathlib.Core.Path.{_≡_, refl, sym, ap, _∙_, subst, fun-ext}
@@ -26,8 +26,6 @@ use Rattle.rulesheet.specs.Read.{RulesFormed, RulesLaid}
 use Rattle.rulesheet.proofs.Trailers.{facts, form-m, form-c}
 use Rattle.rulesheet.proofs.Taking.{schema-within}
 use Rattle.rulesheet.proofs.Reaching.{steps-over}
-use Rattle.unguarded.specs.Graph.{any}
-use Rattle.unguarded.proofs.Lists.{any-in, any-out, any-append}
 use Rattle.unguarded.proofs.Targets.{target-inside}
 
 -- ---- lists after each other
@@ -69,15 +67,6 @@ in-joined f from (suc many) i {x} h m =
     (λ l. in-left (f (from + many)) (in-joined f from many i l m))
     (eq-or-lt-of-le (le-of-suc-le-suc h))
 
--- a test that none of them passes, one list more
-pub joined-none : (f : ℕ → List ℕ) (test : ℕ → Bool) (from : ℕ) → any test (joined f from 0) ≡ false
-unfolding joined any
-joined-none f test from = refl
-
-pub joined-missed : (f : ℕ → List ℕ) (test : ℕ → Bool) (from many : ℕ) → any test (joined f from many) ≡ false → any test (f (from + many)) ≡ false
-    → any test (joined f from (many + 1)) ≡ false
-joined-missed f test from many e t = rw (joined-more f from many, any-append, e, t)
-
 -- ---- the steps of a schema
 
 module _ (ws : List ℕ) where
@@ -118,11 +107,6 @@ module _ (ws : List ℕ) where
   module _ (s : ℕ) (h : s < schemasWord ws) (row : SchemaRow) (read : row ≡ schemaAt ws s) where
     pub next-read : nextOf ws s ≡ joined (targetsOf ws) (row .first) (row .count)
     next-read = next-is s h ∙ rw read
-
-    pub clause-hit : (test : ℕ → Bool) (j : ℕ) → j < row .count → any test (targetsOf ws (row .first + j)) ≡ true → any test (nextOf ws s) ≡ true
-    clause-hit test j l e =
-        let r = any-out test (targetsOf ws (row .first + j)) e in
-        rw next-read (any-in test (in-joined (targetsOf ws) (row .first) (row .count) j l (r .1 .0)) (r .1 .1))
 
   -- ---- on a sheet whose layout is accepted
 

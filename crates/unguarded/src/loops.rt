@@ -1,0 +1,119 @@
+// Refusal 8: the lowest schema on an unguarded loop.
+//
+// Its contracts cite specs/Worklist.antt.
+ghost use mathlib.Core.List.{_∷_, []};
+ghost use mathlib.Core.Path.{_≡_};
+ghost use Prim.Native.Nat.{_<_};
+ghost use Rattle.rulesheet.specs.Sheet.{schemasWord, clausesWord, targetsOf, nextOf};
+ghost use Rattle.rulesheet.specs.Faults.{schemas-max};
+ghost use Rattle.rulesheet.specs.Read.{RulesLaid};
+ghost use Rattle.unguarded.specs.Graph.{onLoop};
+ghost use Rattle.unguarded.specs.Places.{loopPlace};
+ghost use Rattle.unguarded.specs.Worklist.{Tidy, Visited};
+use rulesheet::form::RuleForm;
+use rulesheet::form::schema_at;
+use rulesheet::steps::step_at;
+use rulesheet::steps::steps_of;
+use sheet::record::RuleRow;
+use sheet::record::wide;
+
+// Marks schema t and puts it at the queue's end, if it has no mark yet. The answer is where the
+// queue ends then.
+fn visit(
+    seen: &mut [u8; RuleForm::SCHEMAS_MAX],
+    queue: &mut [u32; RuleForm::SCHEMAS_MAX],
+    tail: usize,
+    t: u32,
+) -> usize
+    requires { ⌜ Tidy (now seen) (now queue) tail × (t < schemas-max) ⌝ }
+    ensures { λ r. ⌜ Visited (t ∷ []) (now (seen .entry)) (now (queue .entry)) tail (now (seen .exit)) (now (queue .exit)) r ⌝ }
+{
+    let at = wide(t);
+    if seen[at] != 0 {
+        return tail;
+    }
+    seen[at] = 1;
+    queue[tail] = t;
+    tail + 1
+}
+
+// Visits all that clause k reaches.
+fn visit_clause(
+    words: &[u32],
+    form: RuleForm,
+    k: u32,
+    seen: &mut [u8; RuleForm::SCHEMAS_MAX],
+    queue: &mut [u32; RuleForm::SCHEMAS_MAX],
+    tail: usize,
+) -> usize
+    requires { ⌜ RulesLaid (now words) form × (k < clausesWord (now words)) × Tidy (now seen) (now queue) tail ⌝ }
+    ensures { λ r. ⌜ Visited (targetsOf (now (words .entry)) k) (now (seen .entry)) (now (queue .entry)) tail (now (seen .exit)) (now (queue .exit)) r ⌝ }
+{
+    let n = steps_of(words, form, k);
+    let mut end = tail;
+    let mut i = 0;
+    while i < n {
+        end = visit(seen, queue, end, step_at(words, form, k, i).0);
+        i += 1;
+    }
+    end
+}
+
+// Visits all that schema s reaches in one step.
+fn visit_next(
+    words: &[u32],
+    form: RuleForm,
+    s: u32,
+    seen: &mut [u8; RuleForm::SCHEMAS_MAX],
+    queue: &mut [u32; RuleForm::SCHEMAS_MAX],
+    tail: usize,
+) -> usize
+    requires { ⌜ RulesLaid (now words) form × (s < schemasWord (now words)) × Tidy (now seen) (now queue) tail ⌝ }
+    ensures { λ r. ⌜ Visited (nextOf (now (words .entry)) s) (now (seen .entry)) (now (queue .entry)) tail (now (seen .exit)) (now (queue .exit)) r ⌝ }
+{
+    let row = schema_at(words, form, RuleRow(s));
+    let first = row.first;
+    let n = row.count;
+    let mut end = tail;
+    let mut j = 0;
+    while j < n {
+        end = visit_clause(words, form, first + j, seen, queue, end);
+        j += 1;
+    }
+    end
+}
+
+// Whether schema s is on a loop: each schema that s reaches is visited once, and s is on a loop if
+// it was among them.
+fn on_loop(words: &[u32], form: RuleForm, s: u32) -> bool
+    requires { ⌜ RulesLaid (now words) form × (s < schemasWord (now words)) ⌝ }
+    ensures { λ r. ⌜ r ≡ onLoop (schemasWord (now (words .entry))) (nextOf (now (words .entry))) s ⌝ }
+{
+    let mut seen = [0u8; RuleForm::SCHEMAS_MAX];
+    let mut queue = [0u32; RuleForm::SCHEMAS_MAX];
+    let mut tail = visit_next(words, form, s, &mut seen, &mut queue, 0);
+    let mut head = 0;
+    while head < tail {
+        let u = queue[head];
+        tail = visit_next(words, form, u, &mut seen, &mut queue, tail);
+        head += 1;
+    }
+    let at = wide(s);
+    seen[at] != 0
+}
+
+// The lowest schema on a loop, or the number of schemas.
+pub fn first_loop(words: &[u32], form: RuleForm) -> u32
+    requires { ⌜ RulesLaid (now words) form ⌝ }
+    ensures { λ r. ⌜ r ≡ loopPlace (schemasWord (now (words .entry))) (nextOf (now (words .entry))) ⌝ }
+{
+    let m = form.m;
+    let mut s = 0;
+    while s < m {
+        if on_loop(words, form, s) {
+            return s;
+        }
+        s += 1;
+    }
+    s
+}
