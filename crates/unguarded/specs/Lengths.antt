@@ -8,7 +8,9 @@ use mathlib.Core.Path.{_≡_}
 use Prim.Native.Nat.{ℕ, _+_, _≤_, _<_}
 use lib.Dec.{leb}
 use lib.ListN.{length, getD}
-use Rattle.rulesheet.specs.Sheet.{schemasWord, schemaAt, targetsOf}
+use Rattle.rulesheet.specs.declared.form.RuleForm.{RuleForm}
+use Rattle.rulesheet.specs.Sheet.{schemasWord, clausesWord, schemaAt, targetsOf, nextOf}
+use Rattle.rulesheet.specs.Read.{RulesLaid}
 use Rattle.unguarded.specs.Graph.{chain-steps, chain}
 use Rattle.unguarded.specs.Worklist.{Marked}
 
@@ -73,3 +75,10 @@ module _ (m : ℕ) (next : ℕ → List ℕ) where
   pub record Lengths (table : List ℕ) : Type 0 where
     pub room : m ≤ length table
     pub right : (s : ℕ) → leb chain-steps (getD table s 0) ≡ chain next chain-steps s
+
+-- what a pass starts from: the clauses from `last` on have no step, no length is told that no chain has, and there is room for marks
+pub record Ready (ws : List ℕ) (form : RuleForm) (last : ℕ) (table late : List ℕ) : Type 0 where
+  pub laid : RulesLaid ws form
+  pub quiet : Quiet ws last (clausesWord ws)
+  pub told : Told (schemasWord ws) (nextOf ws) table
+  pub room : schemasWord ws ≤ length late

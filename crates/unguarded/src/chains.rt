@@ -9,7 +9,7 @@ ghost use Rattle.rulesheet.specs.Sheet.{schemasWord, clausesWord, targetsOf, ne
 ghost use Rattle.rulesheet.specs.Read.{RulesLaid};
 ghost use Rattle.unguarded.specs.Graph.{chain-steps};
 ghost use Rattle.unguarded.specs.Places.{chainPlace};
-ghost use Rattle.unguarded.specs.Lengths.{Quiet, StartAfter, Takes, Longer, Noted, Raised, Told, Passed, Lengths};
+ghost use Rattle.unguarded.specs.Lengths.{Quiet, StartAfter, Takes, Longer, Noted, Raised, Passed, Lengths, Ready};
 use rulesheet::form::RuleForm;
 use rulesheet::form::schema_at;
 use rulesheet::steps::step_at;
@@ -20,10 +20,10 @@ use sheet::record::wide;
 // The steps of a chain that is refused; it has one schema more.
 const CHAIN_STEPS: u8 = 32;
 
-// So many schemas have tables of their own size.
+// So many schemas, or fewer, have smaller tables, which are blanked sooner.
 const FEW: usize = 64;
 
-// Where those of the first `to` clauses end of which the last has a step; 0 if none has.
+// One past the last of the first `to` clauses that has a step; 0 if none has.
 fn last_step(words: &[u32], form: RuleForm, to: u32) -> u32
     requires { ⌜ RulesLaid (now words) form × (to ≤ clausesWord (now words)) ⌝ }
     ensures { λ r. ⌜ Quiet (now (words .entry)) r to ⌝ }
@@ -109,7 +109,7 @@ fn clause_length(
 // schemas that come after it and were passed. The answer says whether one was raised that an earlier
 // one in the pass had asked for: if not, the table is right.
 fn pass(words: &[u32], form: RuleForm, last: u32, table: &mut [u8], late: &mut [u8]) -> bool
-    requires { ⌜ RulesLaid (now words) form × Quiet (now words) last (clausesWord (now words)) × Told (schemasWord (now words)) (nextOf (now words)) (now table) × (schemasWord (now words) ≤ length (now late)) ⌝ }
+    requires { ⌜ Ready (now words) form last (now table) (now late) ⌝ }
     ensures { λ r. ⌜ Passed (schemasWord (now (words .entry))) (nextOf (now (words .entry))) (now (table .entry)) (now (table .exit)) r ⌝ }
 {
     let mut again = false;
@@ -130,10 +130,10 @@ fn pass(words: &[u32], form: RuleForm, last: u32, table: &mut [u8], late: &mut [
     again
 }
 
-// Passes up to the first that leaves the table right. Of schemas in an order in which each step leads
-// to a later one, that is the first pass; it is never later than the 32nd.
+// Passes up to the first that leaves the table right. That is the first of all where each step leads to
+// a later schema or to one without steps, and never later than the 32nd.
 fn fill_lengths(words: &[u32], form: RuleForm, last: u32, table: &mut [u8], late: &mut [u8])
-    requires { ⌜ RulesLaid (now words) form × Quiet (now words) last (clausesWord (now words)) × Told (schemasWord (now words)) (nextOf (now words)) (now table) × (schemasWord (now words) ≤ length (now late)) ⌝ }
+    requires { ⌜ Ready (now words) form last (now table) (now late) ⌝ }
     ensures { λ r. ⌜ Lengths (schemasWord (now (words .entry))) (nextOf (now (words .entry))) (now (table .exit)) ⌝ }
 {
     let mut k: u8 = 0;
@@ -164,14 +164,14 @@ fn first_long(words: &[u32], form: RuleForm, table: &[u8]) -> u32
 
 // The same, from a table that tells no length yet.
 fn long_by(words: &[u32], form: RuleForm, last: u32, table: &mut [u8], late: &mut [u8]) -> u32
-    requires { ⌜ RulesLaid (now words) form × Quiet (now words) last (clausesWord (now words)) × Told (schemasWord (now words)) (nextOf (now words)) (now table) × (schemasWord (now words) ≤ length (now late)) ⌝ }
+    requires { ⌜ Ready (now words) form last (now table) (now late) ⌝ }
     ensures { λ r. ⌜ r ≡ chainPlace (schemasWord (now (words .entry))) (nextOf (now (words .entry))) ⌝ }
 {
     fill_lengths(words, form, last, table, late);
     first_long(words, form, table)
 }
 
-// The same, from nothing. Most sheets have few schemas, and blank their tables sooner.
+// The same, from nothing. Where no clause has a step, no table is needed.
 pub fn long_place(words: &[u32], form: RuleForm) -> u32
     requires { ⌜ RulesLaid (now words) form ⌝ }
     ensures { λ r. ⌜ r ≡ chainPlace (schemasWord (now (words .entry))) (nextOf (now (words .entry))) ⌝ }

@@ -22,11 +22,11 @@ abbrev μ-loop : tie.MeasureT-loop
 
 loop-holds : tie.Need-loop-holds Inv-loop μ-loop
 loop-holds c =
-    (omega arith, c .before .before .before .pre .2, deep-none (schemasWord (c .before .before .before .args .words .now)) (nextOf (c .before .before .before .args .words .now)) _, refl, refl)
+    (omega arith, c .before .before .before .pre .told, deep-none (schemasWord (c .before .before .before .args .words .now)) (nextOf (c .before .before .before .args .words .now)) _, refl, refl)
 
 pass-requires : tie.Need-pass-requires Inv-loop μ-loop
 pass-requires c κs =
-    (c .before .before .before .before .before .before .before .pre .0, c .before .before .before .before .before .before .before .pre .1, c .before .before .before .loop .inv .1, omega (arith, c .before .before .before .before .before .before .before .pre .3, c .before .before .before .loop .inv .4))
+    record { laid = c .before .before .before .before .before .before .before .pre .laid; quiet = c .before .before .before .before .before .before .before .pre .quiet; told = c .before .before .before .loop .inv .1; room = omega (arith, c .before .before .before .before .before .before .before .pre .room, c .before .before .before .loop .inv .4) }
 
 same-length : tie.Need-same-length Inv-loop μ-loop
 same-length c =

@@ -32,7 +32,7 @@ slice-aggregate-long-by-2 c = search needs
 long-by-requires : tie.Need-long-by-requires
 unfolding markCount
 long-by-requires c κs =
-    (c .before .before .before .before .before .before .before .pre, rw (clause-count (c .before .before .before .before .before .before .before .args .words .now) (c .before .before .before .before .before .before .before .args .form) (c .before .before .before .before .before .before .before .pre)) at (c .before .before .before .before .before .last-step .ensures), blank-told (schemasWord (c .before .before .before .before .before .before .before .args .words .now)) (nextOf (c .before .before .before .before .before .before .before .args .words .now)) _ (omega (arith, schema-count (c .before .before .before .before .before .before .before .args .words .now) (c .before .before .before .before .before .before .before .args .form) (c .before .before .before .before .before .before .before .pre), c .before .before .before .wide .ensures)) refl, omega (arith, schema-count (c .before .before .before .before .before .before .before .args .words .now) (c .before .before .before .before .before .before .before .args .form) (c .before .before .before .before .before .before .before .pre), c .before .before .before .wide .ensures))
+    record { laid = c .before .before .before .before .before .before .before .pre; quiet = rw (clause-count (c .before .before .before .before .before .before .before .args .words .now) (c .before .before .before .before .before .before .before .args .form) (c .before .before .before .before .before .before .before .pre)) at (c .before .before .before .before .before .last-step .ensures); told = blank-told (schemasWord (c .before .before .before .before .before .before .before .args .words .now)) (nextOf (c .before .before .before .before .before .before .before .args .words .now)) _ (omega (arith, schema-count (c .before .before .before .before .before .before .before .args .words .now) (c .before .before .before .before .before .before .before .args .form) (c .before .before .before .before .before .before .before .pre), c .before .before .before .wide .ensures)) refl; room = omega (arith, schema-count (c .before .before .before .before .before .before .before .args .words .now) (c .before .before .before .before .before .before .before .args .form) (c .before .before .before .before .before .before .before .pre), c .before .before .before .wide .ensures) }
 
 returns-2 : tie.Need-returns-2
 returns-2 c = search needs
@@ -46,7 +46,7 @@ slice-aggregate-long-by-4 c = search needs
 long-by-requires-2 : tie.Need-long-by-requires-2
 unfolding markCount
 long-by-requires-2 c κs =
-    (c .before .before .before .before .before .before .before .pre, rw (clause-count (c .before .before .before .before .before .before .before .args .words .now) (c .before .before .before .before .before .before .before .args .form) (c .before .before .before .before .before .before .before .pre)) at (c .before .before .before .before .before .last-step .ensures), blank-told (schemasWord (c .before .before .before .before .before .before .before .args .words .now)) (nextOf (c .before .before .before .before .before .before .before .args .words .now)) _ (omega (arith, few-schemas (c .before .before .before .before .before .before .before .args .words .now) (c .before .before .before .before .before .before .before .args .form) (c .before .before .before .before .before .before .before .pre))) refl, omega (arith, few-schemas (c .before .before .before .before .before .before .before .args .words .now) (c .before .before .before .before .before .before .before .args .form) (c .before .before .before .before .before .before .before .pre)))
+    record { laid = c .before .before .before .before .before .before .before .pre; quiet = rw (clause-count (c .before .before .before .before .before .before .before .args .words .now) (c .before .before .before .before .before .before .before .args .form) (c .before .before .before .before .before .before .before .pre)) at (c .before .before .before .before .before .last-step .ensures); told = blank-told (schemasWord (c .before .before .before .before .before .before .before .args .words .now)) (nextOf (c .before .before .before .before .before .before .before .args .words .now)) _ (omega (arith, few-schemas (c .before .before .before .before .before .before .before .args .words .now) (c .before .before .before .before .before .before .before .args .form) (c .before .before .before .before .before .before .before .pre))) refl; room = omega (arith, few-schemas (c .before .before .before .before .before .before .before .args .words .now) (c .before .before .before .before .before .before .before .args .form) (c .before .before .before .before .before .before .before .pre)) }
 
 returns-3 : tie.Need-returns-3
 returns-3 c = search needs

@@ -23,11 +23,11 @@ abbrev μ-loop : tie.MeasureT-loop
 
 sub-s : tie.Need-sub-s Inv-loop μ-loop
 sub-s c =
-    omega (arith, schema-count (c .before .before .before .before .args .words .now) (c .before .before .before .before .args .form) (c .before .before .before .before .pre .0), facts (c .before .before .before .before .args .words .now) (c .before .before .before .before .args .form) ((c .before .before .before .before .pre .0) .clauses-laid .schemas-laid .formed) .some)
+    omega (arith, schema-count (c .before .before .before .before .args .words .now) (c .before .before .before .before .args .form) (c .before .before .before .before .pre .laid), facts (c .before .before .before .before .args .words .now) (c .before .before .before .before .args .form) ((c .before .before .before .before .pre .laid) .clauses-laid .schemas-laid .formed) .some)
 
 loop-holds : tie.Need-loop-holds Inv-loop μ-loop
 loop-holds c =
-    (rw (schema-count (c .before .before .before .before .args .words .now) (c .before .before .before .before .args .form) (c .before .before .before .before .pre .0)) (begin (c .before .before .before .before .args .words .now) (c .before .before .before .before .args .form) (c .before .before .before .before .pre .0) _ _ (facts (c .before .before .before .before .args .words .now) (c .before .before .before .before .args .form) ((c .before .before .before .before .pre .0) .clauses-laid .schemas-laid .formed) .some) (c .before .before .before .before .pre .1) (c .before .before .before .before .pre .2)), refl, refl)
+    (rw (schema-count (c .before .before .before .before .args .words .now) (c .before .before .before .before .args .form) (c .before .before .before .before .pre .laid)) (begin (c .before .before .before .before .args .words .now) (c .before .before .before .before .args .form) (c .before .before .before .before .pre .laid) _ _ (facts (c .before .before .before .before .args .words .now) (c .before .before .before .before .args .form) ((c .before .before .before .before .pre .laid) .clauses-laid .schemas-laid .formed) .some) (c .before .before .before .before .pre .quiet) (c .before .before .before .before .pre .told)), refl, refl)
 
 sub-k : tie.Need-sub-k Inv-loop μ-loop
 sub-k c =
@@ -35,7 +35,7 @@ sub-k c =
 
 taker-requires : tie.Need-taker-requires Inv-loop μ-loop
 taker-requires c κs =
-    (c .before .before .before .before .before .before .pre .0, c .before .loop .inv .0 .inside, omega (arith, c .before .loop .inv .0 .within), c .before .loop .inv .0 .after _ (omega arith))
+    (c .before .before .before .before .before .before .pre .laid, c .before .loop .inv .0 .inside, omega (arith, c .before .loop .inv .0 .within), c .before .loop .inv .0 .after _ (omega arith))
 
 wide-requires : tie.Need-wide-requires Inv-loop μ-loop
 wide-requires c κs =
@@ -47,7 +47,7 @@ slice-read-most c =
 
 clause-length-requires : tie.Need-clause-length-requires Inv-loop μ-loop
 clause-length-requires c κs =
-    (c .before .before .before .before .before .before .before .before .before .before .before .pre .0, omega (arith, c .before .before .before .before .before .before .loop .inv .0 .within), c .before .before .before .before .before .before .loop .inv .0 .told .room, omega (arith, c .before .before .before .before .before .before .before .before .before .before .before .pre .3, c .before .before .before .before .before .before .loop .inv .2), c .before .before .before .before .before .before .loop .inv .0 .told .low _)
+    (c .before .before .before .before .before .before .before .before .before .before .before .pre .laid, omega (arith, c .before .before .before .before .before .before .loop .inv .0 .within), c .before .before .before .before .before .before .loop .inv .0 .told .room, omega (arith, c .before .before .before .before .before .before .before .before .before .before .before .pre .room, c .before .before .before .before .before .before .loop .inv .2), c .before .before .before .before .before .before .loop .inv .0 .told .low _)
 
 slice-write-table : tie.Need-slice-write-table Inv-loop μ-loop
 slice-write-table c =
@@ -55,11 +55,11 @@ slice-write-table c =
 
 slice-read-again : tie.Need-slice-read-again Inv-loop μ-loop
 slice-read-again c =
-    omega (arith, c .before .before .before .before .before .before .before .before .before .before .before .before .before .before .before .before .pre .3, c .before .before .before .before .before .before .before .before .before .before .before .loop .inv .2, c .before .before .before .before .before .before .before .before .before .taker .ensures .inside, c .before .before .before .before .before .before .before .before .wide .ensures, c .before .before .before .late .given)
+    omega (arith, c .before .before .before .before .before .before .before .before .before .before .before .before .before .before .before .before .pre .room, c .before .before .before .before .before .before .before .before .before .before .before .loop .inv .2, c .before .before .before .before .before .before .before .before .before .taker .ensures .inside, c .before .before .before .before .before .before .before .before .wide .ensures, c .before .before .before .late .given)
 
 last-step-requires : tie.Need-last-step-requires Inv-loop μ-loop
 last-step-requires c κs =
-    (c .before .before .before .before .before .before .before .before .before .before .before .before .before .before .before .pre .0, omega (arith, c .before .before .before .before .before .before .before .before .before .before .loop .inv .0 .within))
+    (c .before .before .before .before .before .before .before .before .before .before .before .before .before .before .before .pre .laid, omega (arith, c .before .before .before .before .before .before .before .before .before .before .loop .inv .0 .within))
 
 loop-less : tie.Need-loop-less Inv-loop μ-loop
 loop-less c =
@@ -67,7 +67,7 @@ loop-less c =
 
 loop-again : tie.Need-loop-again Inv-loop μ-loop
 loop-again c =
-    (quiet-on (c .before .before .before .before .before .before .before .before .before .before .before .before .before .before .before .before .args .words .now) (⊎-elim (λ w. rw (w .2, w .3, c .before .before .before .before .before .before .before .before .wide .ensures) (clause-raised (c .before .before .before .before .before .before .before .before .before .before .before .before .before .before .before .before .args .words .now) (c .before .before .before .before .before .before .before .before .before .before .before .before .before .before .before .before .args .form) (c .before .before .before .before .before .before .before .before .before .before .before .before .before .before .before .before .pre .0) (c .before .before .before .before .before .before .before .before .before .taker .result) (c .before .before .before .before .before .before .before .before .before .before .before .loop .inv .0) (omega arith) (c .before .before .before .before .before .before .before .before .before .taker .ensures) (rw (c .before .before .before .before .before .before .before .before .wide .ensures) at (c .before .before .before .before .clause-length .ensures .0)) (c .before .before .before .before .clause-length .ensures .1))) (λ w. rw (w .1, w .2) (clause-kept (c .before .before .before .before .before .before .before .before .before .before .before .before .before .before .before .before .args .words .now) (c .before .before .before .before .before .before .before .before .before .before .before .before .before .before .before .before .args .form) (c .before .before .before .before .before .before .before .before .before .before .before .before .before .before .before .before .pre .0) (c .before .before .before .before .before .before .before .before .before .taker .result) (c .before .before .before .before .before .before .before .before .before .before .before .loop .inv .0) (omega arith) (c .before .before .before .before .before .before .before .before .before .taker .ensures) (rw (c .before .before .before .before .before .before .before .before .wide .ensures) at (c .before .before .before .before .clause-length .ensures .0)) (c .before .before .before .before .clause-length .ensures .1) (rw (c .before .before .before .before .before .before .before .before .wide .ensures) at (w .0 .left)))) (c .before .if1 .came)) (c .last-step .ensures), ⊎-elim (λ w. rw (w .2) (simp length-set (c .before .before .before .before .before .before .before .before .before .before .before .loop .inv .1))) (λ w. rw (w .1) (c .before .before .before .before .before .before .before .before .before .before .before .loop .inv .1)) (c .before .if1 .came), c .before .before .before .late .given ∙ c .before .before .before .before .before .before .before .before .before .before .before .loop .inv .2)
+    (quiet-on (c .before .before .before .before .before .before .before .before .before .before .before .before .before .before .before .before .args .words .now) (⊎-elim (λ w. rw (w .2, w .3, c .before .before .before .before .before .before .before .before .wide .ensures) (clause-raised (c .before .before .before .before .before .before .before .before .before .before .before .before .before .before .before .before .args .words .now) (c .before .before .before .before .before .before .before .before .before .before .before .before .before .before .before .before .args .form) (c .before .before .before .before .before .before .before .before .before .before .before .before .before .before .before .before .pre .laid) (c .before .before .before .before .before .before .before .before .before .taker .result) (c .before .before .before .before .before .before .before .before .before .before .before .loop .inv .0) (omega arith) (c .before .before .before .before .before .before .before .before .before .taker .ensures) (rw (c .before .before .before .before .before .before .before .before .wide .ensures) at (c .before .before .before .before .clause-length .ensures .0)) (c .before .before .before .before .clause-length .ensures .1))) (λ w. rw (w .1, w .2) (clause-kept (c .before .before .before .before .before .before .before .before .before .before .before .before .before .before .before .before .args .words .now) (c .before .before .before .before .before .before .before .before .before .before .before .before .before .before .before .before .args .form) (c .before .before .before .before .before .before .before .before .before .before .before .before .before .before .before .before .pre .laid) (c .before .before .before .before .before .before .before .before .before .taker .result) (c .before .before .before .before .before .before .before .before .before .before .before .loop .inv .0) (omega arith) (c .before .before .before .before .before .before .before .before .before .taker .ensures) (rw (c .before .before .before .before .before .before .before .before .wide .ensures) at (c .before .before .before .before .clause-length .ensures .0)) (c .before .before .before .before .clause-length .ensures .1) (rw (c .before .before .before .before .before .before .before .before .wide .ensures) at (w .0 .left)))) (c .before .if1 .came)) (c .last-step .ensures), ⊎-elim (λ w. rw (w .2) (simp length-set (c .before .before .before .before .before .before .before .before .before .before .before .loop .inv .1))) (λ w. rw (w .1) (c .before .before .before .before .before .before .before .before .before .before .before .loop .inv .1)) (c .before .if1 .came), c .before .before .before .late .given ∙ c .before .before .before .before .before .before .before .before .before .before .before .loop .inv .2)
 
 same-length : tie.Need-same-length Inv-loop μ-loop
 same-length c =
@@ -79,7 +79,7 @@ same-length-2 c =
 
 returns : tie.Need-returns Inv-loop μ-loop
 returns c =
-    pass-done (c .before .before .before .before .before .before .args .words .now) (c .before .before .before .before .before .before .args .form) (c .before .before .before .before .before .before .pre .0) (c .loop-test .left) (c .before .loop .inv .0)
+    pass-done (c .before .before .before .before .before .before .args .words .now) (c .before .before .before .before .before .before .args .form) (c .before .before .before .before .before .before .pre .laid) (c .loop-test .left) (c .before .loop .inv .0)
 
 pub pass-spec : {M : Type 1} → statement M
 pass-spec =
