@@ -1,2 +1,5 @@
-pub mod Printing
 pub mod Repeats
+pub mod Chains
+pub mod Signs
+pub mod Ways
+pub mod Growing

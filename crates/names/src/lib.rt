@@ -1,28 +1,22 @@
 // Names that stand among a sheet's words as ranges of its text, and the lowest of them that an
-// earlier one repeats. Each name has a print, which names of the same bytes share: words and text
-// are looked at again only where two prints agree.
+// earlier one repeats. A few names are told apart by their signs; more stand in tables (`tables`).
 //
-// Its contracts cite `specs/Names.antt`: `rangeAt`, `nameAt`, `firstSame`, `repeatsAt`, `Lying`; and
-// `specs/Prints.antt`: `printOf`, `Printed`.
+// Its contracts cite `specs/Names.antt`: `rangeAt`, `nameAt`, `firstSame`, `repeatsAt`, `Lying`.
 ghost use mathlib.Core.Path.{_≡_};
-ghost use mathlib.Core.Bool.{true};
 ghost use Prim.Native.Nat.{_+_, _*_, _≤_, _<_};
 ghost use lib.ListN.{length};
 ghost use Rattle.laws.specs.Lowest.{lowest};
-ghost use Rattle.text.specs.Part.{fits, part};
 ghost use Rattle.names.specs.Names.{rangeAt, nameAt, firstSame, repeatsAt, Lying};
-ghost use Rattle.names.specs.Prints.{printOf, Printed};
+use crate::tables::first_in_tables;
 use text::Range;
 
-// Up to so many names are told apart by their lengths first: a fingerprint reads every byte, which
-// costs more than it saves.
-const FEW: usize = 8;
+pub mod tables;
 
-// The prints of up to so many names have a smaller place, which takes less time to clear.
-const SOME: usize = 64;
+// Up to so many names are told apart by their signs.
+const FEW: usize = 16;
 
-// The most names that are ever compared.
-const MOST: usize = 4_096;
+// Longer names are not compared pair by pair.
+const LONG: usize = 64;
 
 // `count` names, each a start and a length in two neighbouring words: the first name's stand at
 // `base`, and each later one's `stride` words further on.
@@ -33,7 +27,7 @@ pub struct Names {
 }
 
 // Name i's range.
-fn range_at(words: &[u32], names: Names, i: usize) -> Range
+pub fn range_at(words: &[u32], names: Names, i: usize) -> Range
     requires { ⌜ names .base + names .stride * i + 1 < length (now words) ⌝ }
     ensures { λ r. ⌜ r ≡ rangeAt (now (words .entry)) names i ⌝ }
 {
@@ -44,52 +38,54 @@ fn range_at(words: &[u32], names: Names, i: usize) -> Range
     }
 }
 
-// The print of a name among `count`: its length where they are few, and else its fingerprint.
-fn print_of(text: &[u8], count: usize, name: Range) -> u64
-    requires { ⌜ fits (length (now text)) name ≡ true ⌝ }
-    ensures { λ r. ⌜ r ≡ printOf count (part (now (text .entry)) name) ⌝ }
+// Name i's bytes.
+pub fn name_at<'a>(words: &[u32], text: &'a [u8], names: Names, i: usize) -> &'a [u8]
+    requires { ⌜ Lying (now words) (now text) names × (i < names .count) ⌝ }
+    ensures { λ r. ⌜ now r ≡ nameAt (now (words .entry)) (now (text .entry)) names i ⌝ }
 {
-    if count <= FEW {
-        name.length as u64
-    } else {
-        text::fingerprint(text, name)
-    }
+    text::bytes_of(text, range_at(words, names, i))
 }
 
 // The lowest name with the bytes of name i, or i where no earlier one has them.
-fn first_same(words: &[u32], text: &[u8], names: Names, prints: &[u64], i: usize) -> usize
+fn first_same(words: &[u32], text: &[u8], names: Names, i: usize) -> usize
     requires { ⌜ Lying (now words) (now text) names × (i < names .count) ⌝ }
-    requires { ⌜ Printed (now words) (now text) names (now prints) (i + 1) ⌝ }
     ensures { λ r. ⌜ r ≡ firstSame (nameAt (now (words .entry)) (now (text .entry)) names) i ⌝ }
 {
     let name = range_at(words, names, i);
-    let print = prints[i];
     let mut k = 0;
     while k < i {
-        if prints[k] == print {
-            let other = range_at(words, names, k);
-            if text::same_part(text, other, text, name) {
-                return k;
-            }
+        let other = range_at(words, names, k);
+        if text::same_part(text, other, text, name) {
+            return k;
         }
         k += 1;
     }
     k
 }
 
-// The lowest name that an earlier one repeats, or their number; `prints` is room for one print each.
-fn first_repeated_in(words: &[u32], text: &[u8], names: Names, prints: &mut [u64]) -> usize
-    requires { ⌜ Lying (now words) (now text) names × (names .count ≤ length (now prints)) ⌝ }
+// The same as `first_repeated`, for few names: those whose signs differ are not compared.
+fn first_of_few(words: &[u32], text: &[u8], names: Names) -> usize
+    requires { ⌜ Lying (now words) (now text) names ⌝ }
     ensures { λ r. ⌜ r ≡ lowest (repeatsAt (now (words .entry)) (now (text .entry)) names) (names .count) ⌝ }
 {
     let n = names.count;
+    let mut seen = [false; 128];
     let mut i = 0;
     while i < n {
-        let name = range_at(words, names, i);
-        prints[i] = print_of(text, n, name);
-        if first_same(words, text, names, prints, i) < i {
-            return i;
+        let name = name_at(words, text, names, i);
+        let sign = text::print::sign(name) as usize;
+        if seen[sign] {
+            if LONG < name.len() {
+                let w = words;
+                let t = text;
+                let all = names;
+                return first_in_tables(w, t, all);
+            }
+            if first_same(words, text, names, i) < i {
+                return i;
+            }
         }
+        seen[sign] = true;
         i += 1;
     }
     i
@@ -101,14 +97,14 @@ pub fn first_repeated(words: &[u32], text: &[u8], names: Names) -> usize
     ensures { λ r. ⌜ r ≡ lowest (repeatsAt (now (words .entry)) (now (text .entry)) names) (names .count) ⌝ }
 {
     let n = names.count;
+    if n <= 1 {
+        return n;
+    }
     if n <= FEW {
-        let mut prints = [0u64; FEW];
-        return first_repeated_in(words, text, names, &mut prints);
+        return first_of_few(words, text, names);
     }
-    if n <= SOME {
-        let mut prints = [0u64; SOME];
-        return first_repeated_in(words, text, names, &mut prints);
-    }
-    let mut prints = [0u64; MOST];
-    first_repeated_in(words, text, names, &mut prints)
+    let w = words;
+    let t = text;
+    let all = names;
+    first_in_tables(w, t, all)
 }

@@ -1,0 +1,102 @@
+-- `names::tables::put` meets its contract. Assumes nothing.
+use borrow.Author.Needs.{needs}
+use Rattle.names.proofs.Ways.{branch-mark}
+use Rattle.names.proofs.Growing.{standing-more}
+use Rattle.names.proofs.tables.put.Statement.{statement}
+use Rattle.names.proofs.tables.put.Tie as tie
+
+name-at-requires : tie.Need-name-at-requires
+name-at-requires c κs = search needs
+
+letter-of-requires : tie.Need-letter-of-requires
+letter-of-requires c κs l =
+    let start = c .before .before .before .before .before .before .before in
+    rw (c .name-at .ensures) (branch-mark (start .pre .1 .1 .reached) l)
+
+place-of-requires : tie.Need-place-of-requires
+place-of-requires c κs = search needs
+
+mul-next : tie.Need-mul-next
+mul-next c = search needs
+
+slice-read-next : tie.Need-slice-read-next
+slice-read-next c = search needs
+
+mul-next-2 : tie.Need-mul-next-2
+mul-next-2 c = search needs
+
+slice-write-next : tie.Need-slice-write-next
+slice-write-next c = search needs
+
+cast-nodes : tie.Need-cast-nodes
+cast-nodes c = search needs
+
+mul-nodes : tie.Need-mul-nodes
+mul-nodes c = search needs
+
+slice-write-nodes : tie.Need-slice-write-nodes
+slice-write-nodes c = search needs
+
+mul-marks : tie.Need-mul-marks
+mul-marks c = search needs
+
+slice-write-marks : tie.Need-slice-write-marks
+slice-write-marks c = search needs
+
+add-heads : tie.Need-add-heads
+add-heads c = search needs
+
+cast-heads : tie.Need-cast-heads
+cast-heads c = search needs
+
+mul-heads : tie.Need-mul-heads
+mul-heads c = search needs
+
+slice-write-heads : tie.Need-slice-write-heads
+slice-write-heads c = search needs
+
+same-length : tie.Need-same-length
+same-length c = search needs
+
+same-length-2 : tie.Need-same-length-2
+same-length-2 c = search needs
+
+same-length-3 : tie.Need-same-length-3
+same-length-3 c = search needs
+
+same-length-4 : tie.Need-same-length-4
+same-length-4 c = search needs
+
+returns : tie.Need-returns
+returns c =
+    let start = c .before .before .before .before .before .before .before .before .before .before in
+    let letter = rw (c .before .before .before .name-at .ensures) at (c .before .before .letter-of .ensures) in
+    standing-more (start .pre .1 .0) (start .pre .0 .1) (start .pre .1 .1) _
+    (rw letter at (c .before .place-of .ensures .0))
+    (c .before .place-of .ensures .1)
+
+pub put-spec : {M : Type 1} → statement M
+put-spec =
+    tie.close
+    (tie.spec
+    name-at-requires
+    letter-of-requires
+    place-of-requires
+    mul-next
+    slice-read-next
+    mul-next-2
+    slice-write-next
+    cast-nodes
+    mul-nodes
+    slice-write-nodes
+    mul-marks
+    slice-write-marks
+    add-heads
+    cast-heads
+    mul-heads
+    slice-write-heads
+    same-length
+    same-length-2
+    same-length-3
+    same-length-4
+    returns)
