@@ -1,13 +1,16 @@
 -- One more name stands in the tables.
 -- Assumes nothing.
 use mathlib.Core.List.{List}
-use mathlib.Core.Path.{_≡_, refl, sym, _∙_}
+use mathlib.Core.Logic.{⊎-elim}
+use mathlib.Core.Path.{_≡_, refl, sym, ap, _∙_}
 use Prim.Native.Nat.{ℕ, zero, suc, _+_, _≤_, _<_}
 use native.Mathlib.Omega.{arith}
 use lib.ListN.{length, getD, set, length-set, replicate, length-replicate}
 use lib.Seq.{getD-set-same, getD-set-other}
 use borrow.Author.Count.{below-more}
-use Rattle.names.specs.Tree.{places-max, letterOf, placeOf, placeAt, Leads, Way, stay, go, Free, Stand, Room, Standing}
+use borrow.Author.Tests.{lt-ltb, le-ltb}
+use Rattle.laws.proofs.Tests.{le-or-lt}
+use Rattle.names.specs.Tree.{places-max, placeOf, placeAt, Leads, Way, stay, go, Free, Stand, Chains, Put, Room, Standing}
 use Rattle.names.proofs.Chains.{chains-none, chains-more}
 
 -- what is written for name i leaves the names before it as they stand
@@ -57,36 +60,60 @@ module _ {places : ℕ} {name : ℕ → List ℕ} {nodes marks : List ℕ} {i no
             (rw (node-here, mark-here) (free-new i node mark (omega arith) f));
       }
 
-  place-kept : (k : ℕ) → k < i → placeAt places name (set nodes i node) (set marks i mark) k ≡ placeAt places name nodes marks k
-  place-kept k l = rw (kept nodes i node k l, kept marks i mark k l)
+  place-kept : (k : ℕ) → k < i → placeAt places (set nodes i node) k ≡ placeAt places nodes k
+  place-kept k l = ap (placeOf places) (kept nodes i node k l)
 
-  place-here : placeAt places name (set nodes i node) (set marks i mark) i ≡ placeOf places node mark (letterOf places node mark (name i))
-  place-here = rw (node-here, mark-here)
+  place-here : placeAt places (set nodes i node) i ≡ placeOf places node
+  place-here = ap (placeOf places) node-here
 
--- name i stands where its way ends, in front of the chain of its place
-module _ {name : ℕ → List ℕ} {count : ℕ} {heads next nodes marks : List ℕ} {i node mark : ℕ}
-    (s : Standing name count heads next nodes marks i) (h : i < count)
-    (f : Free (length heads) name nodes marks (name i) i node mark) where
-  pub standing-more : (p : ℕ) → p ≡ placeOf (length heads) node mark (letterOf (length heads) node mark (name i)) → p < length heads
-      → Standing name count (set heads p (i + 1)) (set next i (getD heads p 0)) (set nodes i node) (set marks i mark) (i + 1)
-  standing-more p e low =
+place-low : (places node : ℕ) → node < places + places → placeOf places node < places
+unfolding placeOf
+place-low places node h =
+    ⊎-elim
+    (λ (l : places ≤ node). rw (le-ltb node places l) (omega arith))
+    (λ (l : node < places). rw (lt-ltb node places l) l)
+    (le-or-lt places node)
+
+-- name i stands where its way ends
+module _ {name : ℕ → List ℕ} {count : ℕ} {heads next nodes marks heads′ next′ nodes′ marks′ : List ℕ} {i node mark : ℕ}
+    (s : Standing name count heads next nodes marks i) (h : i < count) (f : Free (length heads) name nodes marks (name i) i node mark)
+    (p : Put heads next nodes marks i node mark heads′ next′ nodes′ marks′) where
+  head-length : length heads′ ≡ length heads
+  head-length = ap length (p .first) ∙ length-set heads _ _
+
+  room-more : Room count heads′ next′ nodes′ marks′
+  room-more =
       let r = s .room in
-      let in-nodes : i < length nodes = omega (arith, r .nodes-room) in
-      let in-marks : i < length marks = omega (arith, r .marks-room) in
-      let here : placeAt (length heads) name (set nodes i node) (set marks i mark) i ≡ p = place-here f in-nodes in-marks ∙ sym e in
       record {
-        room =
-            record {
-              some-places = rw length-set (r .some-places);
-              few-places = rw length-set (r .few-places);
-              next-room = rw length-set (r .next-room);
-              nodes-room = rw length-set (r .nodes-room);
-              marks-room = rw length-set (r .marks-room);
-            };
-        stand = rw (length-set heads p (i + 1)) (stand-more f in-nodes in-marks (s .stand));
-        chains =
-            rw (length-set heads p (i + 1))
-            (rw here at (chains-more (s .chains) (place-kept f in-nodes in-marks) (omega (arith, r .next-room)) (rw here low)));
+        some-places = rw head-length (r .some-places);
+        few-places = rw head-length (r .few-places);
+        enough-places = rw head-length (r .enough-places);
+        next-room = rw (p .then, length-set) (r .next-room);
+        nodes-room = rw (p .under, length-set) (r .nodes-room);
+        marks-room = rw (p .marked, length-set) (r .marks-room);
+      }
+
+  in-nodes : i < length nodes
+  in-nodes = omega (arith, s .room .nodes-room)
+
+  in-marks : i < length marks
+  in-marks = omega (arith, s .room .marks-room)
+
+  low : placeOf (length heads) node < length heads
+  low = place-low (length heads) node (omega (arith, f .reached .low, s .room .enough-places))
+
+  chained : Chains (placeAt (length heads) (set nodes i node)) heads′ next′ (i + 1)
+  chained =
+      let here = place-here f in-nodes in-marks in
+      rw (p .first, p .then)
+      (rw here at (chains-more (s .chains) (place-kept f in-nodes in-marks) (omega (arith, s .room .next-room)) (rw here low)))
+
+  pub standing-more : Standing name count heads′ next′ nodes′ marks′ (i + 1)
+  standing-more =
+      record {
+        room = room-more;
+        stand = rw (head-length, p .under, p .marked) (stand-more f in-nodes in-marks (s .stand));
+        chains = rw (head-length, p .under) chained;
       }
 
 -- no names stand
@@ -105,12 +132,13 @@ clear zero p = refl
 clear (suc n) zero = refl
 clear (suc n) (suc p) = clear n p
 
-pub clear-room : (places n count : ℕ) → 0 < places → places ≤ places-max → count ≤ n
+pub clear-room : (places n count : ℕ) → 0 < places → places ≤ places-max → n ≤ places → count ≤ n
     → Room count (replicate places 0) (replicate n 0) (replicate n 0) (replicate n 0)
-clear-room places n count some few h =
+clear-room places n count some few enough h =
     record {
       some-places = rw length-replicate some;
       few-places = rw length-replicate few;
+      enough-places = rw length-replicate (omega arith);
       next-room = rw length-replicate h;
       nodes-room = rw length-replicate h;
       marks-room = rw length-replicate h;

@@ -65,8 +65,8 @@ module _ {places : ℕ} {name : ℕ → List ℕ} {nodes marks : List ℕ} where
   -- ---- names that lead on
 
   pub leads-place : {node mark letter c : ℕ} → Leads places name nodes marks node mark letter c
-      → placeAt places name nodes marks c ≡ placeOf places node mark letter
-  leads-place l = rw (l .under, l .marked, l .lettered)
+      → placeAt places nodes c ≡ placeOf places node
+  leads-place l = ap (placeOf places) (l .under)
 
   pub branch-mark : {x : List ℕ} {i node mark : ℕ} → Reached places name nodes marks x i node mark → places ≤ node → mark < length x
   branch-mark {node = node} r l = let e : node ≡ places + (node - places) = omega arith in r .forked (node - places) e .within

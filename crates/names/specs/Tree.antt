@@ -4,14 +4,15 @@
 -- length; under an earlier name, of the same length, its mark is in how many bytes from the front the two agree, and its letter the byte after
 -- those, in which they differ. No two names have the same node, mark and letter. So a name is sought by going from its root to the one name
 -- with its mark and letter there, from that one to the one with its mark and letter under it, and so on: one that is the same as an earlier
--- name comes to that name. Which names stand under a node, with a mark and a letter, is had from chains, one for each place of the table.
+-- name comes to that name. Which names stand under a node is had from chains, one for each place of the table: those under the root of place c
+-- and those under name c are in one.
 -- Assumes nothing.
 use mathlib.Core.Bool.{Bool, true, false, cond}
 use mathlib.Core.List.{List}
 use mathlib.Core.Path.{_≡_}
 use Prim.Native.Nat.{ℕ, zero, suc, _+_, _*_, _-_, _/_, _%_, _≤_, _<_}
 use lib.Dec.{eqb, ltb}
-use lib.ListN.{length, getD}
+use lib.ListN.{length, getD, set}
 use Rattle.text.specs.Words.{Alike}
 use Rattle.text.specs.Fingerprint.{fingerprintOf}
 use Rattle.names.specs.declared.tables.Spot.{Spot}
@@ -35,10 +36,9 @@ printOf bs = fingerprintOf bs % 4_294_967_296
 unfoldable pub letterOf : ℕ → ℕ → ℕ → List ℕ → ℕ
 letterOf places node mark bs = cond (ltb node places) (length bs) (getD bs mark 0)
 
--- the place of the names with this node, mark and letter: a root is a place
-unfoldable pub placeOf : ℕ → ℕ → ℕ → ℕ → ℕ
-placeOf places node mark letter =
-    cond (ltb node places) node (scaledTo places ((node * 40_503 + mark * 1_540_483_477 + letter % 256 * 2_654_435) % 4_294_967_296))
+-- the place of the names under a node: a root is a place, and name c has the place c
+unfoldable pub placeOf : ℕ → ℕ → ℕ
+placeOf places node = cond (ltb node places) node (node - places)
 
 -- two names of one length agree in the first m bytes and not in the next
 pub record Forked (x y : List ℕ) (m : ℕ) : Type 0 where
@@ -57,11 +57,11 @@ pub record Chains (place : ℕ → ℕ) (heads next : List ℕ) (i : ℕ) : Type
   pub heads-are : (p : ℕ) → p < length heads → getD heads p 0 ≡ latest place p i
   pub next-are : (k : ℕ) → k < i → getD next k 0 ≡ latest place (place k) k
 
-module _ (places : ℕ) (name : ℕ → List ℕ) (nodes marks : List ℕ) where
-  -- the place of name k where it stands
-  abbrev pub placeAt : ℕ → ℕ
-  placeAt k = placeOf places (getD nodes k 0) (getD marks k 0) (letterOf places (getD nodes k 0) (getD marks k 0) (name k))
+-- the place of name k where it stands
+abbrev pub placeAt : ℕ → List ℕ → ℕ → ℕ
+placeAt places nodes k = placeOf places (getD nodes k 0)
 
+module _ (places : ℕ) (name : ℕ → List ℕ) (nodes marks : List ℕ) where
   -- name c stands under the node with this mark and this letter
   pub record Leads (node mark letter c : ℕ) : Type 0 where
     pub under : getD nodes c 0 ≡ node
@@ -106,10 +106,18 @@ module _ (places : ℕ) (name : ℕ → List ℕ) (nodes marks : List ℕ) where
     pub free : spot .same ≡ false → Free (name i) i (spot .node) (spot .mark)
     pub fresh : spot .same ≡ false → (k : ℕ) → k < i → name k ≡ name i → ⊥
 
+-- name i is put under the node with the mark, in front of the chain there
+pub record Put (heads next nodes marks : List ℕ) (i node mark : ℕ) (heads′ next′ nodes′ marks′ : List ℕ) : Type 0 where
+  pub first : heads′ ≡ set heads (placeOf (length heads) node) (i + 1)
+  pub then : next′ ≡ set next i (getD heads (placeOf (length heads) node) 0)
+  pub under : nodes′ ≡ set nodes i node
+  pub marked : marks′ ≡ set marks i mark
+
 -- there is room for so many names
 pub record Room (count : ℕ) (heads next nodes marks : List ℕ) : Type 0 where
   pub some-places : 0 < length heads
   pub few-places : length heads ≤ places-max
+  pub enough-places : count ≤ length heads
   pub next-room : count ≤ length next
   pub nodes-room : count ≤ length nodes
   pub marks-room : count ≤ length marks
@@ -118,4 +126,4 @@ pub record Room (count : ℕ) (heads next nodes marks : List ℕ) : Type 0 where
 pub record Standing (name : ℕ → List ℕ) (count : ℕ) (heads next nodes marks : List ℕ) (i : ℕ) : Type 0 where
   pub room : Room count heads next nodes marks
   pub stand : Stand (length heads) name nodes marks i
-  pub chains : Chains (placeAt (length heads) name nodes marks) heads next i
+  pub chains : Chains (placeAt (length heads) nodes) heads next i

@@ -10,7 +10,7 @@ ghost use Prim.Native.Nat.{ℕ, _+_, _≤_, _<_};
 ghost use lib.ListN.{length, getD};
 ghost use Rattle.laws.specs.Lowest.{lowest};
 ghost use Rattle.names.specs.Names.{nameAt, repeatsAt, Lying};
-ghost use Rattle.names.specs.Tree.{scaledTo, letterOf, placeOf, Told, Reached, Free, Child, Spotted, Room, Standing};
+ghost use Rattle.names.specs.Tree.{scaledTo, letterOf, placeOf, Told, Reached, Child, Spotted, Put, Room, Standing};
 use crate::Names;
 use crate::name_at;
 
@@ -49,16 +49,15 @@ fn letter_of(places: usize, node: usize, mark: u32, name: &[u8]) -> u64
     text::word::wide(name[at])
 }
 
-// The place of the names with this node, mark and letter.
-fn place_of(places: usize, node: usize, mark: u32, letter: u64) -> usize
-    requires { ⌜ (0 < places) × (places ≤ 8192) × (node < 65536) ⌝ }
-    ensures { λ r. ⌜ (r ≡ placeOf places node mark letter) × (r < places) ⌝ }
+// The place of the names under a node.
+fn place_of(places: usize, node: usize) -> usize
+    requires { ⌜ node < places + places ⌝ }
+    ensures { λ r. ⌜ (r ≡ placeOf places node) × (r < places) ⌝ }
 {
     if node < places {
         return node;
     }
-    let mixed = node as u64 * 40_503 + mark as u64 * 1_540_483_477 + letter % 256 * 2_654_435;
-    scaled(places, mixed % 4_294_967_296)
+    node - places
 }
 
 // Whether name k stands under the node with this mark and this letter.
@@ -107,7 +106,7 @@ fn child(
 {
     let places = heads.len();
     let letter = letter_of(places, node, mark, name_at(words, text, names, i));
-    let place = place_of(places, node, mark, letter);
+    let place = place_of(places, node);
     let mut c = wide(heads[place]);
     while 0 < c {
         let k = c - 1;
@@ -175,11 +174,8 @@ fn spot_of(
     }
 }
 
-// Puts name i where its way ends.
+// Puts name i under the node with the mark, in front of the chain there.
 fn put(
-    words: &[u32],
-    text: &[u8],
-    names: Names,
     heads: &mut [u16],
     next: &mut [u16],
     nodes: &mut [u16],
@@ -188,14 +184,11 @@ fn put(
     node: usize,
     mark: u32,
 )
-    requires { ⌜ Lying (now words) (now text) names × (i < names .count) ⌝ }
-    requires { ⌜ Standing (nameAt (now words) (now text) names) (names .count) (now heads) (now next) (now nodes) (now marks) i ⌝ }
-    requires { ⌜ Free (length (now heads)) (nameAt (now words) (now text) names) (now nodes) (now marks) (nameAt (now words) (now text) names i) i node mark ⌝ }
-    ensures { λ r. ⌜ Standing (nameAt (now (words .entry)) (now (text .entry)) names) (names .count) (now (heads .exit)) (now (next .exit)) (now (nodes .exit)) (now (marks .exit)) (i + 1) ⌝ }
+    requires { ⌜ (i < length (now next)) × (i < length (now nodes)) × (i < length (now marks)) × (i < 65535) ⌝ }
+    requires { ⌜ (node < length (now heads) + length (now heads)) × (node < 65536) ⌝ }
+    ensures { λ r. ⌜ Put (now (heads .entry)) (now (next .entry)) (now (nodes .entry)) (now (marks .entry)) i node mark (now (heads .exit)) (now (next .exit)) (now (nodes .exit)) (now (marks .exit)) ⌝ }
 {
-    let places = heads.len();
-    let letter = letter_of(places, node, mark, name_at(words, text, names, i));
-    let place = place_of(places, node, mark, letter);
+    let place = place_of(heads.len(), node);
     next[i] = heads[place];
     nodes[i] = node as u16;
     marks[i] = mark;
@@ -224,18 +217,7 @@ fn first_among(
         if spot.same {
             return i;
         }
-        put(
-            words,
-            text,
-            names,
-            heads,
-            next,
-            nodes,
-            marks,
-            i,
-            spot.node,
-            spot.mark,
-        );
+        put(heads, next, nodes, marks, i, spot.node, spot.mark);
         i += 1;
     }
     i

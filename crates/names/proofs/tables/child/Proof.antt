@@ -11,7 +11,7 @@ use Rattle.names.proofs.tables.child.Tie as tie
 
 abbrev Inv-loop : tie.InvT-loop
 Inv-loop words text names heads next nodes marks i node mark places letter place c₀ c =
-    Walk (placeAt places (nameAt words text names) nodes marks) place (Leads places (nameAt words text names) nodes marks node mark letter) i c
+    Walk (placeAt places nodes) place (Leads places (nameAt words text names) nodes marks node mark letter) i c
     × (Lying words text names × (i < names .count))
     × Standing (nameAt words text names) (names .count) heads next nodes marks i
     × (letter ≡ letterOf places node mark (nameAt words text names i))
@@ -30,11 +30,7 @@ letter-of-requires c κs l =
 place-of-requires : tie.Need-place-of-requires Inv-loop μ-loop
 place-of-requires c κs =
     let start = c .before .before .before .before .before .before .before .before in
-    let room = start .pre .1 .0 .room in (
-      room .some-places,
-      room .few-places,
-      omega (arith, room .few-places, start .pre .0 .0 .few, start .pre .0 .1, start .pre .1 .1 .low),
-    )
+    omega (arith, start .pre .1 .0 .room .enough-places, start .pre .0 .1, start .pre .1 .1 .low)
 
 mul-wide : tie.Need-mul-wide Inv-loop μ-loop
 mul-wide c = omega arith

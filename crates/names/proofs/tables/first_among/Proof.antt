@@ -9,7 +9,7 @@ use Rattle.laws.proofs.Passing.{Passing, begin, here, further, nowhere}
 use Rattle.names.specs.Names.{nameAt, repeatsAt, Lying}
 use Rattle.names.specs.Tree.{Standing}
 use Rattle.names.proofs.Repeats.{repeats-here, repeats-not}
-use Rattle.names.proofs.Growing.{standing-none}
+use Rattle.names.proofs.Growing.{standing-none, standing-more}
 use Rattle.names.proofs.tables.first_among.Statement.{statement}
 use Rattle.names.proofs.tables.first_among.Tie as tie
 
@@ -55,7 +55,11 @@ put-requires : tie.Need-put-requires Inv-loop μ-loop
 put-requires c κs =
     let left = c .before .before .before .before in
     let inv = left .before .before .before .before .before .before .before .loop .inv in
-    ((inv .2, omega arith), (inv .1, left .before .spot-of .ensures .free (left .if1 .left)))
+    let room = inv .1 .room in
+    let low = left .before .spot-of .ensures .free (left .if1 .left) .reached .low in (
+      (omega (arith, room .next-room), omega (arith, room .nodes-room), omega (arith, room .marks-room), omega (arith, inv .2 .few)),
+      (omega (arith, low, room .enough-places), omega (arith, low, room .few-places, inv .2 .few)),
+    )
 
 add-i : tie.Need-add-i Inv-loop μ-loop
 add-i c = omega arith
@@ -69,7 +73,7 @@ loop-again c =
     let left = back .before .before .before .before .before in
     let inv = left .before .before .before .before .before .before .before .loop .inv in (
       further (inv .0) (omega arith) (repeats-not _ _ (left .before .spot-of .ensures .fresh (left .if1 .left))),
-      back .put .ensures,
+      standing-more (inv .1) (omega arith) (left .before .spot-of .ensures .free (left .if1 .left)) (back .put .ensures),
       inv .2,
       c .before .before .before .before .before .before .before .heads .given ∙ inv .3,
       c .before .before .before .before .before .next .given ∙ inv .4,

@@ -20,7 +20,7 @@ slice-aggregate-first-among-4 c = search needs
 first-among-requires : tie.Need-first-among-requires
 first-among-requires c κs =
     let start = c .before .before .before .before .before .before in
-    (start .pre .0, (clear-room 4096 1024 _ (lit< tt) (lit≤ tt) (start .pre .1), clear 4096))
+    (start .pre .0, (clear-room 4096 1024 _ (lit< tt) (lit≤ tt) (lit≤ tt) (start .pre .1), clear 4096))
 
 returns : tie.Need-returns
 returns c = search needs

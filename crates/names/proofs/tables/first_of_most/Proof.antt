@@ -20,7 +20,7 @@ slice-aggregate-first-among-4 c = search needs
 first-among-requires : tie.Need-first-among-requires
 first-among-requires c κs =
     let start = c .before .before .before .before .before .before in
-    (start .pre, (clear-room 8192 4096 _ (lit< tt) (lit≤ tt) (start .pre .few), clear 8192))
+    (start .pre, (clear-room 8192 4096 _ (lit< tt) (lit≤ tt) (lit≤ tt) (start .pre .few), clear 8192))
 
 returns : tie.Need-returns
 returns c = search needs

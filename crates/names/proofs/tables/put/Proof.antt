@@ -1,17 +1,8 @@
 -- `names::tables::put` meets its contract. Assumes nothing.
+use mathlib.Core.Path.{refl}
 use borrow.Author.Needs.{needs}
-use Rattle.names.proofs.Ways.{branch-mark}
-use Rattle.names.proofs.Growing.{standing-more}
 use Rattle.names.proofs.tables.put.Statement.{statement}
 use Rattle.names.proofs.tables.put.Tie as tie
-
-name-at-requires : tie.Need-name-at-requires
-name-at-requires c κs = search needs
-
-letter-of-requires : tie.Need-letter-of-requires
-letter-of-requires c κs l =
-    let start = c .before .before .before .before .before .before .before in
-    rw (c .name-at .ensures) (branch-mark (start .pre .1 .1 .reached) l)
 
 place-of-requires : tie.Need-place-of-requires
 place-of-requires c κs = search needs
@@ -69,18 +60,13 @@ same-length-4 c = search needs
 
 returns : tie.Need-returns
 returns c =
-    let start = c .before .before .before .before .before .before .before .before .before .before in
-    let letter = rw (c .before .before .before .name-at .ensures) at (c .before .before .letter-of .ensures) in
-    standing-more (start .pre .1 .0) (start .pre .0 .1) (start .pre .1 .1) _
-    (rw letter at (c .before .place-of .ensures .0))
-    (c .before .place-of .ensures .1)
+    let e = c .before .place-of .ensures .0 in
+    record { first = rw e; then = rw e; under = refl; marked = refl }
 
 pub put-spec : {M : Type 1} → statement M
 put-spec =
     tie.close
     (tie.spec
-    name-at-requires
-    letter-of-requires
     place-of-requires
     mul-next
     slice-read-next
