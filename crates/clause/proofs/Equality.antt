@@ -16,7 +16,7 @@ use Rattle.laws.proofs.Tests.{left, right}
 use Rattle.decimal.specs.declared.Decimal.{Decimal}
 use Rattle.decimal.specs.Value.{value, Plain, equalZ, OfWord}
 use Rattle.text.specs.Part.{fits, part, sameBytes}
-use Rattle.sheet.specs.Kinds.{numberOf, kindOf, isKind}
+use Rattle.sheet.specs.Kinds.{kindNumber, kindOf, isKind}
 use Rattle.sheet.specs.Doc.{Value, valueKind}
 use Rattle.sheet.specs.Faults.{scalarOk}
 use Rattle.sheet.proofs.Values.{kind-by}
@@ -32,7 +32,7 @@ use Rattle.clause.proofs.Having.{isOf, none-found, no-bytes}
 -- ---- two values of kinds that are known
 
 abbrev nk : Value → ℕ
-nk v = numberOf (valueKind v)
+nk v = kindNumber (valueKind v)
 
 and-true : (b : Bool) → b ≡ (b && true)
 and-true true = refl
@@ -72,7 +72,7 @@ module _ (v w : Value) (k l : ℕ) (of-v : k ≡ nk v) (of-w : l ≡ nk w) where
 
 -- ---- an entry whose words are in order
 
-number-of-kind : (n : ℕ) → isKind n ≡ true → numberOf (kindOf n) ≡ n
+number-of-kind : (n : ℕ) → isKind n ≡ true → kindNumber (kindOf n) ≡ n
 unfolding kindOf
 number-of-kind zero t = refl
 number-of-kind (suc zero) t = refl
@@ -89,7 +89,7 @@ number-of-kind (suc (suc (suc (suc (suc (suc (suc n))))))) t = absurd (too-high 
 module _ (ts : List ℕ) (e : EntryRow) (ok : entryOk Values (length ts) 0 e ≡ true) where
   pub entry-kind : e .first ≡ nk (entryValue ts e)
   entry-kind =
-      sym (ap numberOf (kind-by ts (e .second) (e .third) (kindOf (e .first)))
+      sym (ap kindNumber (kind-by ts (e .second) (e .third) (kindOf (e .first)))
       ∙ number-of-kind (e .first) (left (isKind (e .first)) (scalarOk (kindOf (e .first)) (length ts) (e .second) (e .third)) ok))
 
   scalar : scalarOk (kindOf (e .first)) (length ts) (e .second) (e .third) ≡ true

@@ -20,7 +20,7 @@ use Rattle.text.specs.declared.Range.{Range}
 use Rattle.text.specs.Part.{fits}
 use Rattle.sheet.specs.declared.kind.RowKind.{RowKind}
 use Rattle.sheet.specs.declared.kind.RowKind.the-variants as K
-use Rattle.sheet.specs.Kinds.{numberOf}
+use Rattle.sheet.specs.Kinds.{kindNumber}
 use Rattle.sheet.specs.Doc.{Value, null, bool, number, string, array, object, valueKind, firstChild, childCount}
 use Rattle.sheet.specs.Record.{textWord, docOf}
 use Rattle.sheet.specs.Accepted.{StringRead}
@@ -32,7 +32,7 @@ use Rattle.clause.specs.Read.{typeNumber, NumberFound}
 
 -- a value is of the kind that has this number
 abbrev pub isOf : ℕ → Value → Bool
-isOf kind v = eqb (numberOf (valueKind v)) kind
+isOf kind v = eqb (kindNumber (valueKind v)) kind
 
 pub never : false ≡ true → ⊥
 never e = let z : _≡_ {A = ℕ} 0 1 = cc in omega arith

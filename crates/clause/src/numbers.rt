@@ -3,7 +3,7 @@ ghost use mathlib.Core.List.{List};
 ghost use mathlib.Core.Path.{_≡_};
 ghost use Prim.Native.Nat.{ℕ, _<_};
 ghost use lib.Dec.{eqb};
-ghost use Rattle.sheet.specs.Kinds.{numberOf};
+ghost use Rattle.sheet.specs.Kinds.{kindNumber};
 ghost use Rattle.sheet.specs.Doc.{valueKind};
 ghost use Rattle.sheet.specs.Record.{docOf};
 ghost use Rattle.sheet.specs.Accepted.{Formed, Laid};
@@ -24,7 +24,7 @@ pub enum Numbered {
 // Whether the row is of the kind that has this number.
 pub(crate) fn is_kind(record: &[u32], form: RecordForm, row: RecordRow, kind: u32) -> bool
     requires { ⌜ Formed (now «record») form × (row .0 < form .rows) ⌝ }
-    ensures { λ r. ⌜ ((ts : List ℕ) → r ≡ eqb (numberOf (valueKind (docOf (now («record» .entry)) ts .value (row .0)))) kind) ⌝ }
+    ensures { λ r. ⌜ ((ts : List ℕ) → r ≡ eqb (kindNumber (valueKind (docOf (now («record» .entry)) ts .value (row .0)))) kind) ⌝ }
 {
     kind_of(record, form, row).number() == kind
 }

@@ -16,7 +16,7 @@ use Rattle.sheet.specs.Record.{docOf}
 use Rattle.sheet.specs.Faults.{recordOutcome}
 use Rattle.rulesheet.specs.Sheet.{rulesOf}
 use Rattle.rules.specs.Check.{rulesOutcome}
-use Rattle.meaning.specs.Answer.{Left, verdict, numberOf, judged, judge}
+use Rattle.meaning.specs.Answer.{Left, verdict, numberForC, judged, judge}
 use Rattle.meaning.proofs.Answers.{record-refused, rules-refused, cells-short, list-short, call-judged, fits}
 use Rattle.meaning.proofs.Trees.{once}
 use Rattle.judge.proofs.Calls.{size-small}
@@ -61,10 +61,10 @@ module _ (ws ts rs us cs ls : List ℕ) where
   pub count-fits : (r : J.Answer) {cells list : List ℕ} → callLeaves ws ts rs us cs ls r cells list → counted (answerOf r) < 2 ^ 32
   count-fits r e = rw (ap (λ (x : Left). x .answer) e) (by-record (recordOutcome ws ts) refl)
 
-  pub call-told : (a : J.Answer) {cells list : List ℕ} {r : ℕ} → callLeaves ws ts rs us cs ls a cells list → r ≡ numberOf (answerOf a) → Called ws ts rs us cs ls cells list r
+  pub call-told : (a : J.Answer) {cells list : List ℕ} {r : ℕ} → callLeaves ws ts rs us cs ls a cells list → r ≡ numberForC (answerOf a) → Called ws ts rs us cs ls cells list r
   call-told a e n =
       record {
-        number-is = n ∙ ap (λ (x : Left). numberOf (x .answer)) e;
+        number-is = n ∙ ap (λ (x : Left). numberForC (x .answer)) e;
         cells-are = ap (λ (x : Left). x .cells) e;
         list-is = ap (λ (x : Left). x .list) e;
       }

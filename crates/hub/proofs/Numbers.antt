@@ -10,7 +10,7 @@ use lib.Dec.{ltb}
 use borrow.Author.Tests.{ltb-true}
 use Rattle.sheet.specs.Refusals.{Line}
 use Rattle.meaning.specs.Lists.{all}
-use Rattle.meaning.specs.Answer.{Answer, valid, invalid, refuses, numberOf, Left, table, judge}
+use Rattle.meaning.specs.Answer.{Answer, valid, invalid, refuses, numberForC, Left, table, judge}
 use Rattle.meaning.specs.Demands.{First, Demands}
 use Rattle.meaning.proofs.Members.{all-pass}
 use Rattle.meaning.proofs.Words.{row-of, rule-of}
@@ -35,7 +35,7 @@ module _ (ws ts rs us cs ls : List ℕ) where
       ltb-true (line .number) 246
       (all-pass (λ l. ltb (l .number) 246) lines .0 refl line (subst (λ l. In line l) (sym (f .parted)) (Memᴰ·append-right (f .before) (at-head refl))))
 
-  told : (r : ℕ) (a : Answer) → ((number place : ℕ) → a ≡ refuses number place → number < 246) → r ≡ numberOf a → Tells r a
+  told : (r : ℕ) (a : Answer) → ((number place : ℕ) → a ≡ refuses number place → number < 246) → r ≡ numberForC a → Tells r a
   told r (valid count marks) small e = tells-valid (low count 0 (omega (arith, e)) (omega arith)) (high count 0 (omega (arith, e)) (omega arith))
   told r (invalid count marks) small e = tells-invalid (low count 1 e (omega arith)) (high count 1 e (omega arith))
   told r (refuses number place) small e =

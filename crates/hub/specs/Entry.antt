@@ -6,7 +6,7 @@
 use mathlib.Core.List.{List}
 use mathlib.Core.Path.{_≡_}
 use Prim.Native.Nat.{ℕ, _+_, _/_, _%_}
-use Rattle.meaning.specs.Answer.{Answer, valid, invalid, refuses, numberOf, judge}
+use Rattle.meaning.specs.Answer.{Answer, valid, invalid, refuses, numberForC, judge}
 use Rattle.meaning.specs.Demands.{Demands}
 
 -- the settled pairs that an answer counts; a refusal counts none
@@ -16,7 +16,7 @@ counted (invalid count marks) = count
 counted (refuses number place) = 0
 
 pub record Called (ws ts rs us cells₀ list₀ cells list : List ℕ) (r : ℕ) : Type 0 where
-  pub number-is : r ≡ numberOf (judge ws ts rs us cells₀ list₀ .answer)
+  pub number-is : r ≡ numberForC (judge ws ts rs us cells₀ list₀ .answer)
   pub cells-are : cells ≡ judge ws ts rs us cells₀ list₀ .cells
   pub list-is : list ≡ judge ws ts rs us cells₀ list₀ .list
 

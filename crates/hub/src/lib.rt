@@ -3,7 +3,7 @@
 // `include/amphorust.h` says the same to a C programmer. The contracts cite `specs/Entry.antt`.
 ghost use mathlib.Core.Path.{_≡_};
 ghost use Prim.Native.Nat.{_<_, _^_};
-ghost use Rattle.meaning.specs.Answer.{numberOf};
+ghost use Rattle.meaning.specs.Answer.{numberForC};
 ghost use Rattle.judge.specs.Call.{answerOf};
 ghost use Rattle.hub.specs.Entry.{Called, counted};
 use judge::answer::Answer;
@@ -29,7 +29,7 @@ pub extern "C" fn amphorust_judge<'a>(
 // The number of an answer whose count fits a word, as that of every call does.
 fn number_of(answer: Answer) -> u64
     requires { ⌜ counted (answerOf answer) < 2 ^ 32 ⌝ }
-    ensures { λ r. ⌜ r ≡ numberOf (answerOf answer) ⌝ }
+    ensures { λ r. ⌜ r ≡ numberForC (answerOf answer) ⌝ }
 {
     match answer {
         Answer::Valid(count, _) => (count as u64) * 256,

@@ -20,7 +20,7 @@ use Rattle.rulesheet.specs.Ruleset as R
 use Rattle.rulesheet.specs.Codes.{lineIn}
 use Rattle.rulesheet.specs.Sheet as S
 use Rattle.rulesheet.specs.Faults as C
-use Rattle.unguarded.specs.Graph.{any, chain, via, onLoop}
+use Rattle.unguarded.specs.Graph.{someOf, chain, via, onLoop}
 use Rattle.meaning.specs.Lists
 use Rattle.meaning.specs.Tests
 use Rattle.meaning.specs.Rules
@@ -366,7 +366,7 @@ abbrev leftOf : Sample → Left
 leftOf s = judge (s .words) (s .text) (s .ruleWords) (s .ruleText) (replicate (s .cells) 9) (replicate (s .list) 77)
 
 unfoldable samples-compute : Unit {0}
-unfolding lowestFrom Part.part-computes Value.value-computes repeatsBy kindOf levels level D.formOf D.rowAt D.docOf F.wordsOk F.ownsOk F.placeOk F.rowOk F.repeated R.steps lineIn S.formOf S.schemaAt S.clauseAt S.entryAt S.run S.clauseOf S.rulesOf C.wordsOk C.schemaStart C.schemaFine C.schemaOver C.rises C.listStart C.listOk C.clauseFineIn C.clauseFine C.listOver C.entryFine C.repeated any chain via onLoop Lists.lists-computes Tests.tests-computes Rules.rules-computes Settling.settling-computes Answer.answer-computes
+unfolding lowestFrom Part.part-computes Value.value-computes repeatsBy kindOf levels level D.formOf D.rowAt D.docOf F.wordsOk F.ownsOk F.placeOk F.rowOk F.repeated R.steps lineIn S.formOf S.schemaAt S.clauseAt S.entryAt S.run S.clauseOf S.rulesOf C.wordsOk C.schemaStart C.schemaFine C.schemaOver C.rises C.listStart C.listOk C.clauseFineIn C.clauseFine C.listOver C.entryFine C.repeated someOf chain via onLoop Lists.lists-computes Tests.tests-computes Rules.rules-computes Settling.settling-computes Answer.answer-computes
 samples-compute = tt
 
 abbrev twelve : List Sample

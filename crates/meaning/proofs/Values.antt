@@ -22,7 +22,7 @@ use Rattle.text.specs.Part.{sameBytes}
 use Rattle.text.proofs.Bytes.{same-eq, eq-same}
 use Rattle.sheet.specs.declared.kind.RowKind.{RowKind}
 use Rattle.sheet.specs.declared.kind.RowKind.the-variants.{Null, False, True, Number, String, Array, Object}
-use Rattle.sheet.specs.Kinds.{numberOf, kindOf}
+use Rattle.sheet.specs.Kinds.{kindNumber, kindOf}
 use Rattle.sheet.specs.Doc.{Value, null, bool, number, string, array, object, Doc, valueKind}
 use Rattle.meaning.specs.Tests.{number?, bytes?, has, typed, agree, equal}
 use Rattle.meaning.specs.Rules.{called}
@@ -57,7 +57,7 @@ typed-is mask (array first k) = has-is mask 32
 typed-is mask (object first k) = has-is mask 64
 
 -- a kind has its own number
-kind-back : (k : RowKind) → kindOf (numberOf k) ≡ k
+kind-back : (k : RowKind) → kindOf (kindNumber k) ≡ k
 unfolding kindOf
 kind-back Null = refl
 kind-back False = refl
@@ -145,7 +145,7 @@ equal-is v w s = (there, λ e. subst (λ x. equal x w ≡ true) (sym e) back)
   where
     there : equal v w ≡ true → v ≡ w
     there e =
-        let k = eqb (numberOf (valueKind v)) (numberOf (valueKind w)) in
+        let k = eqb (kindNumber (valueKind v)) (kindNumber (valueKind w)) in
         let z = agree equalZ (number? v) (number? w) in
         let b = agree sameBytes (bytes? v) (bytes? w) in
         let kinds : valueKind v ≡ valueKind w = sym (kind-back (valueKind v)) ∙ ap kindOf (eqb-true _ _ (left k z (left (k && z) b e))) ∙ kind-back (valueKind w) in
@@ -157,7 +157,7 @@ equal-is v w s = (there, λ e. subst (λ x. equal x w ≡ true) (sym e) back)
 
     back : equal w w ≡ true
     back =
-        rw (eq-eqb (numberOf (valueKind w)) (numberOf (valueKind w)) refl, same-agree equalZ (λ z. same-equal z z refl) (number? w), same-agree sameBytes (λ xs. eq-same xs xs refl) (bytes? w))
+        rw (eq-eqb (kindNumber (valueKind w)) (kindNumber (valueKind w)) refl, same-agree equalZ (λ z. same-equal z z refl) (number? w), same-agree sameBytes (λ xs. eq-same xs xs refl) (bytes? w))
 
 pub and-then : {A B C : Type 0} → A ↔ B → B ↔ C → A ↔ C
 and-then f g = (λ a. g .0 (f .0 a), λ c. f .1 (g .1 c))

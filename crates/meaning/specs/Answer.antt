@@ -25,10 +25,10 @@ verdict true count marks = valid count marks
 verdict false count marks = invalid count marks
 
 -- the number for C: the lowest byte tells the case, the rest is the count or the place
-abbrev pub numberOf : Answer → ℕ
-numberOf (valid count marks) = count * 256
-numberOf (invalid count marks) = count * 256 + 1
-numberOf (refuses number place) = place * 256 + (10 + number)
+abbrev pub numberForC : Answer → ℕ
+numberForC (valid count marks) = count * 256
+numberForC (invalid count marks) = count * 256 + 1
+numberForC (refuses number place) = place * 256 + (10 + number)
 
 -- what a call gives, and what it leaves in the areas
 pub record Left : Type 0 where

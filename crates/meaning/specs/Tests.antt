@@ -10,7 +10,7 @@ use lib.IntN.{ℤ}
 use Rattle.decimal.specs.Value.{equalZ, isWhole}
 use Rattle.text.specs.Part.{sameBytes}
 use Rattle.sheet.specs.Doc.{Value, null, bool, number, string, array, object, valueKind}
-use Rattle.sheet.specs.Kinds.{numberOf}
+use Rattle.sheet.specs.Kinds.{kindNumber}
 use Rattle.meaning.specs.Lists.{any, range}
 
 unfoldable pub number? : Value → Option ℤ
@@ -84,7 +84,7 @@ agree e (some a) (some b) = e a b
 
 -- equal values of an enum, which has no array and no object
 unfoldable pub equal : Value → Value → Bool
-equal v w = eqb (numberOf (valueKind v)) (numberOf (valueKind w)) && agree equalZ (number? v) (number? w) && agree sameBytes (bytes? v) (bytes? w)
+equal v w = eqb (kindNumber (valueKind v)) (kindNumber (valueKind w)) && agree equalZ (number? v) (number? w) && agree sameBytes (bytes? v) (bytes? w)
 
 -- opens this module to a computation
 unfoldable pub tests-computes : Unit {0}

@@ -9,12 +9,12 @@ use Rattle.rulesheet.specs.Ruleset.{steps}
 use Rattle.rulesheet.specs.Codes.{lineIn}
 use Rattle.rulesheet.specs.Sheet.{formOf, schemaAt, clauseAt, entryAt, run, clauseOf, rulesOf}
 use Rattle.rulesheet.specs.Faults.{wordsOk, schemaStart, schemaFine, schemaOver, rises, listStart, listOk, clauseFineIn, clauseFine, listOver, entryFine, repeated}
-use Rattle.unguarded.specs.Graph.{any, chain, via, onLoop}
+use Rattle.unguarded.specs.Graph.{someOf, chain, via, onLoop}
 use Rattle.rules.specs.Check.{rulesOutcome}
 
 -- opens the specification of the rule check
 unfoldable rules-compute : Unit {0}
-unfolding lowestFrom repeatsBy firstLine steps lineIn formOf schemaAt clauseAt entryAt run clauseOf rulesOf wordsOk schemaStart schemaFine schemaOver rises listStart listOk clauseFineIn clauseFine listOver entryFine repeated any chain via onLoop rulesOutcome
+unfolding lowestFrom repeatsBy firstLine steps lineIn formOf schemaAt clauseAt entryAt run clauseOf rulesOf wordsOk schemaStart schemaFine schemaOver rises listStart listOk clauseFineIn clauseFine listOver entryFine repeated someOf chain via onLoop rulesOutcome
 rules-compute = tt
 
 -- schema 0 is ref 0

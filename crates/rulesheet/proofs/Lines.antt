@@ -10,10 +10,10 @@ use native.Mathlib.Omega.{arith}
 use lib.Dec.{ltb, leb}
 use borrow.Author.Tests.{ltb-true, leb-true, ne-eqb}
 use Rattle.laws.proofs.Tests.{le-or-lt, left, right, either}
-use Rattle.rulesheet.specs.Codes.{Line, codes, unknown, lineIn}
+use Rattle.rulesheet.specs.Codes.{CodeLine, codes, unknown, lineIn}
 
 -- a line of another code is passed
-pub line-past : (line : Line) (lines : List Line) (code : ℕ) → (code ≡ line .code → ⊥) → lineIn (line ∷ lines) code ≡ lineIn lines code
+pub line-past : (line : CodeLine) (lines : List CodeLine) (code : ℕ) → (code ≡ line .code → ⊥) → lineIn (line ∷ lines) code ≡ lineIn lines code
 unfolding lineIn
 line-past line lines code other = rw (ne-eqb code (line .code) other)
 
@@ -37,12 +37,12 @@ each-at P (suc many) low x all above below =
 
 -- ---- numbers that no line has
 
-noneIn : ℕ → ℕ → List Line → Bool
+noneIn : ℕ → ℕ → List CodeLine → Bool
 noneIn low high [] = true
 noneIn low high (line ∷ lines) = (ltb (line .code) low || leb high (line .code)) && noneIn low high lines
 
 module _ (low high code : ℕ) (above : low ≤ code) (below : code < high) where
-  no-line : (lines : List Line) → noneIn low high lines ≡ true → lineIn lines code ≡ unknown
+  no-line : (lines : List CodeLine) → noneIn low high lines ≡ true → lineIn lines code ≡ unknown
   unfolding noneIn
   no-line [] t = line-none code
   no-line (line ∷ lines) t =

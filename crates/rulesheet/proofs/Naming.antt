@@ -18,7 +18,7 @@ use Rattle.rulesheet.specs.declared.code.Fields.the-variants.{Unknown, B
 use Rattle.rulesheet.specs.declared.form.EntryRow.{EntryRow}
 use Rattle.rulesheet.specs.declared.form.RuleForm.{RuleForm}
 use Rattle.rulesheet.specs.Ruleset.{Clause, inPlace, unguarded, named}
-use Rattle.rulesheet.specs.Codes.{Parts, Line, codes, entryRange, entryName, meansOf, shapeOf}
+use Rattle.rulesheet.specs.Codes.{Parts, CodeLine, codes, entryRange, entryName, meansOf, shapeOf}
 use Rattle.rulesheet.specs.Sheet.{schemasWord, clausesWord, textWord, schemaAt, clauseAt, entryAt, run, clauseOf, rulesOf}
 use Rattle.rulesheet.specs.Faults.{isList, fieldsAt, entryOk, clauseFine}
 use Rattle.rulesheet.specs.Read.{RulesLaid}
@@ -45,7 +45,7 @@ namedBy Names p = []
 namedBy Schemas p = map (λ (e : EntryRow). e .first) (p .entries)
 namedBy Members p = map (λ (e : EntryRow). e .third) (p .entries)
 
-Naming : Line → Type 0
+Naming : CodeLine → Type 0
 Naming line = (p : Parts) (t : ℕ) → In t (named (line .means p)) → In t (namedBy (line .shape .fields) p)
 
 -- members are mapped twice: to names with schemas, and to schemas

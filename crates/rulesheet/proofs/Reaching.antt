@@ -17,7 +17,7 @@ use Rattle.rulesheet.specs.declared.code.Shape.{Shape}
 use Rattle.rulesheet.specs.declared.form.ClauseRow.{ClauseRow}
 use Rattle.rulesheet.specs.declared.form.EntryRow.{EntryRow}
 use Rattle.rulesheet.specs.Ruleset.{unguarded}
-use Rattle.rulesheet.specs.Codes.{Parts, Line, codes, unknown, pickLine, lineIn, shapeOf, meansOf}
+use Rattle.rulesheet.specs.Codes.{Parts, CodeLine, codes, unknown, pickLine, lineIn, shapeOf, meansOf}
 use Rattle.rulesheet.specs.Sheet.{clauseAt, entryAt, run, clauseOf, targetsOf}
 use Rattle.rulesheet.specs.Faults.{isList}
 
@@ -62,11 +62,11 @@ item-is ws make many first i d h =
 
 -- ---- a fact about every line of the table
 
-pub data Every (P : Line → Type 0) : List Line → Type 0 where
+pub data Every (P : CodeLine → Type 0) : List CodeLine → Type 0 where
   done : Every P []
-  and : {line : Line} {lines : List Line} → P line → Every P lines → Every P (line ∷ lines)
+  and : {line : CodeLine} {lines : List CodeLine} → P line → Every P lines → Every P (line ∷ lines)
 
-pub in-table : (P : Line → Type 0) (lines : List Line) (code : ℕ) → P unknown → Every P lines → P (lineIn lines code)
+pub in-table : (P : CodeLine → Type 0) (lines : List CodeLine) (code : ℕ) → P unknown → Every P lines → P (lineIn lines code)
 unfolding lineIn
 in-table P [] code u done = u
 in-table P (line ∷ lines) code u (and p ps) = pick (eqb code (line .code)) (in-table P lines code u ps)
@@ -79,7 +79,7 @@ in-table P (line ∷ lines) code u (and p ps) = pick (eqb code (line .code)) (in
 abbrev pub byShape : Shape → Parts → List ℕ
 byShape shape p = cond (shape .unguarded) (cond (isList (shape .fields)) (map (λ (e : EntryRow). e .first) (p .entries)) (p .first ∷ [])) []
 
-Shaped : Line → Type 0
+Shaped : CodeLine → Type 0
 Shaped line = (p : Parts) → unguarded (line .means p) ≡ byShape (line .shape) p
 
 table-shaped : Every Shaped codes

@@ -14,7 +14,7 @@ use borrow.Author.Tests.{eqb-true, leb-true}
 use Rattle.laws.proofs.Tests.{le-or-lt, decide, left, right}
 use Rattle.rulesheet.specs.declared.form.ClauseRow.{ClauseRow}
 use Rattle.rulesheet.specs.declared.form.EntryRow.{EntryRow}
-use Rattle.rulesheet.specs.Codes.{Line, codes, lineIn, shapeOf}
+use Rattle.rulesheet.specs.Codes.{CodeLine, codes, lineIn, shapeOf}
 use Rattle.rulesheet.specs.Sheet.{clauseAt, entryAt, run, targetsOf}
 use Rattle.rulesheet.specs.Faults.{isList}
 use Rattle.rulesheet.proofs.Reaching.{run-long, item-is, targets-are}
@@ -22,10 +22,10 @@ use Rattle.rulesheet.proofs.Reaching.{run-long, item-is, targets-are}
 -- ---- the numbers
 
 -- a line that steps has a number from 30 to 34
-abbrev fits : Line → Bool
+abbrev fits : CodeLine → Bool
 fits line = cond (line .shape .unguarded) (leb 30 (line .code) && leb (line .code) 34) true
 
-unfoldable all-fit : List Line → Bool
+unfoldable all-fit : List CodeLine → Bool
 all-fit [] = true
 all-fit (line ∷ lines) = fits line && all-fit lines
 
@@ -33,7 +33,7 @@ table-fits : all-fit codes ≡ true
 unfolding all-fit
 table-fits = refl
 
-within : (lines : List Line) (code : ℕ) → all-fit lines ≡ true → lineIn lines code .shape .unguarded ≡ true → (30 ≤ code) × (code ≤ 34)
+within : (lines : List CodeLine) (code : ℕ) → all-fit lines ≡ true → lineIn lines code .shape .unguarded ≡ true → (30 ≤ code) × (code ≤ 34)
 unfolding all-fit lineIn
 within [] code fine steps = absurd (false≢true steps)
 within (line ∷ lines) code fine steps =

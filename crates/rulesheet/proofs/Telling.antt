@@ -12,12 +12,12 @@ use lib.Dec.{eqb}
 use borrow.Author.Tests.{eqb-true}
 use Rattle.rulesheet.specs.declared.clause.Clause.the-variants.{Properties, PrefixItems}
 use Rattle.rulesheet.specs.Ruleset.{asserts, never}
-use Rattle.rulesheet.specs.Codes.{Parts, Line, codes, pickLine, lineIn, meansOf}
+use Rattle.rulesheet.specs.Codes.{Parts, CodeLine, codes, pickLine, lineIn, meansOf}
 use Rattle.rulesheet.specs.Clauses.{Decoded, telling}
 use Rattle.rulesheet.proofs.Reaching.{Every, done, and, in-table}
 
 -- a line that is found has the code, or none
-line-code : (lines : List Line) (code : ℕ) → (lineIn lines code .code ≡ code → ⊥) → lineIn lines code .code ≡ 0
+line-code : (lines : List CodeLine) (code : ℕ) → (lineIn lines code .code ≡ code → ⊥) → lineIn lines code .code ≡ 0
 unfolding lineIn
 line-code [] code f = refl
 line-code (line ∷ lines) code f = pick (eqb code (line .code)) refl (λ g. line-code lines code g)
@@ -26,7 +26,7 @@ line-code (line ∷ lines) code f = pick (eqb code (line .code)) refl (λ g. lin
     pick true e g = absurd (f (rw e (sym (eqb-true code (line .code) e))))
     pick false e g = g (λ z. f (rw e z))
 
-Quiet : Line → Type 0
+Quiet : CodeLine → Type 0
 Quiet line = (line .code ≡ 40 → ⊥) → (line .code ≡ 43 → ⊥) → (p : Parts) → telling (line .means p) ≡ asserts never
 
 table-quiet : Every Quiet codes

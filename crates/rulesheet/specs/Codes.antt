@@ -28,15 +28,15 @@ pub record Parts : Type 0 where
   pub count : ℕ
   pub entries : List EntryRow
 
-pub record Line : Type 0 where
+pub record CodeLine : Type 0 where
   pub code : ℕ
   pub shape : Shape
   pub means : Parts → Clause
 
 -- ---- what entries and numbers stand for
 
-abbrev numberOf : Parts → ℤ
-numberOf p = billionths (signed (p .first)) (p .count)
+abbrev limitOf : Parts → ℤ
+limitOf p = billionths (signed (p .first)) (p .count)
 
 abbrev pub entryValue : List ℕ → EntryRow → Value
 entryValue ts e = valueBy (kindOf (e .first)) ts (e .second) (e .third)
@@ -77,25 +77,25 @@ guardedShape fields least = record { fields = fields; least = least; unguarded =
 abbrev pub inPlaceShape : Fields → ℕ → Shape
 inPlaceShape fields least = record { fields = fields; least = least; unguarded = true }
 
-abbrev asserting : ℕ → Fields → ℕ → (Parts → Test) → Line
+abbrev asserting : ℕ → Fields → ℕ → (Parts → Test) → CodeLine
 asserting code fields least test = record { code = code; shape = guardedShape fields least; means = λ p. asserts (test p) }
 
-abbrev joining : ℕ → Fields → ℕ → Mode → (Parts → List ℕ) → Line
+abbrev joining : ℕ → Fields → ℕ → Mode → (Parts → List ℕ) → CodeLine
 joining code fields least mode schemas = record { code = code; shape = inPlaceShape fields least; means = λ p. inPlace mode (schemas p) }
 
-abbrev taking : ℕ → Fields → ℕ → (Parts → Reach) → Line
+abbrev taking : ℕ → Fields → ℕ → (Parts → Reach) → CodeLine
 taking code fields least reach = record { code = code; shape = guardedShape fields least; means = λ p. takes (reach p) }
 
-abbrev pub codes : List Line
+abbrev pub codes : List CodeLine
 codes =
     asserting 1 Bare 0 (λ p. never)
     ∷ asserting 2 Types 0 (λ p. type (p .first))
     ∷ asserting 3 Values 1 (λ p. enum (valuesOf p))
-    ∷ asserting 10 Number 0 (λ p. minimum (numberOf p))
-    ∷ asserting 11 Number 0 (λ p. maximum (numberOf p))
-    ∷ asserting 12 Number 0 (λ p. exclusiveMinimum (numberOf p))
-    ∷ asserting 13 Number 0 (λ p. exclusiveMaximum (numberOf p))
-    ∷ asserting 14 Positive 0 (λ p. multipleOf (numberOf p))
+    ∷ asserting 10 Number 0 (λ p. minimum (limitOf p))
+    ∷ asserting 11 Number 0 (λ p. maximum (limitOf p))
+    ∷ asserting 12 Number 0 (λ p. exclusiveMinimum (limitOf p))
+    ∷ asserting 13 Number 0 (λ p. exclusiveMaximum (limitOf p))
+    ∷ asserting 14 Positive 0 (λ p. multipleOf (limitOf p))
     ∷ asserting 20 Limit 0 (λ p. minLength (p .first))
     ∷ asserting 21 Limit 0 (λ p. maxLength (p .first))
     ∷ asserting 22 Limit 0 (λ p. minItems (p .first))
@@ -117,14 +117,14 @@ codes =
     ∷ []
 
 -- an unknown code has no fields that are in order, and no sheet with it is accepted
-abbrev pub unknown : Line
+abbrev pub unknown : CodeLine
 unknown = asserting 0 Unknown 0 (λ p. never)
 
-abbrev pub pickLine : Bool → Line → Line → Line
+abbrev pub pickLine : Bool → CodeLine → CodeLine → CodeLine
 pickLine true a b = a
 pickLine false a b = b
 
-unfoldable pub lineIn : List Line → ℕ → Line
+unfoldable pub lineIn : List CodeLine → ℕ → CodeLine
 lineIn [] code = unknown
 lineIn (line ∷ lines) code = let rest = lineIn lines code in pickLine (eqb code (line .code)) line rest
 

@@ -9,18 +9,18 @@ use Rattle.sheet.specs.declared.kind.RowKind.{RowKind}
 use Rattle.sheet.specs.declared.kind.RowKind.the-variants.{Null, False, True, Number, String, Array, Object}
 
 -- 01's number of each kind
-abbrev pub numberOf : RowKind → ℕ
-numberOf Null = 0
-numberOf False = 1
-numberOf True = 2
-numberOf Number = 3
-numberOf String = 4
-numberOf Array = 5
-numberOf Object = 6
+abbrev pub kindNumber : RowKind → ℕ
+kindNumber Null = 0
+kindNumber False = 1
+kindNumber True = 2
+kindNumber Number = 3
+kindNumber String = 4
+kindNumber Array = 5
+kindNumber Object = 6
 
 -- the numbers of the kinds run from 0 to that of the last
 abbrev pub isKind : ℕ → Bool
-isKind n = leb n (numberOf Object)
+isKind n = leb n (kindNumber Object)
 
 abbrev pub pickKind : Bool → RowKind → RowKind → RowKind
 pickKind true a b = a
@@ -29,12 +29,12 @@ pickKind false a b = b
 -- the kind of a number; a number that is no kind's reads as `Null`, and no sheet with it is accepted
 unfoldable pub kindOf : ℕ → RowKind
 kindOf n =
-    pickKind (eqb n (numberOf False)) False
-    (pickKind (eqb n (numberOf True)) True
-    (pickKind (eqb n (numberOf Number)) Number
-    (pickKind (eqb n (numberOf String)) String
-    (pickKind (eqb n (numberOf Array)) Array
-    (pickKind (eqb n (numberOf Object)) Object Null)))))
+    pickKind (eqb n (kindNumber False)) False
+    (pickKind (eqb n (kindNumber True)) True
+    (pickKind (eqb n (kindNumber Number)) Number
+    (pickKind (eqb n (kindNumber String)) String
+    (pickKind (eqb n (kindNumber Array)) Array
+    (pickKind (eqb n (kindNumber Object)) Object Null)))))
 
 -- rows of these kinds can have children
 abbrev pub holdsChildren : RowKind → Bool

@@ -1,7 +1,7 @@
 // The kinds of a record row, their numbers and the bounds of a number. These numbers stand here and
 // nowhere else in the code; `specs/Kinds.antt` has 01's.
 ghost use mathlib.Core.Path.{_≡_};
-ghost use Rattle.sheet.specs.Kinds.{numberOf, isKind, kindOf, holdsChildren, isObjectKind, numberOk};
+ghost use Rattle.sheet.specs.Kinds.{kindNumber, isKind, kindOf, holdsChildren, isObjectKind, numberOk};
 use decimal::Decimal;
 
 pub enum RowKind {
@@ -56,7 +56,7 @@ impl RowKind {
 
     // 01's number of the kind.
     pub fn number(self) -> u32
-        ensures { λ r. ⌜ r ≡ numberOf self ⌝ }
+        ensures { λ r. ⌜ r ≡ kindNumber self ⌝ }
     {
         match self {
             RowKind::Null => RowKind::NULL,

@@ -12,7 +12,7 @@ use native.Mathlib.Omega.{arith}
 use Rattle.laws.specs.Lowest.{lowest}
 use Rattle.laws.proofs.Tests.{decide, le-or-lt}
 use Rattle.laws.proofs.Searches.{lowest-is}
-use Rattle.unguarded.specs.Graph.{chain-steps, Chain, any, chain, longest, onLoop, Grounded}
+use Rattle.unguarded.specs.Graph.{chain-steps, Chain, someOf, chain, longest, onLoop, Grounded}
 use Rattle.unguarded.specs.Places.{loopPlace, chainPlace}
 use Rattle.unguarded.proofs.Lists.{any-in, not-both}
 use Rattle.unguarded.proofs.Paths.{is-chain, fewer, loop-chain, longest-low, longest-yes, longest-no}
@@ -73,7 +73,7 @@ module _ (next : ℕ → List ℕ) where
         (le-or-lt k j)
 
   no-step : (k s : ℕ) → 0 < k → next s ≡ [] → chain next k s ≡ false
-  unfolding chain any
+  unfolding chain someOf
   no-step zero s h e = absurd (omega arith)
   no-step (suc k) s h e = rw e
 

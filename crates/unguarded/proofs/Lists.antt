@@ -16,7 +16,7 @@ use native.Mathlib.Omega.{arith}
 use lib.ListN.{length, getD, take}
 use lib.Seq.{take-suc}
 use Rattle.laws.proofs.Tests.{either}
-use Rattle.unguarded.specs.Graph.{any}
+use Rattle.unguarded.specs.Graph.{someOf}
 
 -- ---- tests
 
@@ -55,13 +55,13 @@ empty-none (y ∷ xs) e i = omega arith
 -- ---- some number passes
 
 module _ (test : ℕ → Bool) where
-  pub any-in : {x : ℕ} {xs : List ℕ} → In x xs → test x ≡ true → any test xs ≡ true
-  unfolding any
+  pub any-in : {x : ℕ} {xs : List ℕ} → In x xs → test x ≡ true → someOf test xs ≡ true
+  unfolding someOf
   any-in (at-head e) t = rw (← e, t)
   any-in (in-tail m) t = rw (any-in m t, or-true)
 
-  pub any-out : (xs : List ℕ) → any test xs ≡ true → (x : ℕ) × (In x xs × (test x ≡ true))
-  unfolding any
+  pub any-out : (xs : List ℕ) → someOf test xs ≡ true → (x : ℕ) × (In x xs × (test x ≡ true))
+  unfolding someOf
   any-out [] t = absurd (false≢true t)
   any-out (x ∷ xs) t =
-      ⊎-elim (λ h. (x, (at-head refl, h))) (λ h. let r = any-out xs h in (r .0, (in-tail (r .1 .0), r .1 .1))) (either (test x) (any test xs) t)
+      ⊎-elim (λ h. (x, (at-head refl, h))) (λ h. let r = any-out xs h in (r .0, (in-tail (r .1 .0), r .1 .1))) (either (test x) (someOf test xs) t)

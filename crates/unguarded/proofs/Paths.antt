@@ -16,7 +16,7 @@ use native.Mathlib.Omega.{arith}
 use lib.Dec.{eqb}
 use borrow.Author.Tests.{eqb-true, eq-eqb}
 use Rattle.laws.proofs.Tests.{left, right, either}
-use Rattle.unguarded.specs.Graph.{Path, here, step, Reached, OnLoop, Chain, any, chain, via, longest}
+use Rattle.unguarded.specs.Graph.{Path, here, step, Reached, OnLoop, Chain, someOf, chain, via, longest}
 use Rattle.unguarded.proofs.Lists.{any-in, any-out}
 
 module _ (next : ℕ → List ℕ) where
@@ -35,7 +35,7 @@ module _ (next : ℕ → List ℕ) where
 
   -- ---- by way of the schemas below k
 
-  edge-in : (s t : ℕ) → any (eqb t) (next s) ≡ true → In t (next s)
+  edge-in : (s t : ℕ) → someOf (eqb t) (next s) ≡ true → In t (next s)
   edge-in s t e = let r = any-out (eqb t) (next s) e in cast (eqb-true t (r .0) (r .1 .1)) (r .1 .0)
 
   pub via-reached : (k s t : ℕ) → via next k s t ≡ true → Reached next s t

@@ -7,7 +7,7 @@ use mathlib.Core.Path.{_≡_, refl}
 use Prim.Native.Nat.{ℕ, suc}
 use lib.Dec.{eqb, ltb}
 use Rattle.laws.specs.Lowest.{lowestFrom}
-use Rattle.unguarded.specs.Graph.{any, chain, via, onLoop}
+use Rattle.unguarded.specs.Graph.{someOf, chain, via, onLoop}
 use Rattle.unguarded.specs.Places.{loopPlace, chainPlace}
 
 -- only schema s has a step: to itself
@@ -15,11 +15,11 @@ abbrev toItself : ℕ → ℕ → List ℕ
 toItself s u = cond (eqb u s) (s ∷ []) []
 
 pub sample9 : loopPlace 1 (toItself 0) ≡ 0
-unfolding any via onLoop lowestFrom
+unfolding someOf via onLoop lowestFrom
 sample9 = refl
 
 pub sample10 : loopPlace 2 (toItself 1) ≡ 1
-unfolding any via onLoop lowestFrom
+unfolding someOf via onLoop lowestFrom
 sample10 = refl
 
 -- a chain from schema 0 to schema n
@@ -27,9 +27,9 @@ abbrev upTo : ℕ → ℕ → List ℕ
 upTo n u = cond (ltb u n) (suc u ∷ []) []
 
 pub chain-of-33 : chainPlace 33 (upTo 32) ≡ 0
-unfolding any chain lowestFrom
+unfolding someOf chain lowestFrom
 chain-of-33 = refl
 
 pub chain-of-32 : chainPlace 32 (upTo 31) ≡ 32
-unfolding any chain lowestFrom
+unfolding someOf chain lowestFrom
 chain-of-32 = refl

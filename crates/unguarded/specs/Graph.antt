@@ -34,19 +34,19 @@ Chain next k s = (t : ℕ) × Path next t k s
 -- ---- the same, computed
 
 -- one of the numbers passes the test
-unfoldable pub any : (ℕ → Bool) → List ℕ → Bool
-any test [] = false
-any test (x ∷ xs) = test x || any test xs
+unfoldable pub someOf : (ℕ → Bool) → List ℕ → Bool
+someOf test [] = false
+someOf test (x ∷ xs) = test x || someOf test xs
 
 module _ (next : ℕ → List ℕ) where
   -- a chain of k steps starts at s
   unfoldable pub chain : ℕ → ℕ → Bool
   chain zero s = true
-  chain (suc k) s = any (chain k) (next s)
+  chain (suc k) s = someOf (chain k) (next s)
 
   -- t is reached from s by way of schemas below k alone
   unfoldable pub via : ℕ → ℕ → ℕ → Bool
-  via zero s t = any (eqb t) (next s)
+  via zero s t = someOf (eqb t) (next s)
   via (suc k) s t = via k s t || via k s k && via k k t
 
   -- the steps of the longest chain that starts at s, of those with at most k steps

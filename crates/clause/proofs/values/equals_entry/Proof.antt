@@ -1,7 +1,7 @@
 -- `equals_entry` meets its contract: by the two kinds, and then by numbers or bytes. Assumes nothing.
 use mathlib.Core.Path.{sym, ap, _∙_}
 use borrow.Author.Tests.{eq-eqb}
-use Rattle.sheet.specs.Kinds.{numberOf}
+use Rattle.sheet.specs.Kinds.{kindNumber}
 use Rattle.clause.proofs.Having.{number-found, bytes-found, string-in}
 use Rattle.clause.proofs.Equality.{kinds-differ, numbers-same, strings-same, kinds-same, entry-kind, entry-number, entry-plain, entry-bytes, entry-fits}
 use borrow.Author.Needs.{needs}
@@ -17,7 +17,7 @@ number-requires c κs = search needs
 returns : tie.Need-returns
 returns c =
     let start = c .before .before .before .before .before .before .before in
-    kinds-differ _ _ _ _ (c .before .before .number .ensures ∙ ap numberOf (c .before .before .before .kind-of .ensures (start .args .text .now))) (entry-kind (start .args .rule-text .now) (start .args .entry) (start .pre .1)) (c .if1 .taken)
+    kinds-differ _ _ _ _ (c .before .before .number .ensures ∙ ap kindNumber (c .before .before .before .kind-of .ensures (start .args .text .now))) (entry-kind (start .args .rule-text .now) (start .args .entry) (start .pre .1)) (c .if1 .taken)
 
 of-word-requires : tie.Need-of-word-requires
 of-word-requires c κs = search needs
@@ -28,12 +28,12 @@ number-of-requires c κs = search needs
 equal-requires : tie.Need-equal-requires
 equal-requires c κs =
     let start = c .before .before .before .before .before .before .before .before .before .before in
-    (number-found _ _ (eq-eqb _ _ (sym (c .before .before .before .before .before .number .ensures ∙ ap numberOf (c .before .before .before .before .before .before .kind-of .ensures (start .args .text .now))) ∙ c .before .before .if2 .taken)) (c .number-of .ensures .number-is (start .args .text .now)) (c .number-of .ensures .number-plain (start .args .text .now)) .plain, entry-plain (start .args .rule-text .now) (start .args .entry) (start .pre .1) _ (sym (c .before .before .before .if1 .left) ∙ c .before .before .if2 .taken) (c .before .of-word .ensures))
+    (number-found _ _ (eq-eqb _ _ (sym (c .before .before .before .before .before .number .ensures ∙ ap kindNumber (c .before .before .before .before .before .before .kind-of .ensures (start .args .text .now))) ∙ c .before .before .if2 .taken)) (c .number-of .ensures .number-is (start .args .text .now)) (c .number-of .ensures .number-plain (start .args .text .now)) .plain, entry-plain (start .args .rule-text .now) (start .args .entry) (start .pre .1) _ (sym (c .before .before .before .if1 .left) ∙ c .before .before .if2 .taken) (c .before .of-word .ensures))
 
 returns-2 : tie.Need-returns-2
 returns-2 c =
     let start = c .before .before .before .before .before .before .before .before .before .before .before in
-    numbers-same _ _ _ _ (c .before .before .before .before .before .before .number .ensures ∙ ap numberOf (c .before .before .before .before .before .before .before .kind-of .ensures (start .args .text .now))) (entry-kind (start .args .rule-text .now) (start .args .entry) (start .pre .1)) (c .before .before .before .before .if1 .left) _ _ _ (c .equal .ensures) (c .before .before .before .if2 .taken) (number-found _ _ (eq-eqb _ _ (sym (c .before .before .before .before .before .before .number .ensures ∙ ap numberOf (c .before .before .before .before .before .before .before .kind-of .ensures (start .args .text .now))) ∙ c .before .before .before .if2 .taken)) (c .before .number-of .ensures .number-is (start .args .text .now)) (c .before .number-of .ensures .number-plain (start .args .text .now)) .number-is) (entry-number (start .args .rule-text .now) (start .args .entry) (start .pre .1) _ (sym (c .before .before .before .before .if1 .left) ∙ c .before .before .before .if2 .taken) (c .before .before .of-word .ensures))
+    numbers-same _ _ _ _ (c .before .before .before .before .before .before .number .ensures ∙ ap kindNumber (c .before .before .before .before .before .before .before .kind-of .ensures (start .args .text .now))) (entry-kind (start .args .rule-text .now) (start .args .entry) (start .pre .1)) (c .before .before .before .before .if1 .left) _ _ _ (c .equal .ensures) (c .before .before .before .if2 .taken) (number-found _ _ (eq-eqb _ _ (sym (c .before .before .before .before .before .before .number .ensures ∙ ap kindNumber (c .before .before .before .before .before .before .before .kind-of .ensures (start .args .text .now))) ∙ c .before .before .before .if2 .taken)) (c .before .number-of .ensures .number-is (start .args .text .now)) (c .before .number-of .ensures .number-plain (start .args .text .now)) .number-is) (entry-number (start .args .rule-text .now) (start .args .entry) (start .pre .1) _ (sym (c .before .before .before .before .if1 .left) ∙ c .before .before .before .if2 .taken) (c .before .before .of-word .ensures))
 
 string-of-requires : tie.Need-string-of-requires
 string-of-requires c κs = search needs
@@ -41,17 +41,17 @@ string-of-requires c κs = search needs
 same-part-requires : tie.Need-same-part-requires
 same-part-requires c κs =
     let start = c .before .before .before .before .before .before .before .before .before .before in
-    (rw (start .pre .0 .0 .text-length) (string-in (c .string-of .ensures) (start .args .text .now) (eq-eqb _ _ (sym (c .before .before .before .before .before .number .ensures ∙ ap numberOf (c .before .before .before .before .before .before .kind-of .ensures (start .args .text .now))) ∙ c .before .if3 .taken))), entry-fits (start .args .rule-text .now) (start .args .entry) (start .pre .1) (sym (c .before .before .before .if1 .left) ∙ c .before .if3 .taken))
+    (rw (start .pre .0 .0 .text-length) (string-in (c .string-of .ensures) (start .args .text .now) (eq-eqb _ _ (sym (c .before .before .before .before .before .number .ensures ∙ ap kindNumber (c .before .before .before .before .before .before .kind-of .ensures (start .args .text .now))) ∙ c .before .if3 .taken))), entry-fits (start .args .rule-text .now) (start .args .entry) (start .pre .1) (sym (c .before .before .before .if1 .left) ∙ c .before .if3 .taken))
 
 returns-3 : tie.Need-returns-3
 returns-3 c =
     let start = c .before .before .before .before .before .before .before .before .before .before .before in
-    strings-same _ _ _ _ (c .before .before .before .before .before .before .number .ensures ∙ ap numberOf (c .before .before .before .before .before .before .before .kind-of .ensures (start .args .text .now))) (entry-kind (start .args .rule-text .now) (start .args .entry) (start .pre .1)) (c .before .before .before .before .if1 .left) _ _ _ (c .same-part .ensures) (c .before .before .if3 .taken) (bytes-found _ _ (eq-eqb _ _ (sym (c .before .before .before .before .before .before .number .ensures ∙ ap numberOf (c .before .before .before .before .before .before .before .kind-of .ensures (start .args .text .now))) ∙ c .before .before .if3 .taken)) (c .before .string-of .ensures .string-is (start .args .text .now))) (entry-bytes (start .args .rule-text .now) (start .args .entry) (start .pre .1) (sym (c .before .before .before .before .if1 .left) ∙ c .before .before .if3 .taken))
+    strings-same _ _ _ _ (c .before .before .before .before .before .before .number .ensures ∙ ap kindNumber (c .before .before .before .before .before .before .before .kind-of .ensures (start .args .text .now))) (entry-kind (start .args .rule-text .now) (start .args .entry) (start .pre .1)) (c .before .before .before .before .if1 .left) _ _ _ (c .same-part .ensures) (c .before .before .if3 .taken) (bytes-found _ _ (eq-eqb _ _ (sym (c .before .before .before .before .before .before .number .ensures ∙ ap kindNumber (c .before .before .before .before .before .before .before .kind-of .ensures (start .args .text .now))) ∙ c .before .before .if3 .taken)) (c .before .string-of .ensures .string-is (start .args .text .now))) (entry-bytes (start .args .rule-text .now) (start .args .entry) (start .pre .1) (sym (c .before .before .before .before .if1 .left) ∙ c .before .before .if3 .taken))
 
 returns-4 : tie.Need-returns-4
 returns-4 c =
     let start = c .before .before .before .before .before .before .before .before .before in
-    kinds-same _ _ _ _ (c .before .before .before .before .number .ensures ∙ ap numberOf (c .before .before .before .before .before .kind-of .ensures (start .args .text .now))) (entry-kind (start .args .rule-text .now) (start .args .entry) (start .pre .1)) (c .before .before .if1 .left) (c .before .if2 .left) (c .if3 .left)
+    kinds-same _ _ _ _ (c .before .before .before .before .number .ensures ∙ ap kindNumber (c .before .before .before .before .before .kind-of .ensures (start .args .text .now))) (entry-kind (start .args .rule-text .now) (start .args .entry) (start .pre .1)) (c .before .before .if1 .left) (c .before .if2 .left) (c .if3 .left)
 
 pub equals-entry-spec : {M : Type 1} → statement M
 equals-entry-spec =

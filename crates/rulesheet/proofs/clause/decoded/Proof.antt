@@ -2,7 +2,7 @@
 use mathlib.Core.Logic.{inl, inr}
 use mathlib.Core.Path.{refl, sym, ap, _∙_}
 use Rattle.rulesheet.specs.Ruleset.{asserts, minimum, maximum, exclusiveMinimum, exclusiveMaximum, multipleOf}
-use Rattle.rulesheet.specs.Codes.{Line, lineIn}
+use Rattle.rulesheet.specs.Codes.{CodeLine, lineIn}
 use Rattle.rulesheet.specs.Sheet.{partsOf}
 use Rattle.rulesheet.proofs.Lines.{line-past, line-none}
 use Rattle.rulesheet.proofs.Meanings.{decodes}
@@ -134,7 +134,7 @@ returns-27 c =
     let a = c .before .args in
     let r = c .match .rest in
     record {
-      means = λ ws ts. sym (ap (λ (l : Line). l .means (partsOf ws ts (a .first) (a .count))) (line-past _ _ _ (r .0 .0 .0 .0 .0 .0 .0 .0 .0 .0 .0 .0 .0 .0 .0 .0 .0 .0 .0 .0 .0 .0 .0 .0 .0 .1) ∙ line-past _ _ _ (r .0 .0 .0 .0 .0 .0 .0 .0 .0 .0 .0 .0 .0 .0 .0 .0 .0 .0 .0 .0 .0 .0 .0 .0 .1) ∙ line-past _ _ _ (r .0 .0 .0 .0 .0 .0 .0 .0 .0 .0 .0 .0 .0 .0 .0 .0 .0 .0 .0 .0 .0 .0 .0 .1) ∙ line-past _ _ _ (r .0 .0 .0 .0 .0 .0 .0 .0 .0 .0 .0 .0 .0 .0 .0 .0 .0 .0 .0 .0 .0 .0 .1) ∙ line-past _ _ _ (r .0 .0 .0 .0 .0 .0 .0 .0 .0 .0 .0 .0 .0 .0 .0 .0 .0 .0 .0 .0 .0 .1) ∙ line-past _ _ _ (r .0 .0 .0 .0 .0 .0 .0 .0 .0 .0 .0 .0 .0 .0 .0 .0 .0 .0 .0 .0 .1) ∙ line-past _ _ _ (r .0 .0 .0 .0 .0 .0 .0 .0 .0 .0 .0 .0 .0 .0 .0 .0 .0 .0 .0 .1) ∙ line-past _ _ _ (r .0 .0 .0 .0 .0 .0 .0 .0 .0 .0 .0 .0 .0 .0 .0 .0 .0 .0 .1) ∙ line-past _ _ _ (r .0 .0 .0 .0 .0 .0 .0 .0 .0 .0 .0 .0 .0 .0 .0 .0 .0 .1) ∙ line-past _ _ _ (r .0 .0 .0 .0 .0 .0 .0 .0 .0 .0 .0 .0 .0 .0 .0 .0 .1) ∙ line-past _ _ _ (r .0 .0 .0 .0 .0 .0 .0 .0 .0 .0 .0 .0 .0 .0 .0 .1) ∙ line-past _ _ _ (r .0 .0 .0 .0 .0 .0 .0 .0 .0 .0 .0 .0 .0 .0 .1) ∙ line-past _ _ _ (r .0 .0 .0 .0 .0 .0 .0 .0 .0 .0 .0 .0 .0 .1) ∙ line-past _ _ _ (r .0 .0 .0 .0 .0 .0 .0 .0 .0 .0 .0 .0 .1) ∙ line-past _ _ _ (r .0 .0 .0 .0 .0 .0 .0 .0 .0 .0 .0 .1) ∙ line-past _ _ _ (r .0 .0 .0 .0 .0 .0 .0 .0 .0 .0 .1) ∙ line-past _ _ _ (r .0 .0 .0 .0 .0 .0 .0 .0 .0 .1) ∙ line-past _ _ _ (r .0 .0 .0 .0 .0 .0 .0 .0 .1) ∙ line-past _ _ _ (r .0 .0 .0 .0 .0 .0 .0 .1) ∙ line-past _ _ _ (r .0 .0 .0 .0 .0 .0 .1) ∙ line-past _ _ _ (r .0 .0 .0 .0 .0 .1) ∙ line-past _ _ _ (r .0 .0 .0 .0 .1) ∙ line-past _ _ _ (r .0 .0 .0 .1) ∙ line-past _ _ _ (r .0 .0 .1) ∙ line-past _ _ _ (r .0 .1) ∙ line-past _ _ _ (r .1) ∙ line-none _));
+      means = λ ws ts. sym (ap (λ (l : CodeLine). l .means (partsOf ws ts (a .first) (a .count))) (line-past _ _ _ (r .0 .0 .0 .0 .0 .0 .0 .0 .0 .0 .0 .0 .0 .0 .0 .0 .0 .0 .0 .0 .0 .0 .0 .0 .0 .1) ∙ line-past _ _ _ (r .0 .0 .0 .0 .0 .0 .0 .0 .0 .0 .0 .0 .0 .0 .0 .0 .0 .0 .0 .0 .0 .0 .0 .0 .1) ∙ line-past _ _ _ (r .0 .0 .0 .0 .0 .0 .0 .0 .0 .0 .0 .0 .0 .0 .0 .0 .0 .0 .0 .0 .0 .0 .0 .1) ∙ line-past _ _ _ (r .0 .0 .0 .0 .0 .0 .0 .0 .0 .0 .0 .0 .0 .0 .0 .0 .0 .0 .0 .0 .0 .0 .1) ∙ line-past _ _ _ (r .0 .0 .0 .0 .0 .0 .0 .0 .0 .0 .0 .0 .0 .0 .0 .0 .0 .0 .0 .0 .0 .1) ∙ line-past _ _ _ (r .0 .0 .0 .0 .0 .0 .0 .0 .0 .0 .0 .0 .0 .0 .0 .0 .0 .0 .0 .0 .1) ∙ line-past _ _ _ (r .0 .0 .0 .0 .0 .0 .0 .0 .0 .0 .0 .0 .0 .0 .0 .0 .0 .0 .0 .1) ∙ line-past _ _ _ (r .0 .0 .0 .0 .0 .0 .0 .0 .0 .0 .0 .0 .0 .0 .0 .0 .0 .0 .1) ∙ line-past _ _ _ (r .0 .0 .0 .0 .0 .0 .0 .0 .0 .0 .0 .0 .0 .0 .0 .0 .0 .1) ∙ line-past _ _ _ (r .0 .0 .0 .0 .0 .0 .0 .0 .0 .0 .0 .0 .0 .0 .0 .0 .1) ∙ line-past _ _ _ (r .0 .0 .0 .0 .0 .0 .0 .0 .0 .0 .0 .0 .0 .0 .0 .1) ∙ line-past _ _ _ (r .0 .0 .0 .0 .0 .0 .0 .0 .0 .0 .0 .0 .0 .0 .1) ∙ line-past _ _ _ (r .0 .0 .0 .0 .0 .0 .0 .0 .0 .0 .0 .0 .0 .1) ∙ line-past _ _ _ (r .0 .0 .0 .0 .0 .0 .0 .0 .0 .0 .0 .0 .1) ∙ line-past _ _ _ (r .0 .0 .0 .0 .0 .0 .0 .0 .0 .0 .0 .1) ∙ line-past _ _ _ (r .0 .0 .0 .0 .0 .0 .0 .0 .0 .0 .1) ∙ line-past _ _ _ (r .0 .0 .0 .0 .0 .0 .0 .0 .0 .1) ∙ line-past _ _ _ (r .0 .0 .0 .0 .0 .0 .0 .0 .1) ∙ line-past _ _ _ (r .0 .0 .0 .0 .0 .0 .0 .1) ∙ line-past _ _ _ (r .0 .0 .0 .0 .0 .0 .1) ∙ line-past _ _ _ (r .0 .0 .0 .0 .0 .1) ∙ line-past _ _ _ (r .0 .0 .0 .0 .1) ∙ line-past _ _ _ (r .0 .0 .0 .1) ∙ line-past _ _ _ (r .0 .0 .1) ∙ line-past _ _ _ (r .0 .1) ∙ line-past _ _ _ (r .1) ∙ line-none _));
       holds = tt;
     }
 

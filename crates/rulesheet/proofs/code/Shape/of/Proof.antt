@@ -5,7 +5,7 @@ use Prim.Native.Nat.{ℕ}
 use native.Mathlib.Omega.{arith}
 use Rattle.rulesheet.specs.declared.code.Shape.{Shape}
 use Rattle.rulesheet.specs.declared.code.Fields.the-variants.{Number, Limit, Schema, Schemas}
-use Rattle.rulesheet.specs.Codes.{Line, codes, unknown, lineIn, shapeOf, guardedShape, inPlaceShape}
+use Rattle.rulesheet.specs.Codes.{CodeLine, codes, unknown, lineIn, shapeOf, guardedShape, inPlaceShape}
 use Rattle.rulesheet.proofs.Lines.{Each, each-at, below-ten, past-fourteen, past-twenty-six, past-thirty-four, past-sixty-one}
 use borrow.Author.Needs.{needs}
 use Rattle.rulesheet.proofs.code.Shape.of.Statement.{statement}
@@ -115,7 +115,7 @@ returns-12 c =
     (λ w. past-sixty-one code (w .4 .left) (s .fits .code .fits)))))
     (c .before .if1 .came)
     in
-    c .guarded10 .ensures ∙ sym (ap (λ (l : Line). l .shape) none)
+    c .guarded10 .ensures ∙ sym (ap (λ (l : CodeLine). l .shape) none)
 
 returns-13 : tie.Need-returns-13
 unfolding lineIn Each
