@@ -1,4 +1,4 @@
 pub mod Graph
 pub mod Places
-pub mod Lengths
 pub mod Worklist
+pub mod Lengths

@@ -1,7 +1,7 @@
 // Refusals 8 and 9 of a rule sheet whose layout is accepted: unguarded loops, and unguarded chains
 // that are too long.
 //
-// Its contracts cite specs/, in reading order: `Graph`, `Places`, `Lengths`, `Worklist`.
+// Its contracts cite specs/, in reading order: `Graph`, `Places`, `Worklist`, `Lengths`.
 pub mod chains;
 pub mod loops;
 
