@@ -121,24 +121,24 @@ pub record Walk (place : ℕ → ℕ) (p : ℕ) (hit : ℕ → Type 0) (i c : �
   pub at : 0 < c → place (c - 1) ≡ p
   pub passed : (k : ℕ) → c ≤ k → k < i → hit k → ⊥
 
-pub begin : (place : ℕ → ℕ) (p : ℕ) (hit : ℕ → Type 0) (i c : ℕ) → ((k : ℕ) → k < i → hit k → place k ≡ p) → c ≡ latest place p i
-    → Walk place p hit i c
-begin place p hit i c there e =
+pub begin : {place : ℕ → ℕ} {p : ℕ} {hit : ℕ → Type 0} {i c head : ℕ} → ((k : ℕ) → k < i → hit k → place k ≡ p)
+    → c ≡ head → head ≡ latest place p i → Walk place p hit i c
+begin {place} {p} {hit} {i} there q e =
     record {
       within = omega (arith, latest-le place p i);
       there = there;
-      at = rw e (latest-at place p i);
+      at = rw (q, e) (latest-at place p i);
       passed = λ k low high h. latest-none place p i k (omega arith) high (there k high h);
     }
 
-pub shorter : (place : ℕ → ℕ) (p : ℕ) {c d : ℕ} → 0 < c → d ≡ latest place p (c - 1) → d < c
-shorter place p {c} some e = omega (arith, latest-le place p (c - 1))
+pub shorter : (place : ℕ → ℕ) (p : ℕ) {c d next : ℕ} → 0 < c → d ≡ next → next ≡ latest place p (c - 1) → d < c
+shorter place p {c} some q e = omega (arith, latest-le place p (c - 1))
 
 module _ {place : ℕ → ℕ} {p : ℕ} {hit : ℕ → Type 0} {i c : ℕ} (w : Walk place p hit i c) where
   -- the name before is none, and is passed
-  pub on : (d : ℕ) → 0 < c → (hit (c - 1) → ⊥) → d ≡ latest place (place (c - 1)) (c - 1) → Walk place p hit i d
-  on d some miss e =
-      let q : d ≡ latest place p (c - 1) = e ∙ rw (w .at some) in
+  pub on : {d next : ℕ} → 0 < c → (hit (c - 1) → ⊥) → d ≡ next → next ≡ latest place (place (c - 1)) (c - 1) → Walk place p hit i d
+  on {d} some miss l e =
+      let q : d ≡ latest place p (c - 1) = l ∙ e ∙ rw (w .at some) in
       record {
         within = omega (arith, latest-le place p (c - 1));
         there = w .there;

@@ -1,6 +1,7 @@
 -- Ways of names from their roots, and where they lead.
 --     fork-one          two names part at one place
 --     way-on, way-wider a way with one step more, and over more names
+--     told-not, told-by what is read tells whether a name leads on
 --     one-leads         one name at most leads on
 --     From, together    such a name agrees with x up to where they are compared from
 --     Seeking           what holds where the way of name i has come to a node with a mark
@@ -12,13 +13,20 @@ use mathlib.Core.Path.{_≡_, refl, sym, ap, _∙_}
 use Prim.Native.Nat.{ℕ, _+_, _-_, _≤_, _<_}
 use native.Mathlib.Nat.{eq-or-lt-of-le, add-left-cancel}
 use native.Mathlib.Omega.{arith}
+use lib.Dec.{eqb}
 use lib.ListN.{length, getD}
 use lib.Seq.{ext-getD}
-use borrow.Author.Tests.{lt-ltb}
+use borrow.Author.Tests.{lt-ltb, eqb-true, eqb-false}
 use Rattle.laws.proofs.Tests.{le-or-lt}
 use Rattle.text.specs.Words.{Alike, Agreed}
 use Rattle.text.proofs.Alike.{none, join}
-use Rattle.names.specs.Tree.{letterOf, placeOf, placeAt, rootOf, printOf, Forked, Leads, Way, stay, go, Reached, Free, Stand, Child, Spotted}
+use Rattle.names.specs.declared.way.Spot.{Spot}
+use Rattle.names.specs.Names.{repeatsBy}
+use Rattle.names.specs.Tree.{letterOf, placeOf, placeAt, rootOf, printOf, Forked, Leads, Told, Way, stay, go, Reached, Free, Stand, Child, Spotted}
+use Rattle.names.proofs.Repeats.{repeats-here, repeats-not}
+
+never : false ≡ true → ⊥
+never e = let z : _≡_ {A = ℕ} 0 1 = cc in omega arith
 
 -- ---- two names that part
 
@@ -63,6 +71,18 @@ module _ {places : ℕ} {name : ℕ → List ℕ} {nodes marks : List ℕ} where
   way-wider j h (go d n g k e w) = go d n (omega arith) k e (way-wider j h w)
 
   -- ---- names that lead on
+
+  pub told-not : {node mark letter c : ℕ} → (Leads places name nodes marks node mark letter c → ⊥)
+      → Told places name nodes marks node mark letter c false
+  told-not miss = record { hit = λ e. absurd (never e); miss = λ e. miss }
+
+  pub told-by : {node mark letter c read : ℕ} → getD nodes c 0 ≡ node → getD marks c 0 ≡ mark → read ≡ letterOf places node mark (name c)
+      → Told places name nodes marks node mark letter c (eqb read letter)
+  told-by {letter = letter} {read = read} p q e =
+      record {
+        hit = λ t. record { under = p; marked = q; lettered = sym e ∙ eqb-true read letter t };
+        miss = λ f l. eqb-false read letter f (e ∙ l .lettered);
+      }
 
   pub leads-place : {node mark letter c : ℕ} → Leads places name nodes marks node mark letter c
       → placeAt places nodes c ≡ placeOf places node
@@ -193,9 +213,6 @@ module _ {places : ℕ} {name : ℕ → List ℕ} {nodes marks : List ℕ} {i : 
             ahead = λ k l e. turn l e (g .ahead k l e) refl refl;
           }
 
-never : false ≡ true → ⊥
-never e = let z : _≡_ {A = ℕ} 0 1 = cc in omega arith
-
 module _ {places : ℕ} {name : ℕ → List ℕ} {nodes marks : List ℕ} {i node mark : ℕ} where
   pub spotted-same : (k : ℕ) → k < i → name k ≡ name i
       → Spotted places name nodes marks i (record { same = true; node = node; mark = mark })
@@ -210,6 +227,13 @@ module _ {places : ℕ} {name : ℕ → List ℕ} {nodes marks : List ℕ} {i no
         free = λ f. record { reached = g .reached; alone = alone };
         fresh = λ f. fresh s g alone;
       }
+
+module _ {places : ℕ} {name : ℕ → List ℕ} {nodes marks : List ℕ} {i : ℕ} {spot : Spot} (t : Spotted places name nodes marks i spot) where
+  pub spot-same : spot .same ≡ true → repeatsBy name i ≡ true
+  spot-same e = let found = t .same e in repeats-here name i (found .0) (found .1) (found .2)
+
+  pub spot-fresh : spot .same ≡ false → repeatsBy name i ≡ false
+  spot-fresh e = repeats-not name i (t .fresh e)
 
 -- a name leads name i on, and the two are compared
 module _ {places : ℕ} {name : ℕ → List ℕ} {nodes marks : List ℕ} {i node mark from r : ℕ} (s : Stand places name nodes marks i)

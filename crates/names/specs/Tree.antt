@@ -15,7 +15,7 @@ use lib.Dec.{eqb, ltb}
 use lib.ListN.{length, getD, set}
 use Rattle.text.specs.Words.{Alike}
 use Rattle.text.specs.Fingerprint.{fingerprintOf}
-use Rattle.names.specs.declared.tables.Spot.{Spot}
+use Rattle.names.specs.declared.way.Spot.{Spot}
 
 -- the most places of a table
 abbrev pub places-max : ℕ

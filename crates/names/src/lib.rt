@@ -11,6 +11,7 @@ use crate::tables::first_in_tables;
 use text::Range;
 
 pub mod tables;
+pub mod way;
 
 // Up to so many names are told apart by their signs.
 const FEW: usize = 16;

@@ -8,7 +8,7 @@ use borrow.Author.Needs.{needs}
 use Rattle.laws.proofs.Passing.{Passing, begin, here, further, nowhere}
 use Rattle.names.specs.Names.{nameAt, repeatsAt, Lying}
 use Rattle.names.specs.Tree.{Standing}
-use Rattle.names.proofs.Repeats.{repeats-here, repeats-not}
+use Rattle.names.proofs.Ways.{spot-same, spot-fresh}
 use Rattle.names.proofs.Growing.{standing-none, standing-more}
 use Rattle.names.proofs.tables.first_among.Statement.{statement}
 use Rattle.names.proofs.tables.first_among.Tie as tie
@@ -48,8 +48,7 @@ same-length-4 c = search needs
 
 returns : tie.Need-returns Inv-loop μ-loop
 returns c =
-    let found = c .before .spot-of .ensures .same (c .if1 .taken) in
-    here (c .before .before .before .before .before .before .before .loop .inv .0) (omega arith) (repeats-here _ _ (found .0) (found .1) (found .2))
+    here (c .before .before .before .before .before .before .before .loop .inv .0) (omega arith) (spot-same (c .before .spot-of .ensures) (c .if1 .taken))
 
 put-requires : tie.Need-put-requires Inv-loop μ-loop
 put-requires c κs =
@@ -72,7 +71,7 @@ loop-again c =
     let back = c .before .before .before .before .before .before .before .before in
     let left = back .before .before .before .before .before in
     let inv = left .before .before .before .before .before .before .before .loop .inv in (
-      further (inv .0) (omega arith) (repeats-not _ _ (left .before .spot-of .ensures .fresh (left .if1 .left))),
+      further (inv .0) (omega arith) (spot-fresh (left .before .spot-of .ensures) (left .if1 .left)),
       standing-more (inv .1) (omega arith) (left .before .spot-of .ensures .free (left .if1 .left)) (back .put .ensures),
       inv .2,
       c .before .before .before .before .before .before .before .heads .given ∙ inv .3,

@@ -1,4 +1,4 @@
--- `names::tables::spot_of` meets its contract. The loop's invariant: each earlier name that is the same stands at the node or further on, and
+-- `names::way::spot_of` meets its contract. The loop's invariant: each earlier name that is the same stands at the node or further on, and
 -- the next comparison may start at `from`. The node rises, since a name stands under an earlier one. Assumes nothing.
 use mathlib.Core.Path.{_≡_, refl, sym, _∙_}
 use Prim.Native.Nat.{ℕ, _+_, _-_, _≤_, _<_}
@@ -8,8 +8,8 @@ use Rattle.names.specs.Names.{nameAt, Lying}
 use Rattle.names.specs.Tree.{rootOf, printOf, Standing}
 use Rattle.names.proofs.Repeats.{name-small}
 use Rattle.names.proofs.Ways.{Seeking, From, begin, spotted-free, met, met-below, met-above, met-same, met-on}
-use Rattle.names.proofs.tables.spot_of.Statement.{statement}
-use Rattle.names.proofs.tables.spot_of.Tie as tie
+use Rattle.names.proofs.way.spot_of.Statement.{statement}
+use Rattle.names.proofs.way.spot_of.Tie as tie
 
 abbrev Inv-loop : tie.InvT-loop
 Inv-loop words text names heads next nodes marks i places name print node₀ mark₀ from₀ node mark from =

@@ -1,11 +1,11 @@
--- `names::tables::scaled` meets its contract: a part of the places that is below one of all. Assumes nothing.
+-- `names::way::scaled` meets its contract: a part of the places that is below one of all. Assumes nothing.
 use mathlib.Core.Path.{refl}
 use Prim.Native.Nat.{ℕ, _*_, _/_, _≤_, _<_}
 use native.Mathlib.Nat.{mul-le-mul-left, mul-lt-mul-of-pos-right, mul-comm, div-lt-iff-lt-mul}
 use native.Mathlib.Omega.{arith}
 use lib.Dec.{lit<}
-use Rattle.names.proofs.tables.scaled.Statement.{statement}
-use Rattle.names.proofs.tables.scaled.Tie as tie
+use Rattle.names.proofs.way.scaled.Statement.{statement}
+use Rattle.names.proofs.way.scaled.Tie as tie
 
 small : (number places : ℕ) → number < 4_294_967_296 → places ≤ 8_192 → number * places < 18_446_744_073_709_551_616
 small number places h few = let g = mul-le-mul-left number few in omega arith

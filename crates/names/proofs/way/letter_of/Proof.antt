@@ -1,9 +1,9 @@
--- `names::tables::letter_of` meets its contract. Assumes nothing.
+-- `names::way::letter_of` meets its contract. Assumes nothing.
 use borrow.Author.Needs.{needs}
 use borrow.Author.Tests.{lt-ltb, le-ltb}
 use Rattle.names.specs.Tree.{letterOf}
-use Rattle.names.proofs.tables.letter_of.Statement.{statement}
-use Rattle.names.proofs.tables.letter_of.Tie as tie
+use Rattle.names.proofs.way.letter_of.Statement.{statement}
+use Rattle.names.proofs.way.letter_of.Tie as tie
 
 returns : tie.Need-returns
 unfolding letterOf

@@ -1,15 +1,10 @@
--- `names::tables::leads` meets its contract. Assumes nothing.
-use mathlib.Core.Bool.{true, false}
-use mathlib.Core.Path.{_≡_, sym, _∙_}
-use Prim.Native.Nat.{ℕ}
+-- `names::way::leads` meets its contract. Assumes nothing.
+use mathlib.Core.Path.{sym, _∙_}
 use native.Mathlib.Omega.{arith}
 use borrow.Author.Needs.{needs}
-use borrow.Author.Tests.{eqb-true, eqb-false}
-use Rattle.names.proofs.tables.leads.Statement.{statement}
-use Rattle.names.proofs.tables.leads.Tie as tie
-
-never : false ≡ true → ⊥
-never e = let z : _≡_ {A = ℕ} 0 1 = cc in omega arith
+use Rattle.names.proofs.Ways.{told-not, told-by}
+use Rattle.names.proofs.way.leads.Statement.{statement}
+use Rattle.names.proofs.way.leads.Tie as tie
 
 mul-wide : tie.Need-mul-wide
 mul-wide c = search needs
@@ -21,7 +16,7 @@ wide-requires : tie.Need-wide-requires
 wide-requires c κs = search needs
 
 returns : tie.Need-returns
-returns c = record { hit = λ e. absurd (never e); miss = λ e l. c .if1 .taken (c .before .wide .ensures ∙ l .under) }
+returns c = told-not (λ l. c .if1 .taken (c .before .wide .ensures ∙ l .under))
 
 mul-if2 : tie.Need-mul-if2
 mul-if2 c = search needs
@@ -30,7 +25,7 @@ shared-slice-read-if2 : tie.Need-shared-slice-read-if2
 shared-slice-read-if2 c = search needs
 
 returns-2 : tie.Need-returns-2
-returns-2 c = record { hit = λ e. absurd (never e); miss = λ e l. c .if2 .taken (l .marked) }
+returns-2 c = told-not (λ l. c .if2 .taken (l .marked))
 
 name-at-requires : tie.Need-name-at-requires
 name-at-requires c κs = search needs
@@ -42,16 +37,10 @@ letter-of-requires c κs l =
 
 returns-3 : tie.Need-returns-3
 returns-3 c =
-    let told = rw (c .before .name-at .ensures) at (c .letter-of .ensures) in
-    record {
-      hit = λ e.
-          record {
-            under = sym (c .before .before .before .before .before .wide .ensures) ∙ c .before .before .before .before .if1 .left;
-            marked = c .before .before .if2 .left;
-            lettered = sym told ∙ eqb-true _ _ e;
-          };
-      miss = λ e l. eqb-false _ _ e (told ∙ l .lettered);
-    }
+    told-by
+    (sym (c .before .before .before .before .before .wide .ensures) ∙ c .before .before .before .before .if1 .left)
+    (c .before .before .if2 .left)
+    (rw (c .before .name-at .ensures) at (c .letter-of .ensures))
 
 pub leads-spec : {M : Type 1} → statement M
 leads-spec =

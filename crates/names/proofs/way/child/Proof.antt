@@ -1,4 +1,4 @@
--- `names::tables::child` meets its contract. The loop's invariant: no name of the chain that was passed leads on. Assumes nothing.
+-- `names::way::child` meets its contract. The loop's invariant: no name of the chain that was passed leads on. Assumes nothing.
 use mathlib.Core.Path.{_≡_, sym, _∙_}
 use Prim.Native.Nat.{_<_}
 use native.Mathlib.Omega.{arith}
@@ -6,8 +6,8 @@ use Rattle.names.specs.Names.{nameAt, Lying}
 use Rattle.names.specs.Tree.{letterOf, placeAt, Leads, Standing}
 use Rattle.names.proofs.Chains.{Walk, begin, shorter, on}
 use Rattle.names.proofs.Ways.{leads-place, branch-mark, child-one, child-none}
-use Rattle.names.proofs.tables.child.Statement.{statement}
-use Rattle.names.proofs.tables.child.Tie as tie
+use Rattle.names.proofs.way.child.Statement.{statement}
+use Rattle.names.proofs.way.child.Tie as tie
 
 abbrev Inv-loop : tie.InvT-loop
 Inv-loop words text names heads next nodes marks i node mark places letter place c₀ c =
@@ -45,7 +45,7 @@ loop-holds : tie.Need-loop-holds Inv-loop μ-loop
 loop-holds c =
     let start = c .before .before .before .before .before .before .before .before .before .before .before in
     let place = c .before .before .place-of .ensures in (
-      begin _ _ _ _ _ (λ k h l. leads-place l ∙ sym (place .0)) (c .wide .ensures ∙ start .pre .1 .0 .chains .heads-are _ (place .1)),
+      begin (λ k h l. leads-place l ∙ sym (place .0)) (c .wide .ensures) (start .pre .1 .0 .chains .heads-are _ (place .1)),
       start .pre .0,
       start .pre .1 .0,
       rw (c .before .before .before .before .name-at .ensures) at (c .before .before .before .letter-of .ensures),
@@ -78,13 +78,13 @@ wide-requires-2 c κs = tt
 
 loop-less : tie.Need-loop-less Inv-loop μ-loop
 loop-less c =
-    shorter _ _ (omega arith) (c .wide2 .ensures ∙ c .before .before .before .before .before .loop .inv .2 .chains .next-are _ (omega arith))
+    shorter _ _ (omega arith) (c .wide2 .ensures) (c .before .before .before .before .before .loop .inv .2 .chains .next-are _ (omega arith))
 
 loop-again : tie.Need-loop-again Inv-loop μ-loop
 loop-again c =
     let inv = c .before .before .before .before .before .loop .inv in (
-      on (inv .0) _ (omega arith) (c .before .before .before .leads .ensures .miss (c .before .before .if1 .left))
-          (c .wide2 .ensures ∙ inv .2 .chains .next-are _ (omega arith)),
+      on (inv .0) (omega arith) (c .before .before .before .leads .ensures .miss (c .before .before .if1 .left)) (c .wide2 .ensures)
+          (inv .2 .chains .next-are _ (omega arith)),
       inv .1,
       inv .2,
       inv .3,

@@ -1,9 +1,9 @@
--- `names::tables::place_of` meets its contract. Assumes nothing.
+-- `names::way::place_of` meets its contract. Assumes nothing.
 use native.Mathlib.Omega.{arith}
 use borrow.Author.Tests.{lt-ltb, le-ltb}
 use Rattle.names.specs.Tree.{placeOf}
-use Rattle.names.proofs.tables.place_of.Statement.{statement}
-use Rattle.names.proofs.tables.place_of.Tie as tie
+use Rattle.names.proofs.way.place_of.Statement.{statement}
+use Rattle.names.proofs.way.place_of.Tie as tie
 
 returns : tie.Need-returns
 unfolding placeOf
