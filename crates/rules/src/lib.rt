@@ -5,9 +5,9 @@
 ghost use mathlib.Core.Path.{_≡_};
 ghost use Rattle.sheet.specs.Refusals.{outcomeOf};
 ghost use Rattle.rules.specs.Check.{rulesOutcome};
+use rulelayout::layout;
+use rulelayout::repeats;
 use rulesheet::form::RuleForm;
-use rulesheet::layout;
-use rulesheet::repeats;
 use sheet::refusal::Checked;
 use sheet::refusal::Refusal;
 

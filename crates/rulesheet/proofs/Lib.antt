@@ -1,10 +1,8 @@
 pub mod Trailers
 pub mod Lines
-pub mod Schemas
 pub mod Runs
 pub mod Taking
-mod Passes
-mod Walking
+pub mod Walking
 pub mod Reaching
 pub mod Stepping
 pub mod Repeating

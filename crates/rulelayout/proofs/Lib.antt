@@ -1,0 +1,3 @@
+mod Schemas
+mod Passes
+mod Naming
