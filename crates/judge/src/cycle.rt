@@ -115,6 +115,13 @@ fn judge_clause<'a, 'b>(
     let mut misses = 0;
     let mut now = count;
     let mut at = turn(sheets, texts, cells, p, i, from, 0);
+    // Nothing to apply. What is called from two places is not put into its caller's frame.
+    if !at.go {
+        return Done {
+            ok: finish(sheets, texts, p, i, 0),
+            count,
+        };
+    }
     while at.go {
         now = apply(sheets, texts, cells, list, now, at.pair);
         misses = more(misses, verdict_of(sheets[RULES], cells, at.pair) != 1);

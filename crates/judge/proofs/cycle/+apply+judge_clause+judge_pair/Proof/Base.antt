@@ -69,7 +69,7 @@ abbrev pub apply-claims : ℕ → apply-lts.Claims
 apply-claims t = (verdict-of-reads.Asked, verdict-of-reads.Learnt, judge-pair-below t, judge-pair.Post)
 
 abbrev pub judge-clause-claims : ℕ → judge-clause-lts.Claims
-judge-clause-claims t = (start-reads.Asked, start-reads.Learnt, turn-reads.Asked, turn-reads.Learnt, apply-below t, apply.Post, verdict-of-reads.Asked, verdict-of-reads.Learnt, more-reads.Asked, more-reads.Learnt, give-reads.Asked, give-reads.Learnt, finish-reads.Asked, finish-reads.Learnt)
+judge-clause-claims t = (start-reads.Asked, start-reads.Learnt, turn-reads.Asked, turn-reads.Learnt, finish-reads.Asked, finish-reads.Learnt, apply-below t, apply.Post, verdict-of-reads.Asked, verdict-of-reads.Learnt, more-reads.Asked, more-reads.Learnt, give-reads.Asked, give-reads.Learnt)
 
 abbrev pub judge-pair-claims : ℕ → judge-pair-lts.Claims
 judge-pair-claims t = (clauses-of-reads.Asked, clauses-of-reads.Learnt, tried-reads.Asked, tried-reads.Learnt, judge-clause-below t, judge-clause.Post, shut-reads.Asked, shut-reads.Learnt, schemas-of-reads.Asked, schemas-of-reads.Learnt, settle-reads.Asked, settle-reads.Learnt)

@@ -3,6 +3,7 @@ use mathlib.Core.Path.{refl}
 use Prim.Native.Nat.{_-_}
 use native.Mathlib.Omega.{arith}
 use borrow.Author.Needs.{needs}
+use borrow.Author.Tests.{not-true}
 use Rattle.areas.specs.Cells.{pairIs}
 use Rattle.judge.specs.State.{lentCase}
 use Rattle.judge.proofs.Claused.{cells-kept, list-kept}
@@ -30,13 +31,25 @@ pub judge-clause-turn-requires : (t : ℕ) → judge-clause-lts.Need-turn-requir
 judge-clause-turn-requires t c κs =
     (reads-clause (c .before .before .before .before .pre .1 .0) ((c .before .before .before .before .pre .1 .1 .0) .inside) (c .before .before .before .before .pre .1 .1 .1 .1 .0), ((c .before .start .ensures, omega arith), (ready-turn (c .before .before .before .before .pre .1 .1 .0), (c .before .before .before .before .pre .1 .1 .1 .0))))
 
+pub judge-clause-finish-requires : (t : ℕ) → judge-clause-lts.Need-finish-requires (judge-clause-claims t) (judge-clause-at t) judge-clause.Post judge-clause-Inv-loop judge-clause-μ-loop
+judge-clause-finish-requires t c κs =
+    ((reads-clause (c .before .before .before .before .before .before .before .pre .1 .0) ((c .before .before .before .before .before .before .before .pre .1 .1 .0) .inside) (c .before .before .before .before .before .before .before .pre .1 .1 .1 .1 .0), c .before .before .before .before .before .before .before .pre .1 .1 .1 .1 .1), turning-few (turning-first (c .before .before .before .before .before .before .before .pre .1 .1 .0) (c .before .before .before .before .before .before .before .pre .1 .1 .1 .0) (c .before .before .turn .ensures)) (not-true _ (c .if1 .taken)))
+
+pub judge-clause-same-length : (t : ℕ) → judge-clause-lts.Need-same-length (judge-clause-claims t) (judge-clause-at t) judge-clause.Post judge-clause-Inv-loop judge-clause-μ-loop
+judge-clause-same-length t c =
+    refl
+
+pub judge-clause-returns : (t : ℕ) → judge-clause-lts.Need-returns (judge-clause-claims t) (judge-clause-at t) judge-clause.Post judge-clause-Inv-loop judge-clause-μ-loop
+judge-clause-returns t c =
+    turning-end (turning-first (c .before .before .before .before .before .before .before .before .pre .1 .1 .0) (c .before .before .before .before .before .before .before .before .pre .1 .1 .1 .0) (c .before .before .before .turn .ensures)) (not-true _ (c .before .if1 .taken)) (c .finish .ensures) refl
+
 pub judge-clause-loop-holds : (t : ℕ) → judge-clause-lts.Need-loop-holds (judge-clause-claims t) (judge-clause-at t) judge-clause.Post judge-clause-Inv-loop judge-clause-μ-loop
 judge-clause-loop-holds t c =
-    turning-first (c .before .before .before .before .before .pre .1 .1 .0) (c .before .before .before .before .before .pre .1 .1 .1 .0) (c .turn .ensures)
+    turning-first (c .before .before .before .before .before .before .before .pre .1 .1 .0) (c .before .before .before .before .before .before .before .pre .1 .1 .1 .0) (c .before .before .turn .ensures)
 
 pub judge-clause-apply-requires : (t : ℕ) → judge-clause-lts.Need-apply-requires (judge-clause-claims t) (judge-clause-at t) judge-clause.Post judge-clause-Inv-loop judge-clause-μ-loop
 judge-clause-apply-requires t c κs =
-    (falls-by (c .before .before .before .before .before .before .before .before .before .pre .0) (turning-aim (c .before .before .before .loop .inv) (c .before .before .loop-test .taken) (clause-has (c .before .before .before .before .before .before .before .before .before .pre .1 .0) ((c .before .before .before .before .before .before .before .before .before .pre .1 .1 .0) .inside) (c .before .before .before .before .before .before .before .before .before .pre .1 .1 .1 .1 .0))), ((c .before .before .before .before .before .before .before .before .before .pre .1 .0), turning-ready (c .before .before .before .loop .inv) (c .before .before .loop-test .taken) (clause-has (c .before .before .before .before .before .before .before .before .before .pre .1 .0) ((c .before .before .before .before .before .before .before .before .before .pre .1 .1 .0) .inside) (c .before .before .before .before .before .before .before .before .before .pre .1 .1 .1 .1 .0))))
+    (falls-by (c .before .before .before .before .before .before .before .before .before .before .before .pre .0) (turning-aim (c .before .before .before .loop .inv) (c .before .before .loop-test .taken) (clause-has (c .before .before .before .before .before .before .before .before .before .before .before .pre .1 .0) ((c .before .before .before .before .before .before .before .before .before .before .before .pre .1 .1 .0) .inside) (c .before .before .before .before .before .before .before .before .before .before .before .pre .1 .1 .1 .1 .0))), ((c .before .before .before .before .before .before .before .before .before .before .before .pre .1 .0), turning-ready (c .before .before .before .loop .inv) (c .before .before .loop-test .taken) (clause-has (c .before .before .before .before .before .before .before .before .before .before .before .pre .1 .0) ((c .before .before .before .before .before .before .before .before .before .before .before .pre .1 .1 .0) .inside) (c .before .before .before .before .before .before .before .before .before .before .before .pre .1 .1 .1 .1 .0))))
 
 pub judge-clause-element-copy-out-verdict-of : (t : ℕ) → judge-clause-lts.Need-element-copy-out-verdict-of (judge-clause-claims t) (judge-clause-at t) judge-clause.Post judge-clause-Inv-loop judge-clause-μ-loop
 judge-clause-element-copy-out-verdict-of t c =
@@ -44,7 +57,7 @@ judge-clause-element-copy-out-verdict-of t c =
 
 pub judge-clause-verdict-of-requires : (t : ℕ) → judge-clause-lts.Need-verdict-of-requires (judge-clause-claims t) (judge-clause-at t) judge-clause.Post judge-clause-Inv-loop judge-clause-μ-loop
 judge-clause-verdict-of-requires t c κs =
-    (rules-ok (c .before .before .before .before .before .before .before .before .before .before .before .before .before .before .before .before .pre .1 .0), turning-cell (c .before .before .before .before .before .before .before .before .before .before .loop .inv) (c .before .before .before .before .before .before .before .before .before .loop-test .taken) (clause-has (c .before .before .before .before .before .before .before .before .before .before .before .before .before .before .before .before .pre .1 .0) ((c .before .before .before .before .before .before .before .before .before .before .before .before .before .before .before .before .pre .1 .1 .0) .inside) (c .before .before .before .before .before .before .before .before .before .before .before .before .before .before .before .before .pre .1 .1 .1 .1 .0)) (c .before .before .before .before .before .before .apply .ensures))
+    (rules-ok (c .before .before .before .before .before .before .before .before .before .before .before .before .before .before .before .before .before .before .pre .1 .0), turning-cell (c .before .before .before .before .before .before .before .before .before .before .loop .inv) (c .before .before .before .before .before .before .before .before .before .loop-test .taken) (clause-has (c .before .before .before .before .before .before .before .before .before .before .before .before .before .before .before .before .before .before .pre .1 .0) ((c .before .before .before .before .before .before .before .before .before .before .before .before .before .before .before .before .before .before .pre .1 .1 .0) .inside) (c .before .before .before .before .before .before .before .before .before .before .before .before .before .before .before .before .before .before .pre .1 .1 .1 .1 .0)) (c .before .before .before .before .before .before .apply .ensures))
 
 pub judge-clause-more-requires : (t : ℕ) → judge-clause-lts.Need-more-requires (judge-clause-claims t) (judge-clause-at t) judge-clause.Post judge-clause-Inv-loop judge-clause-μ-loop
 judge-clause-more-requires t c κs =
@@ -52,7 +65,7 @@ judge-clause-more-requires t c κs =
 
 pub judge-clause-give-requires : (t : ℕ) → judge-clause-lts.Need-give-requires (judge-clause-claims t) (judge-clause-at t) judge-clause.Post judge-clause-Inv-loop judge-clause-μ-loop
 judge-clause-give-requires t c κs =
-    (reads-by (c .before .before .before .before .before .before .before .before .before .before .before .before .before .before .before .before .before .before .before .pre .1 .0) ((c .before .before .before .before .before .before .before .before .before .before .before .before .before .before .before .before .before .before .before .pre .1 .1 .0) .inside), turning-passes (c .before .before .before .before .before .before .before .before .before .before .before .before .before .loop .inv) (c .before .before .before .before .before .before .before .before .before .before .before .before .loop-test .taken) (clause-has (c .before .before .before .before .before .before .before .before .before .before .before .before .before .before .before .before .before .before .before .pre .1 .0) ((c .before .before .before .before .before .before .before .before .before .before .before .before .before .before .before .before .before .before .before .pre .1 .1 .0) .inside) (c .before .before .before .before .before .before .before .before .before .before .before .before .before .before .before .before .before .before .before .pre .1 .1 .1 .1 .0)) (c .before .before .before .before .before .before .before .before .before .apply .ensures))
+    (reads-by (c .before .before .before .before .before .before .before .before .before .before .before .before .before .before .before .before .before .before .before .before .before .pre .1 .0) ((c .before .before .before .before .before .before .before .before .before .before .before .before .before .before .before .before .before .before .before .before .before .pre .1 .1 .0) .inside), turning-passes (c .before .before .before .before .before .before .before .before .before .before .before .before .before .loop .inv) (c .before .before .before .before .before .before .before .before .before .before .before .before .loop-test .taken) (clause-has (c .before .before .before .before .before .before .before .before .before .before .before .before .before .before .before .before .before .before .before .before .before .pre .1 .0) ((c .before .before .before .before .before .before .before .before .before .before .before .before .before .before .before .before .before .before .before .before .before .pre .1 .1 .0) .inside) (c .before .before .before .before .before .before .before .before .before .before .before .before .before .before .before .before .before .before .before .before .before .pre .1 .1 .1 .1 .0)) (c .before .before .before .before .before .before .before .before .before .apply .ensures))
 
 pub judge-clause-add-turn : (t : ℕ) → judge-clause-lts.Need-add-turn (judge-clause-claims t) (judge-clause-at t) judge-clause.Post judge-clause-Inv-loop judge-clause-μ-loop
 judge-clause-add-turn t c =
@@ -60,28 +73,28 @@ judge-clause-add-turn t c =
 
 pub judge-clause-turn-requires-2 : (t : ℕ) → judge-clause-lts.Need-turn-requires-2 (judge-clause-claims t) (judge-clause-at t) judge-clause.Post judge-clause-Inv-loop judge-clause-μ-loop
 judge-clause-turn-requires-2 t c κs =
-    let N = turning-next (c .before .before .before .before .before .before .before .before .before .before .before .before .before .before .before .before .before .before .loop .inv) (c .before .before .before .before .before .before .before .before .before .before .before .before .before .before .before .before .before .loop-test .taken) (clause-has (c .before .before .before .before .before .before .before .before .before .before .before .before .before .before .before .before .before .before .before .before .before .before .before .before .pre .1 .0) ((c .before .before .before .before .before .before .before .before .before .before .before .before .before .before .before .before .before .before .before .before .before .before .before .before .pre .1 .1 .0) .inside) (c .before .before .before .before .before .before .before .before .before .before .before .before .before .before .before .before .before .before .before .before .before .before .before .before .pre .1 .1 .1 .1 .0)) (c .before .before .before .before .before .before .before .before .before .before .before .before .before .before .apply .ensures) (c .before .before .before .before .before .before .before .verdict-of .ensures) (c .before .before .before .before .before .before .more .ensures) (c .before .before .before .before .give .ensures) in (reads-clause (c .before .before .before .before .before .before .before .before .before .before .before .before .before .before .before .before .before .before .before .before .before .before .before .before .pre .1 .0) ((c .before .before .before .before .before .before .before .before .before .before .before .before .before .before .before .before .before .before .before .before .before .before .before .before .pre .1 .1 .0) .inside) (c .before .before .before .before .before .before .before .before .before .before .before .before .before .before .before .before .before .before .before .before .before .before .before .before .pre .1 .1 .1 .1 .0), ((c .before .before .before .before .before .before .before .before .before .before .before .before .before .before .before .before .before .before .before .before .before .start .ensures, N .0), (N .1, N .2)))
+    let N = turning-next (c .before .before .before .before .before .before .before .before .before .before .before .before .before .before .before .before .before .before .loop .inv) (c .before .before .before .before .before .before .before .before .before .before .before .before .before .before .before .before .before .loop-test .taken) (clause-has (c .before .before .before .before .before .before .before .before .before .before .before .before .before .before .before .before .before .before .before .before .before .before .before .before .before .before .pre .1 .0) ((c .before .before .before .before .before .before .before .before .before .before .before .before .before .before .before .before .before .before .before .before .before .before .before .before .before .before .pre .1 .1 .0) .inside) (c .before .before .before .before .before .before .before .before .before .before .before .before .before .before .before .before .before .before .before .before .before .before .before .before .before .before .pre .1 .1 .1 .1 .0)) (c .before .before .before .before .before .before .before .before .before .before .before .before .before .before .apply .ensures) (c .before .before .before .before .before .before .before .verdict-of .ensures) (c .before .before .before .before .before .before .more .ensures) (c .before .before .before .before .give .ensures) in (reads-clause (c .before .before .before .before .before .before .before .before .before .before .before .before .before .before .before .before .before .before .before .before .before .before .before .before .before .before .pre .1 .0) ((c .before .before .before .before .before .before .before .before .before .before .before .before .before .before .before .before .before .before .before .before .before .before .before .before .before .before .pre .1 .1 .0) .inside) (c .before .before .before .before .before .before .before .before .before .before .before .before .before .before .before .before .before .before .before .before .before .before .before .before .before .before .pre .1 .1 .1 .1 .0), ((c .before .before .before .before .before .before .before .before .before .before .before .before .before .before .before .before .before .before .before .before .before .before .before .start .ensures, N .0), (N .1, N .2)))
 
 pub judge-clause-loop-less : (t : ℕ) → judge-clause-lts.Need-loop-less (judge-clause-claims t) (judge-clause-at t) judge-clause.Post judge-clause-Inv-loop judge-clause-μ-loop
 judge-clause-loop-less t c =
-    left-less (lentCase (c .before .before .before .before .before .before .before .before .before .before .before .before .before .before .before .before .before .before .before .before .before .before .before .before .before .args .sheets .now) (c .before .before .before .before .before .before .before .before .before .before .before .before .before .before .before .before .before .before .before .before .before .before .before .before .before .args .texts .now)) (pairIs (c .before .before .before .before .before .before .before .before .before .before .before .before .before .before .before .before .before .before .before .before .before .before .before .before .before .args .p)) (c .before .before .before .before .before .before .before .before .before .before .before .before .before .before .before .before .before .before .before .before .before .before .before .before .before .args .i) (c .before .before .before .before .before .before .before .before .before .before .before .before .before .before .before .before .before .before .before .loop .at) (c .turn2 .result) (c .before .before .before .before .before .before .before .before .before .before .before .before .before .before .before .before .before .before .loop-test .taken) (turning-within (c .before .before .before .before .before .before .before .before .before .before .before .before .before .before .before .before .before .before .before .loop .inv) (c .before .before .before .before .before .before .before .before .before .before .before .before .before .before .before .before .before .before .loop-test .taken)) (c .turn2 .ensures)
+    left-less (lentCase (c .before .before .before .before .before .before .before .before .before .before .before .before .before .before .before .before .before .before .before .before .before .before .before .before .before .before .before .args .sheets .now) (c .before .before .before .before .before .before .before .before .before .before .before .before .before .before .before .before .before .before .before .before .before .before .before .before .before .before .before .args .texts .now)) (pairIs (c .before .before .before .before .before .before .before .before .before .before .before .before .before .before .before .before .before .before .before .before .before .before .before .before .before .before .before .args .p)) (c .before .before .before .before .before .before .before .before .before .before .before .before .before .before .before .before .before .before .before .before .before .before .before .before .before .before .before .args .i) (c .before .before .before .before .before .before .before .before .before .before .before .before .before .before .before .before .before .before .before .loop .at) (c .turn2 .result) (c .before .before .before .before .before .before .before .before .before .before .before .before .before .before .before .before .before .before .loop-test .taken) (turning-within (c .before .before .before .before .before .before .before .before .before .before .before .before .before .before .before .before .before .before .before .loop .inv) (c .before .before .before .before .before .before .before .before .before .before .before .before .before .before .before .before .before .before .loop-test .taken)) (c .turn2 .ensures)
 
 pub judge-clause-loop-again : (t : ℕ) → judge-clause-lts.Need-loop-again (judge-clause-claims t) (judge-clause-at t) judge-clause.Post judge-clause-Inv-loop judge-clause-μ-loop
 judge-clause-loop-again t c =
-    turning-more (c .before .before .before .before .before .before .before .before .before .before .before .before .before .before .before .before .before .before .before .loop .inv) (c .before .before .before .before .before .before .before .before .before .before .before .before .before .before .before .before .before .before .loop-test .taken) (clause-has (c .before .before .before .before .before .before .before .before .before .before .before .before .before .before .before .before .before .before .before .before .before .before .before .before .before .pre .1 .0) ((c .before .before .before .before .before .before .before .before .before .before .before .before .before .before .before .before .before .before .before .before .before .before .before .before .before .pre .1 .1 .0) .inside) (c .before .before .before .before .before .before .before .before .before .before .before .before .before .before .before .before .before .before .before .before .before .before .before .before .before .pre .1 .1 .1 .1 .0)) (c .before .before .before .before .before .before .before .before .before .before .before .before .before .before .before .apply .ensures) (c .before .before .before .before .before .before .before .before .verdict-of .ensures) (c .before .before .before .before .before .before .before .more .ensures) (c .before .before .before .before .before .give .ensures) (c .turn2 .ensures)
+    turning-more (c .before .before .before .before .before .before .before .before .before .before .before .before .before .before .before .before .before .before .before .loop .inv) (c .before .before .before .before .before .before .before .before .before .before .before .before .before .before .before .before .before .before .loop-test .taken) (clause-has (c .before .before .before .before .before .before .before .before .before .before .before .before .before .before .before .before .before .before .before .before .before .before .before .before .before .before .before .pre .1 .0) ((c .before .before .before .before .before .before .before .before .before .before .before .before .before .before .before .before .before .before .before .before .before .before .before .before .before .before .before .pre .1 .1 .0) .inside) (c .before .before .before .before .before .before .before .before .before .before .before .before .before .before .before .before .before .before .before .before .before .before .before .before .before .before .before .pre .1 .1 .1 .1 .0)) (c .before .before .before .before .before .before .before .before .before .before .before .before .before .before .before .apply .ensures) (c .before .before .before .before .before .before .before .before .verdict-of .ensures) (c .before .before .before .before .before .before .before .more .ensures) (c .before .before .before .before .before .give .ensures) (c .turn2 .ensures)
 
-pub judge-clause-finish-requires : (t : ℕ) → judge-clause-lts.Need-finish-requires (judge-clause-claims t) (judge-clause-at t) judge-clause.Post judge-clause-Inv-loop judge-clause-μ-loop
-judge-clause-finish-requires t c κs =
-    ((reads-clause (c .before .before .before .before .before .before .before .pre .1 .0) ((c .before .before .before .before .before .before .before .pre .1 .1 .0) .inside) (c .before .before .before .before .before .before .before .pre .1 .1 .1 .1 .0), (c .before .before .before .before .before .before .before .pre .1 .1 .1 .1 .1)), turning-few (c .before .loop .inv) (c .loop-test .left))
-
-pub judge-clause-same-length : (t : ℕ) → judge-clause-lts.Need-same-length (judge-clause-claims t) (judge-clause-at t) judge-clause.Post judge-clause-Inv-loop judge-clause-μ-loop
-judge-clause-same-length t c =
-    cells-kept ((c .before .before .before .before .before .before .before .before .pre .1 .1 .0) .areas) ((c .before .before .loop .inv) .ends (c .before .loop-test .left) .going .areas)
+pub judge-clause-finish-requires-2 : (t : ℕ) → judge-clause-lts.Need-finish-requires-2 (judge-clause-claims t) (judge-clause-at t) judge-clause.Post judge-clause-Inv-loop judge-clause-μ-loop
+judge-clause-finish-requires-2 t c κs =
+    ((reads-clause (c .before .before .before .before .before .before .before .before .before .pre .1 .0) ((c .before .before .before .before .before .before .before .before .before .pre .1 .1 .0) .inside) (c .before .before .before .before .before .before .before .before .before .pre .1 .1 .1 .1 .0), (c .before .before .before .before .before .before .before .before .before .pre .1 .1 .1 .1 .1)), turning-few (c .before .loop .inv) (c .loop-test .left))
 
 pub judge-clause-same-length-2 : (t : ℕ) → judge-clause-lts.Need-same-length-2 (judge-clause-claims t) (judge-clause-at t) judge-clause.Post judge-clause-Inv-loop judge-clause-μ-loop
 judge-clause-same-length-2 t c =
-    list-kept ((c .before .before .before .before .before .before .before .before .pre .1 .1 .0) .areas) ((c .before .before .loop .inv) .ends (c .before .loop-test .left) .going .areas)
+    cells-kept ((c .before .before .before .before .before .before .before .before .before .before .pre .1 .1 .0) .areas) ((c .before .before .loop .inv) .ends (c .before .loop-test .left) .going .areas)
 
-pub judge-clause-returns : (t : ℕ) → judge-clause-lts.Need-returns (judge-clause-claims t) (judge-clause-at t) judge-clause.Post judge-clause-Inv-loop judge-clause-μ-loop
-judge-clause-returns t c =
-    turning-end (c .before .before .loop .inv) (c .before .loop-test .left) (c .finish .ensures) refl
+pub judge-clause-same-length-3 : (t : ℕ) → judge-clause-lts.Need-same-length-3 (judge-clause-claims t) (judge-clause-at t) judge-clause.Post judge-clause-Inv-loop judge-clause-μ-loop
+judge-clause-same-length-3 t c =
+    list-kept ((c .before .before .before .before .before .before .before .before .before .before .pre .1 .1 .0) .areas) ((c .before .before .loop .inv) .ends (c .before .loop-test .left) .going .areas)
+
+pub judge-clause-returns-2 : (t : ℕ) → judge-clause-lts.Need-returns-2 (judge-clause-claims t) (judge-clause-at t) judge-clause.Post judge-clause-Inv-loop judge-clause-μ-loop
+judge-clause-returns-2 t c =
+    turning-end (c .before .before .loop .inv) (c .before .loop-test .left) (c .finish2 .ensures) refl
