@@ -1261,10 +1261,23 @@ def large_cases():
     yield 'accepted: 128 rows by 128 schemas', *every_pair(128)
 
 
+def refused_and_large():
+    """Sheets of which one is refused and the other too large for the bench program: the refusal comes first."""
+    loop, chain = [{}], [{} for _ in range(33)]
+    add_step(random.Random(0), loop[0], 0, UNGUARDED[0])
+    for s in range(32):
+        add_step(random.Random(0), chain[s], s + 1, UNGUARDED[0])
+    large = RecordSheet(fixed_text(), array_of(128))
+    for refusal, schemas in (('8 0', loop), ('9 0', chain)):
+        yield 'refused %s: with 129 rows' % refusal, *lent(large), *lent(RuleSheet(fixed_text(), schemas))
+    deep = RecordSheet(fixed_text(b'p'), nested(33, ARRAY))
+    yield 'refused 4 32: with 129 schemas', *lent(deep), *lent(RuleSheet(fixed_text(), [{} for _ in range(129)]))
+
+
 def limits():
     """Yield the fixed cases on both sides of each limit."""
     for part in (count_limits, trailer_limits, number_limits, range_limits, chain_limits, loop_limits, code_limits,
-                 schema_limits, taking_limits, layout_limits, name_limits, large_cases):
+                 schema_limits, taking_limits, layout_limits, name_limits, refused_and_large, large_cases):
         yield from part()
 
 

@@ -29,7 +29,7 @@ pub fn cell_of(m: usize, p: Pair) -> usize
 }
 
 // The verdict in cell k: 0 not settled, 1 held, 2 failed.
-fn verdict_at(cells: &[u8], k: usize) -> u8
+pub fn verdict_at(cells: &[u8], k: usize) -> u8
     requires { ⌜ k < length (now cells) ⌝ }
     ensures { λ r. ⌜ r ≡ verd (getD (now (cells .entry)) k 0) ⌝ }
 {

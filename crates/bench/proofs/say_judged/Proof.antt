@@ -1,26 +1,29 @@
--- `say_judged` ends, and reads only words that the list has. Assumes nothing.
-use Prim.Native.Nat.{_-_, _≤_}
+-- `say_judged` ends, and reads only lines that the areas have. Assumes nothing.
+use Prim.Native.Nat.{_-_, _≤_, _<_}
+use Prim.Native.Nat.{ℕ}
+use native.Mathlib.Omega.{arith}
 use borrow.Author.Needs.{needs}
+use Rattle.bundle.specs.Printed.{LineIn}
 use Rattle.bench.proofs.say_judged.Statement.{statement}
 use Rattle.bench.proofs.say_judged.Tie as tie
 
 abbrev Inv-loop : tie.InvT-loop
-Inv-loop verdict cells list m count marked i₀ i = i ≤ count
+Inv-loop cells list schemas pairs i₀ i = i ≤ pairs
 
 abbrev μ-loop : tie.MeasureT-loop
-μ-loop verdict cells list m count marked i₀ i = count - i
+μ-loop cells list schemas pairs i₀ i = pairs - i
 
-write-all-requires : tie.Need-write-all-requires Inv-loop μ-loop
-write-all-requires c κs = search needs
+slice-aggregate-say : tie.Need-slice-aggregate-say Inv-loop μ-loop
+slice-aggregate-say c = search needs
 
-slice-aggregate-write-all : tie.Need-slice-aggregate-write-all Inv-loop μ-loop
-slice-aggregate-write-all c = search needs
+say-requires : tie.Need-say-requires Inv-loop μ-loop
+say-requires c κs = search needs
 
-write-all-requires-2 : tie.Need-write-all-requires-2 Inv-loop μ-loop
-write-all-requires-2 c κs = search needs
+slice-aggregate-say-2 : tie.Need-slice-aggregate-say-2 Inv-loop μ-loop
+slice-aggregate-say-2 c = search needs
 
-print-decimal-requires : tie.Need-print-decimal-requires Inv-loop μ-loop
-print-decimal-requires c κs = search needs
+say-requires-2 : tie.Need-say-requires-2 Inv-loop μ-loop
+say-requires-2 c κs = search needs
 
 slice-aggregate-say-number : tie.Need-slice-aggregate-say-number Inv-loop μ-loop
 slice-aggregate-say-number c = search needs
@@ -28,17 +31,26 @@ slice-aggregate-say-number c = search needs
 say-number-requires : tie.Need-say-number-requires Inv-loop μ-loop
 say-number-requires c κs = search needs
 
+slice-aggregate-say-number-2 : tie.Need-slice-aggregate-say-number-2 Inv-loop μ-loop
+slice-aggregate-say-number-2 c = search needs
+
+say-number-requires-2 : tie.Need-say-number-requires-2 Inv-loop μ-loop
+say-number-requires-2 c κs = search needs
+
+slice-aggregate-say-3 : tie.Need-slice-aggregate-say-3 Inv-loop μ-loop
+slice-aggregate-say-3 c = search needs
+
+say-requires-3 : tie.Need-say-requires-3 Inv-loop μ-loop
+say-requires-3 c κs = search needs
+
 loop-holds : tie.Need-loop-holds Inv-loop μ-loop
 loop-holds c = search needs
 
-mul-say-pair : tie.Need-mul-say-pair Inv-loop μ-loop
-mul-say-pair c = search needs
+line-at-requires : tie.Need-line-at-requires Inv-loop μ-loop
+line-at-requires c κs = c .before .before .before .before .before .before .before .before .before .before .before .pre _ (omega arith)
 
-shared-slice-read-say-pair : tie.Need-shared-slice-read-say-pair Inv-loop μ-loop
-shared-slice-read-say-pair c = search needs
-
-say-pair-requires : tie.Need-say-pair-requires Inv-loop μ-loop
-say-pair-requires c κs = search needs
+say-line-requires : tie.Need-say-line-requires Inv-loop μ-loop
+say-line-requires c κs = search needs
 
 add-i : tie.Need-add-i Inv-loop μ-loop
 add-i c = search needs
@@ -58,16 +70,19 @@ say-judged-spec =
     (tie.spec
     Inv-loop
     μ-loop
-    write-all-requires
-    slice-aggregate-write-all
-    write-all-requires-2
-    print-decimal-requires
+    slice-aggregate-say
+    say-requires
+    slice-aggregate-say-2
+    say-requires-2
     slice-aggregate-say-number
     say-number-requires
+    slice-aggregate-say-number-2
+    say-number-requires-2
+    slice-aggregate-say-3
+    say-requires-3
     loop-holds
-    mul-say-pair
-    shared-slice-read-say-pair
-    say-pair-requires
+    line-at-requires
+    say-line-requires
     add-i
     loop-less
     loop-again
