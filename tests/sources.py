@@ -1,6 +1,7 @@
 #!/usr/bin/env python3
 """What the prover does not see, read off the sources: from the clearing on, two functions alone store into cells, one that settles a pair and one that
-writes marks (a store that changes no value, as cells[0] = cells[0], breaks no contract)."""
+writes marks (a store that changes no value, as cells[0] = cells[0], breaks no contract). A crate none of whose public functions is lent bytes to write
+gets no cells."""
 import glob
 import os
 import re
@@ -9,6 +10,7 @@ import sys
 ROOT = os.path.dirname(os.path.dirname(os.path.realpath(__file__)))
 STORERS = {('areas', 'clear'), ('areas', 'settle'), ('areas', 'write_mark')}
 FUNCTION = re.compile(r'^\s*(?:pub(?:\(crate\))? )?(?:extern "C" )?fn (\w+)', re.M)
+PUBLIC = re.compile(r'^\s*pub (?:extern "C" )?fn', re.M)
 STORE = re.compile(r'\b(\w+)\[[^\]]*\]\s*[-+*/%&|^]?=(?!=)')
 BYTES = re.compile(r'(\w+): &mut \[u8\]')
 
@@ -28,11 +30,22 @@ def stores(crate, text):
             yield crate, name
 
 
+def is_lent_bytes(texts):
+    """Whether a public function of these sources takes bytes that it may write."""
+    return any(PUBLIC.match(body) and BYTES.search(body) for text in texts for _, body in functions(text))
+
+
+def read(path):
+    with open(path) as source:
+        return source.read()
+
+
 def found():
-    for path in sorted(glob.glob(os.path.join(ROOT, 'crates', '*', 'src', '**', '*.rt'), recursive=True)):
-        crate = os.path.relpath(path, os.path.join(ROOT, 'crates')).split(os.sep)[0]
-        with open(path) as source:
-            yield from stores(crate, source.read())
+    for crate in sorted(os.listdir(os.path.join(ROOT, 'crates'))):
+        texts = [read(path) for path in glob.glob(os.path.join(ROOT, 'crates', crate, 'src', '**', '*.rt'), recursive=True)]
+        if is_lent_bytes(texts):
+            for text in texts:
+                yield from stores(crate, text)
 
 
 def main():
@@ -52,6 +65,12 @@ def main():
         else:
             failed += 1
             print('the scan is wrong about: ' + body)
+    for head, expected in (('pub fn f', True), ('pub(crate) fn f', False), ('fn f', False)):
+        if is_lent_bytes([head + '(cells: &mut [u8]) {\n}']) == expected:
+            passed += 1
+        else:
+            failed += 1
+            print('the scan is wrong about the public: ' + head)
     print('%d passed, %d failed' % (passed, failed))
     return failed != 0
 

@@ -1,5 +1,5 @@
 -- The lines that the areas show are those of the settled pairs.
---     settled-inside     a settled pair is one of the n × m
+--     listed-below       its word is below n × m
 --     listed-word        the word of settled pair i
 --     lines-shown        the lines of all of them
 -- Assumes nothing.
@@ -16,16 +16,14 @@ use Rattle.sheet.specs.Doc.{Doc}
 use Rattle.rulesheet.specs.Ruleset.{Ruleset}
 use Rattle.rulesheet.proofs.Reaching.{made-at}
 use Rattle.meaning.specs.Lists.{range, concatMap}
-use Rattle.meaning.specs.Rules.{Pair, truth, applies}
+use Rattle.meaning.specs.Rules.{Pair, truth}
 use Rattle.meaning.specs.Settling.{listed, root, settled, word, list, cell, cells}
 use Rattle.meaning.specs.Fit.{Fit, Inside}
-use Rattle.meaning.specs.Once.{Reached, itself, further}
 use Rattle.meaning.proofs.Lists.{in-every}
 use Rattle.meaning.proofs.Words.{row-of, rule-of}
-use Rattle.meaning.proofs.Truth.{applies-inside}
-use Rattle.meaning.proofs.Settled.{once, in-listed, word-below}
+use Rattle.meaning.proofs.Members.{range-length}
+use Rattle.meaning.proofs.Settled.{in-listed, word-below, all-inside}
 use Rattle.clause.proofs.Listing.{range-run}
-use Rattle.clause.proofs.Measures.{range-length}
 use Rattle.areas.specs.Cells.{verd}
 use Rattle.bundle.specs.Printed.{lineOf, lineAt}
 
@@ -89,14 +87,6 @@ held-cell D R n m done p e =
     rw e (held-by ((truth D R p) .holds) (ltb 0 (p .row) && listed up done && (truth D R up) .marks (p .row)))
 
 module _ (D : Doc) (R : Ruleset) (n m : ℕ) (fit : Fit D R n m) where
-  reached-inside : {q p : Pair} → Reached D R q p → Inside n m p → Inside n m q
-  reached-inside itself h = h
-  reached-inside (further {p = p} i r) h = reached-inside r (in-every (applies-inside D R n m fit p h) i)
-
-  root-inside : Inside n m root
-  unfolding root
-  root-inside = record { row-in = fit .rows .some; rule-in = fit .some }
-
   root-word : word D R n m root ≡ 0
   unfolding word root
   root-word = omega arith
@@ -106,7 +96,7 @@ module _ (D : Doc) (R : Ruleset) (n m : ℕ) (fit : Fit D R n m) where
 
   module _ (i : ℕ) (h : i < length (settled D R)) where
     inside : Inside n m (settled-at i)
-    inside = reached-inside (once D R n m fit .no-other (settled-at i) (in-at (settled D R) i root h)) root-inside
+    inside = in-every (all-inside D R n m fit) (in-at (settled D R) i root h)
 
     listed-word : (ls : List ℕ) → getD (list D R n m ++ ls) i 0 ≡ word D R n m (settled-at i)
     unfolding list

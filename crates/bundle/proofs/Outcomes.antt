@@ -9,7 +9,7 @@ use lib.ListN.{length, length-map}
 use Rattle.sheet.specs.Refusals.{refusalNumber}
 use Rattle.sheet.proofs.Tables.{number-one}
 use Rattle.meaning.specs.Lists.{range}
-use Rattle.clause.proofs.Measures.{range-length}
+use Rattle.meaning.proofs.Members.{range-length}
 use Rattle.bundle.specs.declared.Judgement.{Judgement}
 use Rattle.bundle.specs.declared.Line.{Line}
 use Rattle.bundle.specs.declared.Reply.{Reply}

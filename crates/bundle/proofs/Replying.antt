@@ -24,7 +24,7 @@ use Rattle.meaning.specs.Settling.{root, settled, marked, list, cells}
 use Rattle.meaning.specs.Fit.{Fit}
 use Rattle.meaning.specs.Answer.{refuses, Left, verdict, judged, judge}
 use Rattle.meaning.proofs.Answers.{call-judged, fits}
-use Rattle.meaning.proofs.Settled.{once}
+use Rattle.meaning.proofs.Trees.{once}
 use Rattle.judge.specs.declared.answer.Answer as J
 use Rattle.judge.specs.declared.answer.Answer.the-variants.{Refused as Refuses}
 use Rattle.judge.specs.Call.{answerOf, callLeaves}

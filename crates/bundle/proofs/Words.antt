@@ -11,7 +11,7 @@ use native.Mathlib.Omega.{arith}
 use lib.ListN.{length, getD, set, take, drop, length-map, length-append}
 use lib.Seq.{drop-cons, set-at, take-at}
 use Rattle.meaning.specs.Lists.{range}
-use Rattle.clause.proofs.Measures.{range-length}
+use Rattle.meaning.proofs.Members.{range-length}
 use Rattle.bundle.specs.Bundle.{word-bytes, wordAt, wordsOf, Reads}
 
 -- one more of a range, at its end
