@@ -21,7 +21,7 @@ use sheet::record::wide;
 // ---- reading a cell
 
 // The number of a pair's cell.
-pub fn cell_of(m: usize, p: Pair) -> usize
+fn cell_of(m: usize, p: Pair) -> usize
     requires { ⌜ cellAt m (pairIs p) < 18446744073709551616 ⌝ }
     ensures { λ r. ⌜ r ≡ cellAt m (pairIs p) ⌝ }
 {

@@ -28,7 +28,7 @@ pub enum Bundle {
 }
 
 // Whether a bundle is good, and how long its parts then are.
-pub fn parts_of(bundle: &[u8]) -> Bundle
+pub(crate) fn parts_of(bundle: &[u8]) -> Bundle
     ensures { λ r. ⌜ r ≡ partsOf (now (bundle .entry)) ⌝ }
 {
     let size = bundle.len();
@@ -57,7 +57,7 @@ fn lengths_at(bundle: &[u8], at: usize) -> Lengths
 }
 
 // Puts the words of the bytes at the start of `words`, and answers how many there are.
-pub fn read_words(bytes: &[u8], words: &mut [u32]) -> usize
+pub(crate) fn read_words(bytes: &[u8], words: &mut [u32]) -> usize
     requires { ⌜ length (now bytes) / word-bytes ≤ length (now words) ⌝ }
     ensures { λ r. ⌜ Reads (now (bytes .entry)) (now (words .entry)) r (now (words .exit)) ⌝ }
 {

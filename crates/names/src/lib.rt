@@ -28,7 +28,7 @@ pub struct Names {
 }
 
 // Name i's range.
-pub fn range_at(words: &[u32], names: Names, i: usize) -> Range
+fn range_at(words: &[u32], names: Names, i: usize) -> Range
     requires { ⌜ names .base + names .stride * i + 1 < length (now words) ⌝ }
     ensures { λ r. ⌜ r ≡ rangeAt (now (words .entry)) names i ⌝ }
 {
@@ -40,7 +40,7 @@ pub fn range_at(words: &[u32], names: Names, i: usize) -> Range
 }
 
 // Name i's bytes.
-pub fn name_at<'a>(words: &[u32], text: &'a [u8], names: Names, i: usize) -> &'a [u8]
+pub(crate) fn name_at<'a>(words: &[u32], text: &'a [u8], names: Names, i: usize) -> &'a [u8]
     requires { ⌜ Lying (now words) (now text) names × (i < names .count) ⌝ }
     ensures { λ r. ⌜ now r ≡ nameAt (now (words .entry)) (now (text .entry)) names i ⌝ }
 {

@@ -120,7 +120,7 @@ fn first_of_most(words: &[u32], text: &[u8], names: Names) -> usize
 
 // The lowest name that an earlier one repeats, or the number of names where none is repeated; the
 // tables are as large as there are names, since clearing them takes time too.
-pub fn first_in_tables(words: &[u32], text: &[u8], names: Names) -> usize
+pub(crate) fn first_in_tables(words: &[u32], text: &[u8], names: Names) -> usize
     requires { ⌜ Lying (now words) (now text) names ⌝ }
     ensures { λ r. ⌜ r ≡ lowest (repeatsAt (now (words .entry)) (now (text .entry)) names) (names .count) ⌝ }
 {

@@ -49,7 +49,7 @@ fn letter_of(places: usize, node: usize, mark: u32, name: &[u8]) -> u64
 }
 
 // The place of the names under a node.
-pub fn place_of(places: usize, node: usize) -> usize
+pub(crate) fn place_of(places: usize, node: usize) -> usize
     requires { ⌜ node < places + places ⌝ }
     ensures { λ r. ⌜ (r ≡ placeOf places node) × (r < places) ⌝ }
 {
@@ -129,7 +129,7 @@ fn child(
 }
 
 // Where the way of name i ends.
-pub fn spot_of(
+pub(crate) fn spot_of(
     words: &[u32],
     text: &[u8],
     names: Names,

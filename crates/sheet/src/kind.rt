@@ -70,7 +70,7 @@ impl RowKind {
     }
 
     // Whether a row of this kind can have children.
-    pub fn holds_children(self) -> bool
+    pub(crate) fn holds_children(self) -> bool
         ensures { λ r. ⌜ r ≡ holdsChildren self ⌝ }
     {
         match self {
@@ -85,7 +85,7 @@ impl RowKind {
     }
 
     // Whether a row of this kind is an object, whose children have names.
-    pub fn is_object(self) -> bool
+    pub(crate) fn is_object(self) -> bool
         ensures { λ r. ⌜ r ≡ isObjectKind self ⌝ }
     {
         match self {

@@ -198,7 +198,7 @@ fn first_deep(deep: u32, n: u32, j: u32, level: u16) -> u32
 
 // One forward pass over the rows, each asked once for its faults and its level; it ends at the
 // first row at fault.
-pub fn pass_rows(words: &[u32], form: RecordForm, size: usize) -> Pass
+pub(crate) fn pass_rows(words: &[u32], form: RecordForm, size: usize) -> Pass
     requires { ⌜ Formed (now words) form × (size ≡ textWord (now words)) ⌝ }
     ensures { λ r. ⌜ Passed (now (words .entry)) r ⌝ }
 {

@@ -76,7 +76,7 @@ impl RecordForm {
 }
 
 // The row's words.
-pub fn row_at(words: &[u32], form: RecordForm, row: RecordRow) -> Row
+pub(crate) fn row_at(words: &[u32], form: RecordForm, row: RecordRow) -> Row
     requires { ⌜ Formed (now words) form × (row .0 < form .rows) ⌝ }
     ensures { λ r. ⌜ r ≡ rowAt (now (words .entry)) (row .0) ⌝ }
 {
@@ -99,14 +99,6 @@ pub fn kind_of(words: &[u32], form: RecordForm, row: RecordRow) -> RowKind
     ensures { λ r. ⌜ ((ts : List ℕ) → r ≡ valueKind (docOf (now (words .entry)) ts .value (row .0))) ⌝ }
 {
     RowKind::of(row_at(words, form, row).kind)
-}
-
-// The row's owner; the root's is the root.
-pub fn owner_of(words: &[u32], form: RecordForm, row: RecordRow) -> RecordRow
-    requires { ⌜ Formed (now words) form × (row .0 < form .rows) ⌝ }
-    ensures { λ r. ⌜ ((ts : List ℕ) → r .0 ≡ docOf (now (words .entry)) ts .owner (row .0)) ⌝ }
-{
-    RecordRow(row_at(words, form, row).owner)
 }
 
 // The row's children: none of a row that is no array and no object.

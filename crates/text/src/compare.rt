@@ -34,7 +34,7 @@ fn same_short<'a>(a: &'a [u8], b: &'a [u8]) -> bool
 
 // Whether the bytes are the same, eight at a time and from the end, where names that are numbered
 // differ.
-pub fn same_bytes<'a>(a: &'a [u8], b: &'a [u8]) -> bool
+pub(crate) fn same_bytes<'a>(a: &'a [u8], b: &'a [u8]) -> bool
     requires { ⌜ length (now a) ≡ length (now b) ⌝ }
     ensures { λ r. ⌜ r ≡ sameBytes (now (a .entry)) (now (b .entry)) ⌝ }
 {

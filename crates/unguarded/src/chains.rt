@@ -39,18 +39,18 @@ fn last_step(words: &[u32], form: RuleForm, to: u32) -> u32
 }
 
 // The schema that takes clause k, if those after `last` start after it.
-fn taker(words: &[u32], form: RuleForm, last: u32, k: u32) -> u32
-    requires { ⌜ RulesLaid (now words) form × (last < schemasWord (now words)) × (k < clausesWord (now words)) × StartAfter (now words) last k ⌝ }
-    ensures { λ r. ⌜ Takes (now (words .entry)) r k ⌝ }
+fn taker(words: &[u32], form: RuleForm, last: RuleRow, k: u32) -> RuleRow
+    requires { ⌜ RulesLaid (now words) form × (last .0 < schemasWord (now words)) × (k < clausesWord (now words)) × StartAfter (now words) (last .0) k ⌝ }
+    ensures { λ r. ⌜ Takes (now (words .entry)) (r .0) k ⌝ }
 {
-    let mut s = last;
+    let mut s = last.0;
     while 0 < s {
         if schema_at(words, form, RuleRow(s)).first <= k {
-            return s;
+            return RuleRow(s);
         }
         s -= 1;
     }
-    s
+    RuleRow(s)
 }
 
 // The longer of `most` and a chain with one step more than `length`, as far as lengths are told.
@@ -68,12 +68,12 @@ fn longer(most: u8, length: u8) -> u8
 }
 
 // Marks schema t if a step from s to it does not lead to a later schema.
-fn mark_late(late: &mut [u8], s: u32, t: u32)
-    requires { ⌜ t < length (now late) ⌝ }
-    ensures { λ r. ⌜ Noted s (t ∷ []) (now (late .entry)) (now (late .exit)) ⌝ }
+fn mark_late(late: &mut [u8], s: RuleRow, t: RuleRow)
+    requires { ⌜ t .0 < length (now late) ⌝ }
+    ensures { λ r. ⌜ Noted (s .0) (t .0 ∷ []) (now (late .entry)) (now (late .exit)) ⌝ }
 {
-    if t <= s {
-        let at = wide(t);
+    if t.0 <= s.0 {
+        let at = wide(t.0);
         late[at] = 1;
     }
 }
@@ -83,21 +83,21 @@ fn mark_late(late: &mut [u8], s: u32, t: u32)
 fn clause_length(
     words: &[u32],
     form: RuleForm,
-    s: u32,
+    s: RuleRow,
     k: u32,
     table: &[u8],
     late: &mut [u8],
     most: u8,
 ) -> u8
     requires { ⌜ RulesLaid (now words) form × (k < clausesWord (now words)) × (schemasWord (now words) ≤ length (now table)) × (schemasWord (now words) ≤ length (now late)) × (most ≤ chain-steps) ⌝ }
-    ensures { λ r. ⌜ Raised (targetsOf (now (words .entry)) k) (now (table .entry)) most r × Noted s (targetsOf (now (words .entry)) k) (now (late .entry)) (now (late .exit)) ⌝ }
+    ensures { λ r. ⌜ Raised (targetsOf (now (words .entry)) k) (now (table .entry)) most r × Noted (s .0) (targetsOf (now (words .entry)) k) (now (late .entry)) (now (late .exit)) ⌝ }
 {
     let n = steps_of(words, form, k);
     let mut long = most;
     let mut i = 0;
     while i < n {
-        let t = step_at(words, form, k, i).0;
-        let at = wide(t);
+        let t = step_at(words, form, k, i);
+        let at = wide(t.0);
         long = longer(long, table[at]);
         mark_late(late, s, t);
         i += 1;
@@ -113,12 +113,13 @@ fn pass(words: &[u32], form: RuleForm, last: u32, table: &mut [u8], late: &mut [
     ensures { λ r. ⌜ Passed (schemasWord (now (words .entry))) (nextOf (now (words .entry))) (now (table .entry)) (now (table .exit)) r ⌝ }
 {
     let mut again = false;
-    let mut s = form.m - 1;
+    let last_schema = form.m - 1;
+    let mut s = RuleRow(last_schema);
     let mut k = last;
     while 0 < k {
         k -= 1;
         s = taker(words, form, s, k);
-        let at = wide(s);
+        let at = wide(s.0);
         let most = table[at];
         let long = clause_length(words, form, s, k, table, late, most);
         if most < long {
@@ -172,7 +173,7 @@ fn long_by(words: &[u32], form: RuleForm, last: u32, table: &mut [u8], late: &mu
 }
 
 // The same, from nothing. Where no clause has a step, no table is needed.
-pub fn long_place(words: &[u32], form: RuleForm) -> u32
+pub(crate) fn long_place(words: &[u32], form: RuleForm) -> u32
     requires { ⌜ RulesLaid (now words) form ⌝ }
     ensures { λ r. ⌜ r ≡ chainPlace (schemasWord (now (words .entry))) (nextOf (now (words .entry))) ⌝ }
 {

@@ -23,17 +23,17 @@ fn visit(
     seen: &mut [u8; RuleForm::SCHEMAS_MAX],
     queue: &mut [u32; RuleForm::SCHEMAS_MAX],
     tail: usize,
-    t: u32,
+    t: RuleRow,
 ) -> usize
-    requires { ⌜ Tidy (now seen) (now queue) tail × (t < schemas-max) ⌝ }
-    ensures { λ r. ⌜ Visited (t ∷ []) (now (seen .entry)) (now (queue .entry)) tail (now (seen .exit)) (now (queue .exit)) r ⌝ }
+    requires { ⌜ Tidy (now seen) (now queue) tail × (t .0 < schemas-max) ⌝ }
+    ensures { λ r. ⌜ Visited (t .0 ∷ []) (now (seen .entry)) (now (queue .entry)) tail (now (seen .exit)) (now (queue .exit)) r ⌝ }
 {
-    let at = wide(t);
+    let at = wide(t.0);
     if seen[at] != 0 {
         return tail;
     }
     seen[at] = 1;
-    queue[tail] = t;
+    queue[tail] = t.0;
     tail + 1
 }
 
@@ -53,7 +53,7 @@ fn visit_clause(
     let mut end = tail;
     let mut i = 0;
     while i < n {
-        end = visit(seen, queue, end, step_at(words, form, k, i).0);
+        end = visit(seen, queue, end, step_at(words, form, k, i));
         i += 1;
     }
     end
@@ -63,15 +63,15 @@ fn visit_clause(
 fn visit_next(
     words: &[u32],
     form: RuleForm,
-    s: u32,
+    s: RuleRow,
     seen: &mut [u8; RuleForm::SCHEMAS_MAX],
     queue: &mut [u32; RuleForm::SCHEMAS_MAX],
     tail: usize,
 ) -> usize
-    requires { ⌜ RulesLaid (now words) form × (s < schemasWord (now words)) × Tidy (now seen) (now queue) tail ⌝ }
-    ensures { λ r. ⌜ Visited (nextOf (now (words .entry)) s) (now (seen .entry)) (now (queue .entry)) tail (now (seen .exit)) (now (queue .exit)) r ⌝ }
+    requires { ⌜ RulesLaid (now words) form × (s .0 < schemasWord (now words)) × Tidy (now seen) (now queue) tail ⌝ }
+    ensures { λ r. ⌜ Visited (nextOf (now (words .entry)) (s .0)) (now (seen .entry)) (now (queue .entry)) tail (now (seen .exit)) (now (queue .exit)) r ⌝ }
 {
-    let row = schema_at(words, form, RuleRow(s));
+    let row = schema_at(words, form, s);
     let first = row.first;
     let n = row.count;
     let mut end = tail;
@@ -85,9 +85,9 @@ fn visit_next(
 
 // Whether schema s is on a loop: each schema that s reaches is visited once, and s is on a loop if
 // it was among them.
-fn on_loop(words: &[u32], form: RuleForm, s: u32) -> bool
-    requires { ⌜ RulesLaid (now words) form × (s < schemasWord (now words)) ⌝ }
-    ensures { λ r. ⌜ r ≡ onLoop (schemasWord (now (words .entry))) (nextOf (now (words .entry))) s ⌝ }
+fn on_loop(words: &[u32], form: RuleForm, s: RuleRow) -> bool
+    requires { ⌜ RulesLaid (now words) form × (s .0 < schemasWord (now words)) ⌝ }
+    ensures { λ r. ⌜ r ≡ onLoop (schemasWord (now (words .entry))) (nextOf (now (words .entry))) (s .0) ⌝ }
 {
     let mut seen = [0u8; RuleForm::SCHEMAS_MAX];
     let mut queue = [0u32; RuleForm::SCHEMAS_MAX];
@@ -95,22 +95,22 @@ fn on_loop(words: &[u32], form: RuleForm, s: u32) -> bool
     let mut head = 0;
     while head < tail {
         let u = queue[head];
-        tail = visit_next(words, form, u, &mut seen, &mut queue, tail);
+        tail = visit_next(words, form, RuleRow(u), &mut seen, &mut queue, tail);
         head += 1;
     }
-    let at = wide(s);
+    let at = wide(s.0);
     seen[at] != 0
 }
 
 // The lowest schema on a loop, or the number of schemas.
-pub fn first_loop(words: &[u32], form: RuleForm) -> u32
+pub(crate) fn first_loop(words: &[u32], form: RuleForm) -> u32
     requires { ⌜ RulesLaid (now words) form ⌝ }
     ensures { λ r. ⌜ r ≡ loopPlace (schemasWord (now (words .entry))) (nextOf (now (words .entry))) ⌝ }
 {
     let m = form.m;
     let mut s = 0;
     while s < m {
-        if on_loop(words, form, s) {
+        if on_loop(words, form, RuleRow(s)) {
             return s;
         }
         s += 1;

@@ -17,7 +17,7 @@ use Rattle.unguarded.proofs.chains.clause_length.Tie as tie
 
 abbrev Inv-loop : tie.InvT-loop
 Inv-loop words form s k table late₀ most n long₀ i₀ late long i =
-    (i ≤ n) × Raised (take i (targetsOf words k)) table most long × Noted s (take i (targetsOf words k)) late₀ late × (length late ≡ length late₀)
+    (i ≤ n) × Raised (take i (targetsOf words k)) table most long × Noted (s .0) (take i (targetsOf words k)) late₀ late × (length late ≡ length late₀)
 
 abbrev μ-loop : tie.MeasureT-loop
 μ-loop words form s k table late₀ most n long₀ i₀ late long i =

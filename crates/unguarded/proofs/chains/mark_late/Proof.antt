@@ -15,11 +15,11 @@ same-length c = search needs
 
 returns : tie.Need-returns
 returns c =
-    rw (c .wide .ensures) (note-yes (c .before .before .before .args .s) (c .before .before .before .args .t) (c .before .before .before .args .late .now) (c .before .before .before .pre))
+    rw (c .wide .ensures) (note-yes (c .before .before .before .before .before .args .s .0) (c .before .before .before .before .before .args .t .0) (c .before .before .before .before .before .args .late .now) (c .before .before .before .before .before .pre))
 
 returns-2 : tie.Need-returns-2
 returns-2 c =
-    note-no (c .before .before .args .s) (c .before .before .args .t) (c .before .before .args .late .now) (c .if1 .left)
+    note-no (c .before .before .before .before .args .s .0) (c .before .before .before .before .args .t .0) (c .before .before .before .before .args .late .now) (c .if1 .left)
 
 pub mark-late-spec : {M : Type 1} → statement M
 mark-late-spec = tie.close (tie.spec wide-requires slice-write-late same-length returns returns-2)

@@ -14,15 +14,15 @@ use Rattle.unguarded.proofs.chains.pass.Statement.{statement}
 use Rattle.unguarded.proofs.chains.pass.Tie as tie
 
 abbrev Inv-loop : tie.InvT-loop
-Inv-loop words form last table₀ late₀ again₀ s₀ k₀ table late again s k =
-    Passing words table₀ table late again s k × (length table ≡ length table₀) × (length late ≡ length late₀)
+Inv-loop words form last table₀ late₀ again₀ top s₀ k₀ table late again s k =
+    Passing words table₀ table late again (s .0) k × (length table ≡ length table₀) × (length late ≡ length late₀)
 
 abbrev μ-loop : tie.MeasureT-loop
-μ-loop words form last table₀ late₀ again₀ s₀ k₀ table late again s k =
+μ-loop words form last table₀ late₀ again₀ top s₀ k₀ table late again s k =
     k
 
-sub-s : tie.Need-sub-s Inv-loop μ-loop
-sub-s c =
+sub-last-schema : tie.Need-sub-last-schema Inv-loop μ-loop
+sub-last-schema c =
     omega (arith, schema-count (c .before .before .before .before .args .words .now) (c .before .before .before .before .args .form) (c .before .before .before .before .pre .laid), facts (c .before .before .before .before .args .words .now) (c .before .before .before .before .args .form) ((c .before .before .before .before .pre .laid) .clauses-laid .schemas-laid .formed) .some)
 
 loop-holds : tie.Need-loop-holds Inv-loop μ-loop
@@ -67,7 +67,7 @@ loop-less c =
 
 loop-again : tie.Need-loop-again Inv-loop μ-loop
 loop-again c =
-    (quiet-on (c .before .before .before .before .before .before .before .before .before .before .before .before .before .before .before .before .args .words .now) (⊎-elim (λ w. rw (w .2, w .3, c .before .before .before .before .before .before .before .before .wide .ensures) (clause-raised (c .before .before .before .before .before .before .before .before .before .before .before .before .before .before .before .before .args .words .now) (c .before .before .before .before .before .before .before .before .before .before .before .before .before .before .before .before .args .form) (c .before .before .before .before .before .before .before .before .before .before .before .before .before .before .before .before .pre .laid) (c .before .before .before .before .before .before .before .before .before .taker .result) (c .before .before .before .before .before .before .before .before .before .before .before .loop .inv .0) (omega arith) (c .before .before .before .before .before .before .before .before .before .taker .ensures) (rw (c .before .before .before .before .before .before .before .before .wide .ensures) at (c .before .before .before .before .clause-length .ensures .0)) (c .before .before .before .before .clause-length .ensures .1))) (λ w. rw (w .1, w .2) (clause-kept (c .before .before .before .before .before .before .before .before .before .before .before .before .before .before .before .before .args .words .now) (c .before .before .before .before .before .before .before .before .before .before .before .before .before .before .before .before .args .form) (c .before .before .before .before .before .before .before .before .before .before .before .before .before .before .before .before .pre .laid) (c .before .before .before .before .before .before .before .before .before .taker .result) (c .before .before .before .before .before .before .before .before .before .before .before .loop .inv .0) (omega arith) (c .before .before .before .before .before .before .before .before .before .taker .ensures) (rw (c .before .before .before .before .before .before .before .before .wide .ensures) at (c .before .before .before .before .clause-length .ensures .0)) (c .before .before .before .before .clause-length .ensures .1) (rw (c .before .before .before .before .before .before .before .before .wide .ensures) at (w .0 .left)))) (c .before .if1 .came)) (c .last-step .ensures), ⊎-elim (λ w. rw (w .2) (simp length-set (c .before .before .before .before .before .before .before .before .before .before .before .loop .inv .1))) (λ w. rw (w .1) (c .before .before .before .before .before .before .before .before .before .before .before .loop .inv .1)) (c .before .if1 .came), c .before .before .before .late .given ∙ c .before .before .before .before .before .before .before .before .before .before .before .loop .inv .2)
+    (quiet-on (c .before .before .before .before .before .before .before .before .before .before .before .before .before .before .before .before .args .words .now) (⊎-elim (λ w. rw (w .2, w .3, c .before .before .before .before .before .before .before .before .wide .ensures) (clause-raised (c .before .before .before .before .before .before .before .before .before .before .before .before .before .before .before .before .args .words .now) (c .before .before .before .before .before .before .before .before .before .before .before .before .before .before .before .before .args .form) (c .before .before .before .before .before .before .before .before .before .before .before .before .before .before .before .before .pre .laid) (c .before .before .before .before .before .before .before .before .before .taker .result .0) (c .before .before .before .before .before .before .before .before .before .before .before .loop .inv .0) (omega arith) (c .before .before .before .before .before .before .before .before .before .taker .ensures) (rw (c .before .before .before .before .before .before .before .before .wide .ensures) at (c .before .before .before .before .clause-length .ensures .0)) (c .before .before .before .before .clause-length .ensures .1))) (λ w. rw (w .1, w .2) (clause-kept (c .before .before .before .before .before .before .before .before .before .before .before .before .before .before .before .before .args .words .now) (c .before .before .before .before .before .before .before .before .before .before .before .before .before .before .before .before .args .form) (c .before .before .before .before .before .before .before .before .before .before .before .before .before .before .before .before .pre .laid) (c .before .before .before .before .before .before .before .before .before .taker .result .0) (c .before .before .before .before .before .before .before .before .before .before .before .loop .inv .0) (omega arith) (c .before .before .before .before .before .before .before .before .before .taker .ensures) (rw (c .before .before .before .before .before .before .before .before .wide .ensures) at (c .before .before .before .before .clause-length .ensures .0)) (c .before .before .before .before .clause-length .ensures .1) (rw (c .before .before .before .before .before .before .before .before .wide .ensures) at (w .0 .left)))) (c .before .if1 .came)) (c .last-step .ensures), ⊎-elim (λ w. rw (w .2) (simp length-set (c .before .before .before .before .before .before .before .before .before .before .before .loop .inv .1))) (λ w. rw (w .1) (c .before .before .before .before .before .before .before .before .before .before .before .loop .inv .1)) (c .before .if1 .came), c .before .before .before .late .given ∙ c .before .before .before .before .before .before .before .before .before .before .before .loop .inv .2)
 
 same-length : tie.Need-same-length Inv-loop μ-loop
 same-length c =
@@ -87,7 +87,7 @@ pass-spec =
     (tie.spec
     Inv-loop
     μ-loop
-    sub-s
+    sub-last-schema
     loop-holds
     sub-k
     taker-requires

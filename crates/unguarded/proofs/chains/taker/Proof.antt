@@ -12,11 +12,11 @@ use Rattle.unguarded.proofs.chains.taker.Statement.{statement}
 use Rattle.unguarded.proofs.chains.taker.Tie as tie
 
 abbrev Inv-loop : tie.InvT-loop
-Inv-loop words form last k s₀ s =
+Inv-loop words form k s₀ s =
     (s < schemasWord words) × StartAfter words s k
 
 abbrev μ-loop : tie.MeasureT-loop
-μ-loop words form last k s₀ s =
+μ-loop words form k s₀ s =
     s
 
 loop-holds : tie.Need-loop-holds Inv-loop μ-loop

@@ -12,22 +12,22 @@ element-copy-out-if1 : tie.Need-element-copy-out-if1
 element-copy-out-if1 c = search needs
 
 returns : tie.Need-returns
-returns c = visit-old (c .before .before .before .args .seen .now) (c .before .before .before .args .queue .now) (c .before .before .before .args .tail) (c .before .before .before .args .t) (c .before .before .before .pre .0) (omega (arith, rw (c .before .before .wide .ensures) at (c .if1 .taken)))
+returns c = visit-old (c .before .before .before .args .seen .now) (c .before .before .before .args .queue .now) (c .before .before .before .args .tail) (c .before .before .before .args .t .0) (c .before .before .before .pre .0) (omega (arith, rw (c .before .before .wide .ensures) at (c .if1 .taken)))
 
 element-write-seen : tie.Need-element-write-seen
 element-write-seen c = search needs
 
 mul-queue : tie.Need-mul-queue
-mul-queue c = omega (arith, (tail-room (c .before .before .before .args .seen .now) (c .before .before .before .args .queue .now) (c .before .before .before .args .tail) (c .before .before .before .args .t) (c .before .before .before .pre .0) (c .before .before .before .pre .1) (rw (c .before .before .wide .ensures) at (c .if1 .left))))
+mul-queue c = omega (arith, (tail-room (c .before .before .before .args .seen .now) (c .before .before .before .args .queue .now) (c .before .before .before .args .tail) (c .before .before .before .args .t .0) (c .before .before .before .pre .0) (c .before .before .before .pre .1) (rw (c .before .before .wide .ensures) at (c .if1 .left))))
 
 element-write-queue : tie.Need-element-write-queue
-element-write-queue c = (tail-room (c .before .before .before .args .seen .now) (c .before .before .before .args .queue .now) (c .before .before .before .args .tail) (c .before .before .before .args .t) (c .before .before .before .pre .0) (c .before .before .before .pre .1) (rw (c .before .before .wide .ensures) at (c .if1 .left)))
+element-write-queue c = (tail-room (c .before .before .before .args .seen .now) (c .before .before .before .args .queue .now) (c .before .before .before .args .tail) (c .before .before .before .args .t .0) (c .before .before .before .pre .0) (c .before .before .before .pre .1) (rw (c .before .before .wide .ensures) at (c .if1 .left)))
 
 add-result : tie.Need-add-result
-add-result c = omega (arith, (tail-room (c .before .before .before .args .seen .now) (c .before .before .before .args .queue .now) (c .before .before .before .args .tail) (c .before .before .before .args .t) (c .before .before .before .pre .0) (c .before .before .before .pre .1) (rw (c .before .before .wide .ensures) at (c .if1 .left))))
+add-result c = omega (arith, (tail-room (c .before .before .before .args .seen .now) (c .before .before .before .args .queue .now) (c .before .before .before .args .tail) (c .before .before .before .args .t .0) (c .before .before .before .pre .0) (c .before .before .before .pre .1) (rw (c .before .before .wide .ensures) at (c .if1 .left))))
 
 returns-2 : tie.Need-returns-2
-returns-2 c = rw (c .before .before .wide .ensures) (visit-new (c .before .before .before .args .seen .now) (c .before .before .before .args .queue .now) (c .before .before .before .args .tail) (c .before .before .before .args .t) (c .before .before .before .pre .0) (c .before .before .before .pre .1) (rw (c .before .before .wide .ensures) at (c .if1 .left)))
+returns-2 c = rw (c .before .before .wide .ensures) (visit-new (c .before .before .before .args .seen .now) (c .before .before .before .args .queue .now) (c .before .before .before .args .tail) (c .before .before .before .args .t .0) (c .before .before .before .pre .0) (c .before .before .before .pre .1) (rw (c .before .before .wide .ensures) at (c .if1 .left)))
 
 pub visit-spec : {M : Type 1} → statement M
 visit-spec =
