@@ -5,7 +5,7 @@
 --     marked-as                             the same marks in other words
 --     merged-read                           the marks of both columns, as they were read
 --     kept-all, kept-none                   the marks of a pair that holds, and of one that fails
---     merged-passed, marked-child           what is passed on: a pair's marks, or the child that it is of
+--     merged-handed, marked-child           what is handed on: a pair's marks, or the child that it is of
 --     cell-below, writes-row                one of the rows that may be written
 -- Assumes nothing.
 use mathlib.Core.Bool.{Bool, true, false, _||_, or-true, or-false}
@@ -19,7 +19,7 @@ use lib.Seq.{getD-set-same, getD-set-other}
 use borrow.Author.Tests.{eq-eqb, ne-eqb}
 use Rattle.meaning.specs.Rules.{Marks}
 use Rattle.areas.specs.Cells.{cellOf, verd, bit, four, column}
-use Rattle.areas.specs.Writers.{Writes, Marked, merged, kept, passed}
+use Rattle.areas.specs.Writers.{Writes, Marked, merged, kept, handedOn}
 use Rattle.areas.proofs.Cells.{verd-write, bit-write, write-small, same-row, same-rule}
 
 -- ---- one mark
@@ -103,15 +103,15 @@ module _ (m : ℕ) (cells : List ℕ) (s : ℕ) (ok : Bool) (k : ℕ) where
   unfolding kept
   kept-none e = rw e
 
--- ---- what is passed on
+-- ---- what is handed on
 
 module _ (m row rule aimed from : ℕ) where
-  pub merged-passed : (cells : List ℕ) (k : ℕ) → aimed ≡ row → merged m cells rule from k ≡ passed m cells row rule aimed from k
-  unfolding merged passed
-  merged-passed cells k e = rw (eq-eqb aimed row e)
+  pub merged-handed : (cells : List ℕ) (k : ℕ) → aimed ≡ row → merged m cells rule from k ≡ handedOn m cells row rule aimed from k
+  unfolding merged handedOn
+  merged-handed cells k e = rw (eq-eqb aimed row e)
 
-  pub marked-child : (first many : ℕ) {c₀ c₁ : List ℕ} → rule < m → (aimed ≡ row → ⊥) → (first ≤ aimed) × (aimed < first + many) → Marked m aimed 1 rule (λ x. true) c₀ c₁ → Marked m first many rule (passed m c₀ row rule aimed from) c₀ c₁
-  unfolding passed
+  pub marked-child : (first many : ℕ) {c₀ c₁ : List ℕ} → rule < m → (aimed ≡ row → ⊥) → (first ≤ aimed) × (aimed < first + many) → Marked m aimed 1 rule (λ x. true) c₀ c₁ → Marked m first many rule (handedOn m c₀ row rule aimed from) c₀ c₁
+  unfolding handedOn
   marked-child first many {c₀} l n w p =
       let a = w .0 in
       let b = w .1 in

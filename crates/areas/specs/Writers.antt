@@ -51,10 +51,10 @@ kept m cells s ok k = ok && column m cells s k
 
 -- the marks of the pair (row, rule) once it has applied the pair (aimed, from): more by that pair's, if it is of the row itself, and else by
 -- the child that it is of
-unfoldable pub passed : ℕ → List ℕ → ℕ → ℕ → ℕ → ℕ → Marks
-passed m cells row rule aimed from k = column m cells rule k || cond (eqb aimed row) (column m cells from k) (eqb k aimed)
+unfoldable pub handedOn : ℕ → List ℕ → ℕ → ℕ → ℕ → ℕ → Marks
+handedOn m cells row rule aimed from k = column m cells rule k || cond (eqb aimed row) (column m cells from k) (eqb k aimed)
 
 -- before: as above for the children of the row, and `aimed` is the row or one of them
-pub record Passes (m first many row rule aimed from : ℕ) (cells : List ℕ) : Type 0 where
+pub record HandsOn (m first many row rule aimed from : ℕ) (cells : List ℕ) : Type 0 where
   pub writes : Writes m first many rule from cells
   pub child : (aimed ≡ row → ⊥) → (first ≤ aimed) × (aimed < first + many)

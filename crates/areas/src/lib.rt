@@ -11,7 +11,7 @@ ghost use mathlib.Core.Path.{_≡_};
 ghost use Prim.Native.Nat.{_+_, _<_};
 ghost use lib.ListN.{length, getD};
 ghost use Rattle.areas.specs.Cells.{pairIs, cellAt, verd, bit, four, settledAs, plus, Cleared, markedBy};
-ghost use Rattle.areas.specs.Writers.{Open, Shut, Writes, Marked, merged, kept, passed, Passes};
+ghost use Rattle.areas.specs.Writers.{Open, Shut, Writes, Marked, merged, kept, handedOn, HandsOn};
 use sheet::record::Children;
 use sheet::record::Pair;
 use sheet::record::RecordRow;
@@ -148,12 +148,12 @@ pub fn shut_marks(cells: &mut [u8], m: usize, kids: Children, s: RuleRow, ok: bo
     }
 }
 
-// Passes on to the pair p, whose row's children these are, what the pair q has to give: its marks if
+// HandsOn on to the pair p, whose row's children these are, what the pair q has to give: its marks if
 // it is of the row itself, and else the child that it is of.
-pub fn pass_on(cells: &mut [u8], m: usize, kids: Children, p: Pair, q: Pair)
-    requires { ⌜ Passes m (kids .first) (kids .count) (p .row .0) (p .rule .0) (q .row .0) (q .rule .0) (now cells) ⌝ }
+pub fn hand_on(cells: &mut [u8], m: usize, kids: Children, p: Pair, q: Pair)
+    requires { ⌜ HandsOn m (kids .first) (kids .count) (p .row .0) (p .rule .0) (q .row .0) (q .rule .0) (now cells) ⌝ }
     requires { ⌜ kids .first + kids .count < 4294967296 ⌝ }
-    ensures { λ r. ⌜ Marked m (kids .first) (kids .count) (p .rule .0) (passed m (now (cells .entry)) (p .row .0) (p .rule .0) (q .row .0) (q .rule .0)) (now (cells .entry)) (now (cells .exit)) ⌝ }
+    ensures { λ r. ⌜ Marked m (kids .first) (kids .count) (p .rule .0) (handedOn m (now (cells .entry)) (p .row .0) (p .rule .0) (q .row .0) (q .rule .0)) (now (cells .entry)) (now (cells .exit)) ⌝ }
 {
     if q.row.0 == p.row.0 {
         add_marks(cells, m, kids, p.rule, q.rule);

@@ -4,7 +4,7 @@
 --     going-ready, going-aimed    what judging one of its clauses, or a pair that it applies, asks
 --     going-apply, going-mark     a pair that it applies was judged; its marks were written
 --     going-writes, going-open    what writing its marks, and settling it, asks
---     Stepped, stepped-none, stepped-go, stepped-skip, stepped-skips, stepped-went, stepped-passes, stepped-end     the steps of a clause
+--     Stepped, stepped-none, stepped-go, stepped-skip, stepped-skips, stepped-went, stepped-hands, stepped-end     the steps of a clause
 -- Assumes nothing.
 use mathlib.Core.Bool.{Bool, true, false, not, _&&_, _||_, cond}
 use mathlib.Core.List.{List, List·Memᴰ as Has}
@@ -23,7 +23,7 @@ use Rattle.meaning.specs.Settling.{samePair, listed, inTurn}
 use Rattle.meaning.proofs.Words.{row-inside}
 use Rattle.meaning.proofs.Settled.{same-pair}
 use Rattle.areas.specs.Cells.{verd, column, plus, cellAt, Unsettled}
-use Rattle.areas.specs.Writers.{Open, Writes, Marked, passed, Passes}
+use Rattle.areas.specs.Writers.{Open, Writes, Marked, handedOn, HandsOn}
 use Rattle.areas.proofs.Cells.{settledAs-read, settled-room}
 use Rattle.steps.specs.Folds.{hitsBy, gives, marksBy, doneBy}
 use Rattle.steps.specs.Plan.{stepsOf, aimOf, goOf, finishOf}
@@ -31,14 +31,14 @@ use Rattle.steps.specs.Turns.{Skipped}
 use Rattle.steps.proofs.Folds.{or-no, done-picked}
 use Rattle.steps.proofs.Plans.{Aimed, applied-is, holds-is, marks-is, go-is, go-same, aimed}
 use Rattle.judge.specs.declared.cycle.Done.{Done}
-use Rattle.judge.specs.State.{Case, Fits, In, Kid, firstKid, kidCount, rankOf, truthOf, settleOf, clausesOf, clauseAt, beforeOf, bitsOf, overlay, doneOf, Areas, Quiet, Ready, Judged, ClauseJudged}
+use Rattle.judge.specs.State.{Case, Fits, InCase, Kid, firstKid, kidCount, rankOf, truthOf, settleOf, clausesOf, clauseAt, beforeOf, bitsOf, overlay, doneOf, Areas, Quiet, Ready, Judged, ClauseJudged}
 use Rattle.judge.proofs.Pairs.{settle-self, settle-still, settle-new, settle-grows}
 use Rattle.judge.proofs.State.{cond-else, not-same, overlay-self, overlay-other, areas-done, areas-bits, areas-marks, areas-self, areas-free, areas-unsettled, areas-cell, areas-then, areas-mark}
 
 -- p is in progress: its marks are κ, and `done` are settled. No pair below p that is not settled has marks
 pub record Going (T : Case) (p : Pair) (held : Pair → Marks) (l₀ : List ℕ) (done : List Pair) (κ : Marks) (cells list : List ℕ) (count : ℕ) : Type 0 where
   pub fit : Fits T
-  pub inside : In T p
+  pub inside : InCase T p
   pub areas : Areas T done (overlay p κ held) l₀ cells list count
   pub free : listed p done ≡ false
   pub quiet : Quiet T (rankOf T p) done held
@@ -81,7 +81,7 @@ going-pair {T} {p} {c} {l} {n} a u =
           areas-then (a .areas) (a .areas) (le-refl _)
           (λ q k i ch e.
           ⊎-elim
-          (λ d. subst (λ (x : Pair). In T x → Kid T (x .row) k → bitsOf (T .m) c x k ≡ overlay p nothing (bitsOf (T .m) c) x k) (sym (same-pair q p d)) (λ i′ ch′. a .quiet p k i′ (omega arith) f ch′ ∙ sym (overlay-self p nothing (bitsOf (T .m) c) k)) i ch)
+          (λ d. subst (λ (x : Pair). InCase T x → Kid T (x .row) k → bitsOf (T .m) c x k ≡ overlay p nothing (bitsOf (T .m) c) x k) (sym (same-pair q p d)) (λ i′ ch′. a .quiet p k i′ (omega arith) f ch′ ∙ sym (overlay-self p nothing (bitsOf (T .m) c) k)) i ch)
           (λ d. sym (overlay-other p q nothing (bitsOf (T .m) c) k d))
           (decide (samePair q p)));
       free = f;
@@ -239,12 +239,12 @@ pub open-bits : (T : Case) (c : List ℕ) (p : Pair) (k : ℕ) {b : Bool} → bi
 unfolding bitsOf
 open-bits T c p k e = e
 
--- the marks that a pair passes on are those that it gives
-passed-gives : {T : Case} {p q : Pair} {held : Pair → Marks} {l₀ : List ℕ} {done : List Pair} {κ : Marks} {c l : List ℕ} {n : ℕ}
-    → Going T p held l₀ done κ c l n → In T q → listed q done ≡ true → (k : ℕ) → Kid T (p .row) k
-    → passed (T .m) c (p .row) (p .rule) (q .row) (q .rule) k ≡ (κ k || gives (truthOf T) p q k)
-unfolding passed gives
-passed-gives {T} {p} {q} {κ = κ} {c} G i e k ch = rw own-bits (ap (λ (b : Bool). κ k || b) (second (eqb (q .row) (p .row)) refl))
+-- the marks that a pair hands on are those that it gives
+handed-gives : {T : Case} {p q : Pair} {held : Pair → Marks} {l₀ : List ℕ} {done : List Pair} {κ : Marks} {c l : List ℕ} {n : ℕ}
+    → Going T p held l₀ done κ c l n → InCase T q → listed q done ≡ true → (k : ℕ) → Kid T (p .row) k
+    → handedOn (T .m) c (p .row) (p .rule) (q .row) (q .rule) k ≡ (κ k || gives (truthOf T) p q k)
+unfolding handedOn gives
+handed-gives {T} {p} {q} {κ = κ} {c} G i e k ch = rw own-bits (ap (λ (b : Bool). κ k || b) (second (eqb (q .row) (p .row)) refl))
   where
     own-bits : column (T .m) c (p .rule) k ≡ κ k
     own-bits = open-bits T c p k (going-bits G k ch)
@@ -301,7 +301,7 @@ module _ {T : Case} {p : Pair} {cl : ℕ} {c₀ l₀ : List ℕ} {n₀ i : ℕ} 
   -- a step that applies a pair
   pub stepped-went : {v h : ℕ} {q : Pair} {c₁ c₂ l₁ : List ℕ} {n₁ : ℕ} → true ≡ goes T p cl κ₀ i → q ≡ aims T p cl i
       → Aim T p q → Judged T q c l n c₁ l₁ n₁ → v ≡ verd (getD c₁ (cellAt (T .m) q) 0)
-      → Marked (T .m) (firstKid T p) (kidCount T p) (p .rule) (passed (T .m) c₁ (p .row) (p .rule) (q .row) (q .rule)) c₁ c₂
+      → Marked (T .m) (firstKid T p) (kidCount T p) (p .rule) (handedOn (T .m) c₁ (p .row) (p .rule) (q .row) (q .rule)) c₁ c₂
       → h ≡ plus misses (not (eqb v 1))
       → Stepped T p cl c₀ l₀ n₀ (i + 1) c₂ l₁ n₁ h
   unfolding doneBy marksBy hitsBy
@@ -312,7 +312,7 @@ module _ {T : Case} {p : Pair} {cl : ℕ} {c₀ l₀ : List ℕ} {n₀ i : ℕ} 
       let D = doneBy (settleOf T) (goes T p cl κ₀) (aims T p cl) (doneOf (T .m) l₀ n₀) i in
       let H = going-mark G (λ k. κ k || (goes T p cl κ₀ i && gives (truthOf T) p (aims T p cl i) k)) M
       (λ k ch.
-      passed-gives G (z .inside) (settle-self T (S .going .fit) q D) k ch ∙ ap (λ (x : Pair). κ k || gives (truthOf T) p x k) same ∙ sym (rw w)) in
+      handed-gives G (z .inside) (settle-self T (S .going .fit) q D) k ch ∙ ap (λ (x : Pair). κ k || gives (truthOf T) p x k) same ∙ sym (rw w)) in
       let f : settleOf T q D ≡ cond (goes T p cl κ₀ i) (settleOf T (aims T p cl i) D) D = ap (λ (x : Pair). settleOf T x D) same ∙ sym (rw w) in
       let b : eqb v 1 ≡ (truthOf T (aims T p cl i)) .holds = settledAs-read ((truthOf T q) .holds) v (read ∙ j .settled) ∙ ap (λ (x : Pair). (truthOf T x) .holds) same in
       let e : h ≡ plus misses (not ((truthOf T (aims T p cl i)) .holds)) = u ∙ ap (λ (x : Bool). plus misses (not x)) b in
@@ -332,10 +332,10 @@ stepped-skips {T} {p} {cl} {c₀} {l₀} {n₀} {x} {c} {l} {n} {misses} (suc d)
     let g : false ≡ goes T p cl (bitsOf (T .m) c₀ p) (x + d) = stepped-go R (omega arith) (sym (f .idle (x + d) (omega arith) (omega arith))) in
     subst (λ (y : ℕ). Stepped T p cl c₀ l₀ n₀ y c l n misses) (omega arith) (stepped-skip R g)
 
--- what passing on asks
-pub stepped-passes : {T : Case} {p q : Pair} {held : Pair → Marks} {l₀ : List ℕ} {done : List Pair} {κ : Marks} {c l : List ℕ} {n : ℕ}
-    → Going T p held l₀ done κ c l n → Aim T p q → Passes (T .m) (firstKid T p) (kidCount T p) (p .row) (p .rule) (q .row) (q .rule) c
-stepped-passes {T} {p} {q} G z =
+-- what handing on asks
+pub stepped-hands : {T : Case} {p q : Pair} {held : Pair → Marks} {l₀ : List ℕ} {done : List Pair} {κ : Marks} {c l : List ℕ} {n : ℕ}
+    → Going T p held l₀ done κ c l n → Aim T p q → HandsOn (T .m) (firstKid T p) (kidCount T p) (p .row) (p .rule) (q .row) (q .rule) c
+stepped-hands {T} {p} {q} G z =
     record {
       writes = going-writes G (q .rule) (z .inside .rule-in);
       child = λ f. let k = z .child f in (k .after, k .within);

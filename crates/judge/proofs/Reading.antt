@@ -25,7 +25,7 @@ use Rattle.rulesheet.proofs.Trailers.{form-m}
 use Rattle.rulesheet.proofs.Items.{clauses-long}
 use Rattle.meaning.specs.Rules.{Pair}
 use Rattle.areas.specs.Cells.{cellOf, cellAt}
-use Rattle.judge.specs.State.{Case, caseOf, Sheets, Fits, In, firstKid, kidCount, clausesOf, clauseAt, rankOf, Reads, ReadsClause}
+use Rattle.judge.specs.State.{Case, caseOf, Sheets, Fits, InCase, firstKid, kidCount, clausesOf, clauseAt, rankOf, Reads, ReadsClause}
 use Rattle.judge.proofs.Going.{Aim, pairs-few}
 
 -- the rules' trailer is in order, and the form is its
@@ -56,18 +56,18 @@ module _ {ws ts rs us : List ℕ} {form : RecordForm} {rform : RuleForm} (S : Sh
   pub schemas-are : rform .m ≡ schemasWord rs
   schemas-are = form-m rs rform formed
 
-  pub row-low : {p : Pair} → In T p → p .row < form .rows
+  pub row-low : {p : Pair} → InCase T p → p .row < form .rows
   row-low I = omega (arith, rows-are, I .row-in)
 
-  pub rule-low : {p : Pair} → In T p → p .rule < rform .m
+  pub rule-low : {p : Pair} → InCase T p → p .rule < rform .m
   rule-low I = omega (arith, schemas-are, I .rule-in)
 
   -- ---- the clauses of a schema
 
-  pub clauses-many : {p : Pair} {many : ℕ} → In T p → many ≡ schemaAt rs (p .rule) .count → many ≡ length (clausesOf T p)
+  pub clauses-many : {p : Pair} {many : ℕ} → InCase T p → many ≡ schemaAt rs (p .rule) .count → many ≡ length (clausesOf T p)
   clauses-many {p} I e = e ∙ sym (clauses-long rs us (p .rule) (I .rule-in))
 
-  pub clause-has : {p : Pair} {i : ℕ} → In T p → i < schemaAt rs (p .rule) .count → Has (clauseAt T p i) (clausesOf T p)
+  pub clause-has : {p : Pair} {i : ℕ} → InCase T p → i < schemaAt rs (p .rule) .count → Has (clauseAt T p i) (clausesOf T p)
   clause-has {p} {i} I h = has (clausesOf T p) i (omega (arith, clauses-long rs us (p .rule) (I .rule-in)))
     where
       has : (l : List R.Clause) (k : ℕ) → k < length l → Has (getD l k (asserts never)) l
@@ -93,10 +93,10 @@ pub lent-sheets : {ws ts rs us : List ℕ} {form : RecordForm} {rform : RuleForm
     → Sheets ws ts rs us form rform
 lent-sheets S e f = rw (e, f) S
 
-pub reads-by : {ws ts rs us : List ℕ} {p : Pair} → Sheets ws ts rs us (formOf ws) (RS.formOf rs) → In (caseOf ws ts rs us) p → Reads ws ts rs us p
+pub reads-by : {ws ts rs us : List ℕ} {p : Pair} → Sheets ws ts rs us (formOf ws) (RS.formOf rs) → InCase (caseOf ws ts rs us) p → Reads ws ts rs us p
 reads-by S I = record { sheets = S; inside = I }
 
-pub reads-clause : {ws ts rs us : List ℕ} {p : Pair} {i : ℕ} → Sheets ws ts rs us (formOf ws) (RS.formOf rs) → In (caseOf ws ts rs us) p → i < schemaAt rs (p .rule) .count
+pub reads-clause : {ws ts rs us : List ℕ} {p : Pair} {i : ℕ} → Sheets ws ts rs us (formOf ws) (RS.formOf rs) → InCase (caseOf ws ts rs us) p → i < schemaAt rs (p .rule) .count
     → ReadsClause ws ts rs us p i
 reads-clause S I h = record { reads = reads-by S I; clause-in = h }
 

@@ -23,7 +23,7 @@ use Rattle.steps.proofs.Folds.{map-append, eq-or}
 use Rattle.areas.specs.Cells.{verd, bit, settledAs, column, settledOf, cellAt, Unsettled}
 use Rattle.areas.specs.Writers.{Open, Shut, Writes, Marked}
 use Rattle.areas.proofs.Cells.{settledAs-some, same-row, same-rule, verd-settle, bit-settle, settle-small, settled-set, settled-same}
-use Rattle.judge.specs.State.{Case, Fits, In, Kid, firstKid, kidCount, truthOf, pairOf, bitsOf, overlay, doneOf, Areas}
+use Rattle.judge.specs.State.{Case, Fits, InCase, Kid, firstKid, kidCount, truthOf, pairOf, bitsOf, overlay, doneOf, Areas}
 
 -- ---- tests
 
@@ -64,7 +64,7 @@ unfolding listed
 listed-other [] p q e = rw e
 listed-other (x ∷ xs) p q e = rw (listed-other xs p q e)
 
-words-back : (T : Case) (done : List Pair) → ((p : Pair) → Has p done → In T p) → map (pairOf (T .m)) (map (cellAt (T .m)) done) ≡ done
+words-back : (T : Case) (done : List Pair) → ((p : Pair) → Has p done → InCase T p) → map (pairOf (T .m)) (map (cellAt (T .m)) done) ≡ done
 words-back T [] h = refl
 words-back T (p ∷ ps) h =
     rw (row-of (T .m) (p .row) (p .rule) (h p (at-head refl) .rule-in), rule-of (T .m) (p .row) (p .rule) (h p (at-head refl) .rule-in))
@@ -84,11 +84,11 @@ module _ {T : Case} {done : List Pair} {held : Pair → Marks} {l₀ c l : List 
   unfolding doneOf
   areas-done = ap (map (pairOf (T .m))) taken-words ∙ words-back T done (A .tidy)
 
-  pub areas-bits : (q : Pair) (k : ℕ) → In T q → Kid T (q .row) k → listed q done ≡ false → bitsOf (T .m) c q k ≡ held q k
+  pub areas-bits : (q : Pair) (k : ℕ) → InCase T q → Kid T (q .row) k → listed q done ≡ false → bitsOf (T .m) c q k ≡ held q k
   unfolding bitsOf
   areas-bits q k i ch e = A .shown q k i ch ∙ rw e
 
-  pub areas-marks : (q : Pair) (k : ℕ) → In T q → Kid T (q .row) k → listed q done ≡ true → bitsOf (T .m) c q k ≡ (truthOf T q) .marks k
+  pub areas-marks : (q : Pair) (k : ℕ) → InCase T q → Kid T (q .row) k → listed q done ≡ true → bitsOf (T .m) c q k ≡ (truthOf T q) .marks k
   unfolding bitsOf
   areas-marks q k i ch e = A .shown q k i ch ∙ rw e
 
@@ -108,25 +108,25 @@ module _ {T : Case} {done : List Pair} {held : Pair → Marks} {l₀ c l : List 
     counted = A .counted;
   })
 
-  pub areas-listed : (q : Pair) → In T q → (verd (getD c (cellAt (T .m) q) 0) ≡ 0 → ⊥) → listed q done ≡ true
+  pub areas-listed : (q : Pair) → InCase T q → (verd (getD c (cellAt (T .m) q) 0) ≡ 0 → ⊥) → listed q done ≡ true
   areas-listed q i f = ⊎-elim (λ e. e) (λ e. absurd (f (A .said q i ∙ rw e))) (decide (listed q done))
 
-  pub areas-free : (q : Pair) → In T q → verd (getD c (cellAt (T .m) q) 0) ≡ 0 → listed q done ≡ false
+  pub areas-free : (q : Pair) → InCase T q → verd (getD c (cellAt (T .m) q) 0) ≡ 0 → listed q done ≡ false
   areas-free q i e = no-true _ (λ g. settledAs-some ((truthOf T q) .holds) (sym (A .said q i ∙ rw g) ∙ e))
 
-  pub areas-unsettled : (q : Pair) → In T q → listed q done ≡ false → Unsettled (T .m) q c
+  pub areas-unsettled : (q : Pair) → InCase T q → listed q done ≡ false → Unsettled (T .m) q c
   unfolding Unsettled
   areas-unsettled q i e = A .said q i ∙ rw e
 
-  pub areas-said : (q : Pair) → In T q → listed q done ≡ true → verd (getD c (cellAt (T .m) q) 0) ≡ settledAs ((truthOf T q) .holds)
+  pub areas-said : (q : Pair) → InCase T q → listed q done ≡ true → verd (getD c (cellAt (T .m) q) 0) ≡ settledAs ((truthOf T q) .holds)
   areas-said q i e = A .said q i ∙ rw e
 
-  pub areas-cell : (q : Pair) → In T q → cellAt (T .m) q < length c
+  pub areas-cell : (q : Pair) → InCase T q → cellAt (T .m) q < length c
   areas-cell q i = let h = word-inside (T .n) (T .m) (q .row) (q .rule) (i .row-in) (i .rule-in) in let e = A .long in omega arith
 
   -- one run after another
   pub areas-then : {d′ : List Pair} {held′ held₂ : Pair → Marks} {c₂ l₂ : List ℕ} {n₂ : ℕ} → Areas T d′ held′ l c₂ l₂ n₂ → length done ≤ length d′
-      → ((q : Pair) (k : ℕ) → In T q → Kid T (q .row) k → listed q d′ ≡ false → held′ q k ≡ held₂ q k)
+      → ((q : Pair) (k : ℕ) → InCase T q → Kid T (q .row) k → listed q d′ ≡ false → held′ q k ≡ held₂ q k)
       → Areas T d′ held₂ l₀ c₂ l₂ n₂
   areas-then {d′} {held′} {held₂} B g f = record {
     long = B .long;
@@ -143,7 +143,7 @@ module _ {T : Case} {done : List Pair} {held : Pair → Marks} {l₀ c l : List 
 
 -- ---- marks are written
 
-pub areas-mark : {T : Case} {done : List Pair} (held : Pair → Marks) {l₀ c c′ l : List ℕ} {n : ℕ} {p : Pair} (κ κ′ : Marks) {to : Marks} → Fits T → In T p
+pub areas-mark : {T : Case} {done : List Pair} (held : Pair → Marks) {l₀ c c′ l : List ℕ} {n : ℕ} {p : Pair} (κ κ′ : Marks) {to : Marks} → Fits T → InCase T p
     → Areas T done (overlay p κ held) l₀ c l n → listed p done ≡ false
     → Marked (T .m) (firstKid T p) (kidCount T p) (p .rule) to c c′
     → ((k : ℕ) → Kid T (p .row) k → to k ≡ κ′ k)
@@ -167,10 +167,10 @@ areas-mark {T} {done} held {l₀} {c} {c′} {p = p} κ κ′ {to} fit inside A 
     at-p : (k : ℕ) → Kid T (p .row) k → column (T .m) c′ (p .rule) k ≡ cond (listed p done) ((truthOf T p) .marks k) (overlay p κ′ held p k)
     at-p k ch = M .here k (ch .after) (ch .within) ∙ f k ch ∙ sym (rw free (overlay-self p κ′ held k))
 
-    mine : (q : Pair) (k : ℕ) → In T q → Kid T (q .row) k → q ≡ p → column (T .m) c′ (q .rule) k ≡ cond (listed q done) ((truthOf T q) .marks k) (overlay p κ′ held q k)
+    mine : (q : Pair) (k : ℕ) → InCase T q → Kid T (q .row) k → q ≡ p → column (T .m) c′ (q .rule) k ≡ cond (listed q done) ((truthOf T q) .marks k) (overlay p κ′ held q k)
     mine q k i ch e = subst (λ (x : Pair). Kid T (x .row) k → column (T .m) c′ (x .rule) k ≡ cond (listed x done) ((truthOf T x) .marks k) (overlay p κ′ held x k)) (sym e) (at-p k) ch
 
-    other : (q : Pair) (k : ℕ) → In T q → Kid T (q .row) k → samePair q p ≡ false → column (T .m) c′ (q .rule) k ≡ cond (listed q done) ((truthOf T q) .marks k) (overlay p κ′ held q k)
+    other : (q : Pair) (k : ℕ) → InCase T q → Kid T (q .row) k → samePair q p ≡ false → column (T .m) c′ (q .rule) k ≡ cond (listed q done) ((truthOf T q) .marks k) (overlay p κ′ held q k)
     other q k i ch e =
         ap bit (M .there k (q .rule) (i .rule-in) (λ d u v.
         let a = fit .rows .child-owner (q .row) k (i .row-in) ch in
@@ -184,7 +184,7 @@ areas-mark {T} {done} held {l₀} {c} {c′} {p = p} κ κ′ {to} fit inside A 
 plus-one : (y : ℕ) → y + 1 ≡ suc y
 plus-one y = omega arith
 
-pub areas-settle : {T : Case} {done : List Pair} (held : Pair → Marks) {l₀ c c′ l l′ : List ℕ} {n r i : ℕ} {p : Pair} (κ : Marks) {ok : Bool} → In T p
+pub areas-settle : {T : Case} {done : List Pair} (held : Pair → Marks) {l₀ c c′ l l′ : List ℕ} {n r i : ℕ} {p : Pair} (κ : Marks) {ok : Bool} → InCase T p
     → Areas T done (overlay p κ held) l₀ c l n → listed p done ≡ false
     → ((k : ℕ) → Kid T (p .row) k → κ k ≡ (truthOf T p) .marks k)
     → ok ≡ (truthOf T p) .holds
@@ -204,7 +204,7 @@ areas-settle {T} {done} held {l₀} {c} {c′} {l} {l′} {n} {r} {i} {p} κ {ok
       (λ d. bits _ ∙ A .shown q k h ch ∙ rw (listed-other done p q d, overlay-other p q κ held k d))
       (decide (samePair q p));
   top = λ s h. bits s ∙ A .top s h;
-  tidy = λ q i. ⊎-elim (λ j. A .tidy q j) (λ j. subst (In T) (sym (List·Memᴰ·eq-of-singleton j)) inside) (List·Memᴰ·append-cases done i);
+  tidy = λ q i. ⊎-elim (λ j. A .tidy q j) (λ j. subst (InCase T) (sym (List·Memᴰ·eq-of-singleton j)) inside) (List·Memᴰ·append-cases done i);
   lists = S .entry ∙ listing;
   counts = S .one-more ∙ ap (λ (y : ℕ). y + 1) (A .counts) ∙ sym (length-append done (p ∷ []));
   counted = ap settledOf (S .cell) ∙ settled-set c i (x + settledAs ok) (O .in-cells) (O .unsettled) (λ z. settledAs-some ok (sym (verd-settle x ok (O .unsettled)) ∙ z)) ∙ ap (λ (y : ℕ). y + 1) (A .counted) ∙ sym (S .one-more);
@@ -222,7 +222,7 @@ areas-settle {T} {done} held {l₀} {c} {c′} {l} {l′} {n} {r} {i} {p} κ {ok
     bits : (j : ℕ) → bit (getD c′ j 0) ≡ bit (getD c j 0)
     bits j = ⊎-elim (λ d. ap bit (cell-same j d) ∙ bit-settle x ok (O .unsettled) ∙ ap (λ (y : ℕ). bit (getD c y 0)) (sym d)) (λ d. ap bit (cell-other j d)) (eq-or j i)
 
-    apart : (q : Pair) → In T q → samePair q p ≡ false → cellAt (T .m) q ≡ i → ⊥
+    apart : (q : Pair) → InCase T q → samePair q p ≡ false → cellAt (T .m) q ≡ i → ⊥
     apart q h d z = true≢false (sym (together q p (same-row (T .m) (q .row) (q .rule) (p .row) (p .rule) (h .rule-in) (inside .rule-in) (z ∙ at)) (same-rule (T .m) (q .row) (q .rule) (p .row) (p .rule) (h .rule-in) (inside .rule-in) (z ∙ at))) ∙ d)
 
     said-p : verd (getD c′ (cellAt (T .m) p) 0) ≡ cond (listed p (done ++ p ∷ [])) (settledAs ((truthOf T p) .holds)) 0
@@ -248,7 +248,7 @@ areas-settle {T} {done} held {l₀} {c} {c′} {l} {l′} {n} {r} {i} {p} κ {ok
         ∙ rw (map-append (cellAt (T .m)) done (p ∷ []), w, append-assoc (map (cellAt (T .m)) done) (cellAt (T .m) p ∷ []) (drop (suc (length done)) l₀), at)
 
 -- the rows of the children of a row, in the cells
-pub areas-writes : {T : Case} {done : List Pair} {held : Pair → Marks} {l₀ c l : List ℕ} {n : ℕ} {p : Pair} → Areas T done held l₀ c l n → Fits T → In T p → Writes (T .m) (firstKid T p) (kidCount T p) (p .rule) (p .rule) c
+pub areas-writes : {T : Case} {done : List Pair} {held : Pair → Marks} {l₀ c l : List ℕ} {n : ℕ} {p : Pair} → Areas T done held l₀ c l n → Fits T → InCase T p → Writes (T .m) (firstKid T p) (kidCount T p) (p .rule) (p .rule) c
 areas-writes {T} {p = p} A fit i = record {
   rule-in = i .rule-in;
   from-in = i .rule-in;

@@ -3,7 +3,7 @@
 --     Turning, turning          the clause stands where a turn says
 --     turning-first, turning-more     it begins, and a pair that it applies was judged
 --     turning-aim, turning-ready      that pair, and what applying it asks
---     turning-passes, turning-next    what passing on, and working out where the clause stands next, ask
+--     turning-hands, turning-next    what handing on, and working out where the clause stands next, ask
 --     left, left-less           how far it has to go
 --     cell-asks                 what reading a pair's cell asks
 -- Assumes nothing.
@@ -17,16 +17,16 @@ use lib.ListN.{length, getD}
 use Rattle.rulesheet.specs.Ruleset.{Test, asserts}
 use Rattle.meaning.specs.Rules.{Pair, Marks, passes}
 use Rattle.areas.specs.Cells.{pairIs, cellAt, verd, Unsettled, column, plus}
-use Rattle.areas.specs.Writers.{Marked, passed, Passes}
+use Rattle.areas.specs.Writers.{Marked, handedOn, HandsOn}
 use Rattle.clause.specs.Read.{Tries}
 use Rattle.clause.specs.declared.test.Tried.the-variants.{Passed}
 use Rattle.steps.specs.declared.turn.Turn.{Turn}
 use Rattle.steps.specs.Plan.{stepsOf, finishOf}
 use Rattle.steps.specs.Turns.{Skipped, Turned}
 use Rattle.judge.specs.declared.cycle.Done.{Done}
-use Rattle.judge.specs.State.{Case, Fits, In, firstKid, kidCount, rankOf, clausesOf, clauseAt, beforeOf, bitsOf, Areas, Ready, Judged, ClauseJudged, manySteps}
+use Rattle.judge.specs.State.{Case, Fits, InCase, firstKid, kidCount, rankOf, clausesOf, clauseAt, beforeOf, bitsOf, Areas, Ready, Judged, ClauseJudged, manySteps}
 use Rattle.judge.proofs.State.{areas-cell}
-use Rattle.judge.proofs.Going.{Aim, pairs-few, many, aims, goes, Stepped, stepped-none, stepped-few, stepped-go, stepped-aim, stepped-skips, stepped-went, stepped-passes, stepped-end, going-unsettled, going-ready, going-aimed, going-apply}
+use Rattle.judge.proofs.Going.{Aim, pairs-few, many, aims, goes, Stepped, stepped-none, stepped-few, stepped-go, stepped-aim, stepped-skips, stepped-went, stepped-hands, stepped-end, going-unsettled, going-ready, going-aimed, going-apply}
 use Rattle.judge.proofs.Claused.{Claused, claused-more}
 
 -- ---- a clause that tests
@@ -86,7 +86,7 @@ left-less T p cl at at′ e w t = rw e (by (at′ .go) refl)
     by false d = omega arith
 
 -- what reading a pair's cell asks
-pub cell-asks : {T : Case} {q : Pair} {d : List Pair} {h : Pair → Marks} {l₀ c l : List ℕ} {n : ℕ} → Fits T → In T q → Areas T d h l₀ c l n
+pub cell-asks : {T : Case} {q : Pair} {d : List Pair} {h : Pair → Marks} {l₀ c l : List ℕ} {n : ℕ} → Fits T → InCase T q → Areas T d h l₀ c l n
     → (cellAt (T .m) q < length c) × (length c < 4294967296)
 cell-asks {T} {q} fit I A =
     (areas-cell A q I, omega (arith, pairs-few (T .n) (T .m) (fit .rows .few) (fit .few), A .long))
@@ -122,12 +122,12 @@ module _ {T : Case} {p : Pair} {cl : ℕ} {c₀ l₀ : List ℕ} {n₀ : ℕ} {c
       pub turning-cell : (cellAt (T .m) (pairIs (at .pair)) < length c₁) × (length c₁ < 4294967296)
       turning-cell = cell-asks (W .goes-on go .0 .going .fit) (turning-aim .inside) (J .areas)
 
-      pub turning-passes : Passes (T .m) (firstKid T p) (kidCount T p) (p .row) (p .rule) (pairIs (at .pair) .row) (pairIs (at .pair) .rule) c₁
-      turning-passes = stepped-passes (going-apply (W .goes-on go .0 .going) turning-aim J) turning-aim
+      pub turning-hands : HandsOn (T .m) (firstKid T p) (kidCount T p) (p .row) (p .rule) (pairIs (at .pair) .row) (pairIs (at .pair) .rule) c₁
+      turning-hands = stepped-hands (going-apply (W .goes-on go .0 .going) turning-aim J) turning-aim
 
-      -- its marks were passed on
+      -- its marks were handed on
       module _ {v h : ℕ} {c₂ : List ℕ} (read : v ≡ verd (getD c₁ (cellAt (T .m) (pairIs (at .pair))) 0)) (e : h ≡ plus misses (not (eqb v 1)))
-          (M : Marked (T .m) (firstKid T p) (kidCount T p) (p .rule) (passed (T .m) c₁ (p .row) (p .rule) (pairIs (at .pair) .row) (pairIs (at .pair) .rule)) c₁ c₂) where
+          (M : Marked (T .m) (firstKid T p) (kidCount T p) (p .rule) (handedOn (T .m) c₁ (p .row) (p .rule) (pairIs (at .pair) .row) (pairIs (at .pair) .rule)) c₁ c₂) where
         stepped : Stepped T p cl c₀ l₀ n₀ (at .step + 1) c₂ l₁ n₁ h
         stepped = let G = W .goes-on go in stepped-went (G .0) (G .1 .2) (G .1 .3) turning-aim J read M e
 

@@ -24,7 +24,7 @@ use Rattle.areas.specs.Cells.{cellOf, verd, bit, four, settledAs, column, marke
 use Rattle.areas.specs.Writers.{Writes}
 use Rattle.areas.proofs.Cells.{settledAs-read, whole, zero-verd, zero-bit, settled-blank}
 use Rattle.judge.specs.declared.cycle.Verdict.{Verdict}
-use Rattle.judge.specs.State.{pair, Case, Fits, In, firstKid, kidCount, truthOf, settleOf, bitsOf, doneOf, Areas, Quiet, Ready, Judged}
+use Rattle.judge.specs.State.{pair, Case, Fits, InCase, firstKid, kidCount, truthOf, settleOf, bitsOf, doneOf, Areas, Quiet, Ready, Judged}
 use Rattle.judge.specs.Whole.{Exact, Fresh, Roomy, leftBy, judgedOf}
 use Rattle.judge.proofs.Pairs.{settle-self}
 use Rattle.judge.proofs.State.{areas-marks, areas-writes}
@@ -36,7 +36,7 @@ none-done : (m : ℕ) (l : List ℕ) → doneOf m l 0 ≡ []
 unfolding doneOf
 none-done m l = refl
 
-pub root-in : {T : Case} → Fits T → In T root
+pub root-in : {T : Case} → Fits T → InCase T root
 unfolding root
 root-in fit = record { row-in = fit .rows .some; rule-in = fit .some }
 

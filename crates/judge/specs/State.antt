@@ -54,8 +54,8 @@ lentCase words texts = caseOf (lent words 0) (lent texts 0) (lent words 1) (lent
 abbrev pub Fits : Case → Type 0
 Fits T = Fit (T .doc) (T .rules) (T .n) (T .m)
 
-abbrev pub In : Case → Pair → Type 0
-In T p = Inside (T .n) (T .m) p
+abbrev pub InCase : Case → Pair → Type 0
+InCase T p = Inside (T .n) (T .m) p
 
 -- k is a child of row j
 abbrev pub Kid : Case → ℕ → ℕ → Type 0
@@ -112,24 +112,24 @@ pub record Areas (T : Case) (done : List Pair) (held : Pair → Marks) (list₀ 
   pub long : length cells ≡ T .n * T .m
   pub room : length list ≡ length cells
   pub small : (i : ℕ) → getD cells i 0 < 8
-  pub said : (p : Pair) → In T p → verd (getD cells (cellAt (T .m) p) 0) ≡ cond (listed p done) (settledAs ((truthOf T p) .holds)) 0
-  pub shown : (p : Pair) (k : ℕ) → In T p → Kid T (p .row) k
+  pub said : (p : Pair) → InCase T p → verd (getD cells (cellAt (T .m) p) 0) ≡ cond (listed p done) (settledAs ((truthOf T p) .holds)) 0
+  pub shown : (p : Pair) (k : ℕ) → InCase T p → Kid T (p .row) k
       → column (T .m) cells (p .rule) k ≡ cond (listed p done) ((truthOf T p) .marks k) (held p k)
   pub top : (s : ℕ) → s < T .m → bit (getD cells s 0) ≡ false
-  pub tidy : (p : Pair) → Has p done → In T p
+  pub tidy : (p : Pair) → Has p done → InCase T p
   pub lists : list ≡ map (cellAt (T .m)) done ++ drop (length done) list₀
   pub counts : count ≡ length done
   pub counted : settledOf cells ≡ count
 
 -- no pair below the rank t has marks before it is settled
 unfoldable pub Quiet : Case → ℕ → List Pair → (Pair → Marks) → Type 0
-Quiet T t done held = (q : Pair) (k : ℕ) → In T q → rankOf T q < t → listed q done ≡ false → Kid T (q .row) k → held q k ≡ false
+Quiet T t done held = (q : Pair) (k : ℕ) → InCase T q → rankOf T q < t → listed q done ≡ false → Kid T (q .row) k → held q k ≡ false
 
 -- ---- what the judging functions ask and leave
 
 pub record Ready (T : Case) (t : ℕ) (p : Pair) (cells list : List ℕ) (count : ℕ) : Type 0 where
   pub fit : Fits T
-  pub inside : In T p
+  pub inside : InCase T p
   pub areas : Areas T (doneOf (T .m) list count) (bitsOf (T .m) cells) list cells list count
   pub quiet : Quiet T t (doneOf (T .m) list count) (bitsOf (T .m) cells)
 
@@ -152,7 +152,7 @@ pub record ClauseJudged (T : Case) (p : Pair) (i : ℕ) (cells₀ list₀ : List
 -- both sheets are laid out as their readers ask, and p is one of their pairs
 pub record Reads (ws ts rs us : List ℕ) (p : Pair) : Type 0 where
   pub sheets : Sheets ws ts rs us (formOf ws) (S.formOf rs)
-  pub inside : In (caseOf ws ts rs us) p
+  pub inside : InCase (caseOf ws ts rs us) p
 
 -- and i is a clause of its schema
 pub record ReadsClause (ws ts rs us : List ℕ) (p : Pair) (i : ℕ) : Type 0 where

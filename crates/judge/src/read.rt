@@ -10,13 +10,13 @@ ghost use lib.ListN.{length, getD};
 ghost use Rattle.rulesheet.specs.Sheet.{schemasWord, schemaAt};
 ghost use Rattle.rulesheet.specs.Faults.{wordsOk};
 ghost use Rattle.areas.specs.Cells.{pairIs, cellAt, verd, Unsettled, column, plus};
-ghost use Rattle.areas.specs.Writers.{Writes, Marked, kept, passed, Passes};
+ghost use Rattle.areas.specs.Writers.{Writes, Marked, kept, handedOn, HandsOn};
 ghost use Rattle.clause.specs.Read.{Tries};
 ghost use Rattle.steps.specs.Plan.{finishOf};
 ghost use Rattle.steps.specs.Read.{Started};
 ghost use Rattle.steps.specs.Turns.{Turned};
 ghost use Rattle.judge.specs.State.{lent, lentCase, clauseAt, beforeOf, firstKid, kidCount, Reads, ReadsClause, Applying, manySteps};
-use areas::pass_on;
+use areas::hand_on;
 use areas::shut_marks;
 use clause::test::Tried;
 use clause::test::try_clause;
@@ -148,7 +148,7 @@ pub(crate) fn turn<'a, 'b>(
     )
 }
 
-// Passes on to the pair p what the pair q that it applied has to give.
+// HandsOn on to the pair p what the pair q that it applied has to give.
 pub(crate) fn give<'a, 'b>(
     sheets: &'a [&'b [u32]; 2],
     texts: &'a [&'b [u8]; 2],
@@ -157,11 +157,11 @@ pub(crate) fn give<'a, 'b>(
     q: Pair,
 )
     requires { ⌜ Reads (lent (now sheets) 0) (lent (now texts) 0) (lent (now sheets) 1) (lent (now texts) 1) (pairIs p) ⌝ }
-    requires { ⌜ Passes (schemasWord (lent (now sheets) 1)) (firstKid (lentCase (now sheets) (now texts)) (pairIs p)) (kidCount (lentCase (now sheets) (now texts)) (pairIs p)) (p .row .0) (p .rule .0) (q .row .0) (q .rule .0) (now cells) ⌝ }
-    ensures { λ r. ⌜ Marked (schemasWord (lent (now (sheets .entry)) 1)) (firstKid (lentCase (now (sheets .entry)) (now (texts .entry))) (pairIs p)) (kidCount (lentCase (now (sheets .entry)) (now (texts .entry))) (pairIs p)) (p .rule .0) (passed (schemasWord (lent (now (sheets .entry)) 1)) (now (cells .entry)) (p .row .0) (p .rule .0) (q .row .0) (q .rule .0)) (now (cells .entry)) (now (cells .exit)) ⌝ }
+    requires { ⌜ HandsOn (schemasWord (lent (now sheets) 1)) (firstKid (lentCase (now sheets) (now texts)) (pairIs p)) (kidCount (lentCase (now sheets) (now texts)) (pairIs p)) (p .row .0) (p .rule .0) (q .row .0) (q .rule .0) (now cells) ⌝ }
+    ensures { λ r. ⌜ Marked (schemasWord (lent (now (sheets .entry)) 1)) (firstKid (lentCase (now (sheets .entry)) (now (texts .entry))) (pairIs p)) (kidCount (lentCase (now (sheets .entry)) (now (texts .entry))) (pairIs p)) (p .rule .0) (handedOn (schemasWord (lent (now (sheets .entry)) 1)) (now (cells .entry)) (p .row .0) (p .rule .0) (q .row .0) (q .rule .0)) (now (cells .entry)) (now (cells .exit)) ⌝ }
 {
     let kids = children_of(sheets[RECORD], RecordForm::of(sheets[RECORD]), p.row);
-    pass_on(cells, schemas_of(sheets[RULES]), kids, p, q);
+    hand_on(cells, schemas_of(sheets[RULES]), kids, p, q);
 }
 
 // Whether clause i of the pair, which applies schemas, holds where `misses` of its steps applied a

@@ -26,8 +26,8 @@ element-copy-out-schemas-of c = search needs
 schemas-of-requires : tie.Need-schemas-of-requires
 schemas-of-requires c κs = search needs
 
-pass-on-requires : tie.Need-pass-on-requires
-pass-on-requires c κs =
+hand-on-requires : tie.Need-hand-on-requires
+hand-on-requires c κs =
     let ts = lent (c .before .before .before .before .before .before .before .before .args .texts .now) 0 in let K = c .before .before .before .children-of .ensures in (rw (c .schemas-of .ensures, K .first-is ts, K .count-is ts) (c .before .before .before .before .before .before .before .before .pre .1), kids-small ts (c .before .before .before .before .before .before .before .before .pre .0) (c .before .before .before .before .of .ensures) K (omega arith))
 
 same-length : tie.Need-same-length
@@ -35,7 +35,7 @@ same-length c = search needs
 
 returns : tie.Need-returns
 returns c =
-    let ts = lent (c .before .before .before .before .before .before .before .before .before .before .before .args .texts .now) 0 in let K = c .before .before .before .before .before .before .children-of .ensures in rw (c .before .before .before .schemas-of .ensures, K .first-is ts, K .count-is ts) at (c .before .before .pass-on .ensures)
+    let ts = lent (c .before .before .before .before .before .before .before .before .before .before .before .args .texts .now) 0 in let K = c .before .before .before .before .before .before .children-of .ensures in rw (c .before .before .before .schemas-of .ensures, K .first-is ts, K .count-is ts) at (c .before .before .hand-on .ensures)
 
 pub give-spec : {M : Type 1} → statement M
 give-spec =
@@ -47,6 +47,6 @@ give-spec =
     children-of-requires
     element-copy-out-schemas-of
     schemas-of-requires
-    pass-on-requires
+    hand-on-requires
     same-length
     returns)

@@ -7,7 +7,7 @@ use borrow.Author.Tests.{not-true}
 use Rattle.areas.specs.Cells.{pairIs}
 use Rattle.judge.specs.State.{lentCase}
 use Rattle.judge.proofs.Claused.{cells-kept, list-kept}
-use Rattle.judge.proofs.Turning.{Turning, left, left-less, ready-turn, turning-first, turning-low, turning-within, turning-aim, turning-ready, turning-cell, turning-passes, turning-next, turning-more, turning-few, turning-end}
+use Rattle.judge.proofs.Turning.{Turning, left, left-less, ready-turn, turning-first, turning-low, turning-within, turning-aim, turning-ready, turning-cell, turning-hands, turning-next, turning-more, turning-few, turning-end}
 use Rattle.judge.proofs.Reading.{rules-ok, clause-has, reads-by, reads-clause, falls-by}
 use Prim.Native.Nat.{ℕ}
 use borrow.Fn.PlainCycle.{and}
@@ -65,7 +65,7 @@ judge-clause-more-requires t c κs =
 
 pub judge-clause-give-requires : (t : ℕ) → judge-clause-lts.Need-give-requires (judge-clause-claims t) (judge-clause-at t) judge-clause.Post judge-clause-Inv-loop judge-clause-μ-loop
 judge-clause-give-requires t c κs =
-    (reads-by (c .before .before .before .before .before .before .before .before .before .before .before .before .before .before .before .before .before .before .before .before .before .pre .1 .0) ((c .before .before .before .before .before .before .before .before .before .before .before .before .before .before .before .before .before .before .before .before .before .pre .1 .1 .0) .inside), turning-passes (c .before .before .before .before .before .before .before .before .before .before .before .before .before .loop .inv) (c .before .before .before .before .before .before .before .before .before .before .before .before .loop-test .taken) (clause-has (c .before .before .before .before .before .before .before .before .before .before .before .before .before .before .before .before .before .before .before .before .before .pre .1 .0) ((c .before .before .before .before .before .before .before .before .before .before .before .before .before .before .before .before .before .before .before .before .before .pre .1 .1 .0) .inside) (c .before .before .before .before .before .before .before .before .before .before .before .before .before .before .before .before .before .before .before .before .before .pre .1 .1 .1 .1 .0)) (c .before .before .before .before .before .before .before .before .before .apply .ensures))
+    (reads-by (c .before .before .before .before .before .before .before .before .before .before .before .before .before .before .before .before .before .before .before .before .before .pre .1 .0) ((c .before .before .before .before .before .before .before .before .before .before .before .before .before .before .before .before .before .before .before .before .before .pre .1 .1 .0) .inside), turning-hands (c .before .before .before .before .before .before .before .before .before .before .before .before .before .loop .inv) (c .before .before .before .before .before .before .before .before .before .before .before .before .loop-test .taken) (clause-has (c .before .before .before .before .before .before .before .before .before .before .before .before .before .before .before .before .before .before .before .before .before .pre .1 .0) ((c .before .before .before .before .before .before .before .before .before .before .before .before .before .before .before .before .before .before .before .before .before .pre .1 .1 .0) .inside) (c .before .before .before .before .before .before .before .before .before .before .before .before .before .before .before .before .before .before .before .before .before .pre .1 .1 .1 .1 .0)) (c .before .before .before .before .before .before .before .before .before .apply .ensures))
 
 pub judge-clause-add-turn : (t : ℕ) → judge-clause-lts.Need-add-turn (judge-clause-claims t) (judge-clause-at t) judge-clause.Post judge-clause-Inv-loop judge-clause-μ-loop
 judge-clause-add-turn t c =
