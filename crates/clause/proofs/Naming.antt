@@ -2,20 +2,25 @@
 --     child-inside                 a child is one of the rows
 --     child-found                  the search that was made is the search that is meant
 --     compared                     a row has a name, by the names that were compared
+--     alone                        where no two children share a name, the one that has it is the first
+--     has-members                  what is an object by its kind's number is one
 --     entry-lacks, entry-has       no child has an entry's name, or one has it, by what the search gave
 --     no-object, lacks, has-all    what `required` says of a row
 -- Assumes nothing.
 use mathlib.Core.Bool.{Bool, true, false}
 use mathlib.Core.List.{List, [], map}
-use mathlib.Core.Path.{_≡_, sym, ap, _∙_}
+use mathlib.Core.Logic.{⊎-elim}
+use mathlib.Core.Path.{_≡_, refl, sym, ap, _∙_}
 use Prim.Native.Nat.{ℕ, _+_, _-_, _≤_, _<_}
 use native.Mathlib.Omega.{arith}
 use Rattle.laws.specs.Lowest.{lowest}
-use Rattle.laws.proofs.Searches.{clear-below, holds-at, at-most-end}
+use Rattle.laws.proofs.Tests.{decide}
+use Rattle.laws.proofs.Searches.{clear-below, holds-at, at-most-end, lowest-is}
 use Rattle.text.specs.declared.Range.{Range}
 use Rattle.text.specs.Part.{part, sameBytes}
+use Rattle.text.proofs.Bytes.{same-eq}
 use Rattle.sheet.specs.declared.record.RecordForm.{RecordForm}
-use Rattle.sheet.specs.Doc.{Doc, firstChild, childCount, Child}
+use Rattle.sheet.specs.Doc.{Value, null, bool, number, string, array, object, Doc, firstChild, childCount, Child, isObject}
 use Rattle.sheet.specs.Record.{rows-max, docOf}
 use Rattle.sheet.specs.Accepted.{Laid, NameRead}
 use Rattle.sheet.proofs.Trailers.{form-rows, form-few}
@@ -29,7 +34,7 @@ use Rattle.meaning.specs.Lists.{any, range}
 use Rattle.meaning.specs.Tests.{members?, given}
 use Rattle.meaning.specs.Rules.{called, present}
 use Rattle.clause.specs.Read.{childNamed}
-use Rattle.clause.proofs.Having.{isOf, members-found, no-members}
+use Rattle.clause.proofs.Having.{isOf, never, members-found, no-members}
 use Rattle.clause.proofs.Listing.{range-run, any-found, any-nowhere, entries-all, entry-missed}
 
 pub child-inside : (ws ts : List ℕ) (form : RecordForm) → Laid ws form → (j first count i : ℕ) → j < form .rows
@@ -40,10 +45,9 @@ child-inside ws ts form laid j first count i h f c l =
     (children-of ws ts (form .rows) n (laid .rows-ok) j (first + i) h (under ws ts (form .rows) n (laid .rows-ok) j (first + i) h child) .1, form-few ws form (laid .formed))
 
 -- the name that was read of row k was compared
-pub compared : {ws : List ℕ} {k : ℕ} {own : Range} → NameRead ws k own → (ts name : List ℕ) (r b : Bool) → r ≡ sameBytes (part ts own) name → r ≡ b
-    → called (docOf ws ts) name k ≡ b
+pub compared : {ws : List ℕ} {k : ℕ} {own : Range} → NameRead ws k own → (ts name : List ℕ) (r : Bool) → r ≡ sameBytes (part ts own) name → r ≡ called (docOf ws ts) name k
 unfolding called
-compared {ws} {k} {own} read ts name r b is e = ap (λ (x : List ℕ). sameBytes x name) (sym (read .name-is ts)) ∙ sym is ∙ e
+compared {ws} {k} {own} read ts name r is = is ∙ ap (λ (x : List ℕ). sameBytes x name) (read .name-is ts)
 
 module _ (d : Doc) (j : ℕ) (name : List ℕ) where
   pub child-found : (first count i : ℕ) → first ≡ firstChild (d .value j) → count ≡ childCount (d .value j)
@@ -52,6 +56,21 @@ module _ (d : Doc) (j : ℕ) (name : List ℕ) where
       e
       ∙ ap (λ (x : ℕ). lowest (λ k. called d name (x + k)) count) f
       ∙ ap (λ (x : ℕ). lowest (λ k. called d name (firstChild (d .value j) + k)) x) c
+
+  -- where no two children share a name, the one that has it is the first
+  pub alone : ((k l : ℕ) → Child d j k → Child d j l → k < l → d .name k ≡ d .name l → ⊥) → (first count i : ℕ) → first ≡ firstChild (d .value j)
+      → count ≡ childCount (d .value j) → i < count → called d name (first + i) ≡ true → i ≡ childNamed d j name
+  unfolding called
+  alone differ first count i f c h named = child-found first count i f c (lowest-is (λ k. called d name (first + k)) count i (omega arith) none (λ l. named))
+    where
+      none : (k : ℕ) → k < i → called d name (first + k) ≡ false
+      none k l =
+          ⊎-elim
+          (λ (same : called d name (first + k) ≡ true).
+          let both = same-eq (d .name (first + k)) name same ∙ sym (same-eq (d .name (first + i)) name named) in
+          absurd (differ (first + k) (first + i) (record { after = omega arith; within = omega arith }) (record { after = omega arith; within = omega arith }) (omega arith) both))
+          (λ (other : called d name (first + k) ≡ false). other)
+          (decide (called d name (first + k)))
 
   -- one of the children has the name
   abbrev pub isNamed : Bool
@@ -81,6 +100,15 @@ module _ (d : Doc) (j : ℕ) (name : List ℕ) where
         in-order
         ∙ any-found (λ k. called d name k) count first (first + r) (omega arith) (omega arith)
         (ap (λ (k : ℕ). called d name (first + k)) read ∙ holds-at (λ k. called d name (first + k)) count 0 (omega (arith, read)))
+
+pub has-members : (v : Value) → isOf 6 v ≡ true → isObject v ≡ true
+has-members null t = absurd (never t)
+has-members (bool true) t = absurd (never t)
+has-members (bool false) t = absurd (never t)
+has-members (number z) t = absurd (never t)
+has-members (string bytes) t = absurd (never t)
+has-members (array first k) t = absurd (never t)
+has-members (object first k) t = refl
 
 module _ (d : Doc) (j : ℕ) (ws ts : List ℕ) (list : Entries) where
   -- what `required` says of row j

@@ -5,7 +5,7 @@
 use mathlib.Core.Bool.{Bool, true, false, _&&_}
 use mathlib.Core.List.{List}
 use mathlib.Core.Logic.{⊎-elim}
-use mathlib.Core.Path.{_≡_, sym, _∙_}
+use mathlib.Core.Path.{_≡_, sym, ap, _∙_}
 use Prim.Native.Nat.{ℕ, _+_, _<_}
 use native.Mathlib.Omega.{arith}
 use lib.Dec.{eqb, leb}
@@ -17,8 +17,10 @@ use Rattle.sheet.specs.Record.{textWord}
 use Rattle.sheet.specs.Faults.{text-max, wordsOk}
 use Rattle.sheet.specs.Accepted.{AcceptedRecord}
 use Rattle.sheet.proofs.Acceptance as A
+use Rattle.sheet.proofs.Shape.{well-formed}
 use Rattle.rulesheet.specs.declared.form.RuleForm.{RuleForm}
 use Rattle.rulesheet.specs.declared.clause.Clause.{Clause}
+use Rattle.rulesheet.specs.Ruleset as R
 use Rattle.rulesheet.specs.Ruleset.{never, asserts}
 use Rattle.rulesheet.specs.Sheet as S
 use Rattle.rulesheet.specs.Read.{RulesFormed}
@@ -42,6 +44,7 @@ record-read ws ts form a =
     record {
       laid = A.accepted-laid ws ts form a;
       text-length = said (wordsOk ws) (textWord ws) (length ts) (A.accepted-facts ws ts (form .rows) (a .accepts) .trailer-good);
+      differ = well-formed ws ts (form .rows) (a .accepts) .names-differ;
     }
 
 pub rules-read : (ws ts : List ℕ) (form : RuleForm) → AcceptedRules ws ts form → RulesRead ws ts form
@@ -56,23 +59,22 @@ rules-read ws ts form a =
 
 -- ---- a clause of a schema
 
-module _ {rs us : List ℕ} {form : RuleForm} (R : RulesRead rs us form) {s first i : ℕ} (low : s < form .m) (at : first ≡ S.schemaAt rs s .first) (h : i < S.schemaAt rs s .count) where
+module _ {rs us : List ℕ} {form : RuleForm} (read : RulesRead rs us form) {s first i : ℕ} (low : s < form .m) (at : first ≡ S.schemaAt rs s .first) (h : i < S.schemaAt rs s .count) where
   formed : RulesFormed rs form
-  formed = R .laid .clauses-laid .schemas-laid .formed
+  formed = read .laid .clauses-laid .schemas-laid .formed
 
   pub clause-low : first + i < form .c
-  clause-low = omega (arith, schema-within rs form (R .laid .clauses-laid .schemas-laid) s low, form-c rs form formed)
+  clause-low = omega (arith, schema-within rs form (read .laid .clauses-laid .schemas-laid) s low, form-c rs form formed)
 
   pub clause-small : first + i < 4294967296
   clause-small = let a = trailer-facts rs (formed .trailer) in omega (arith, clause-low, form-c rs form formed, a .few-clauses)
 
-  pub clause-read : {clause : Clause} → ((vs : List ℕ) → clauseMeans rs vs clause ≡ S.clauseOf rs vs (first + i)) → Tested rs form clause
-      → ClauseRead rs us form s first i clause
-  clause-read means tested =
+  pub clause-read : (f : R.Clause → R.Clause) {clause : Clause} → ((vs : List ℕ) → clauseMeans rs vs clause ≡ f (S.clauseOf rs vs (first + i))) → Tested rs form clause
+      → ClauseRead f rs us form s i clause
+  clause-read f means tested =
       record {
         schema-in = low;
-        first-is = at;
         clause-in = h;
-        means = means us ∙ rw at (sym (clause-item rs us s (omega (arith, form-m rs form formed)) i (asserts never) h));
+        means = means us ∙ rw at (ap f (sym (clause-item rs us s (omega (arith, form-m rs form formed)) i (asserts never) h)));
         tested = tested;
       }

@@ -12,8 +12,8 @@ use Rattle.decimal.specs.Value.{value, Plain}
 use Rattle.sheet.specs.declared.kind.RowKind.{RowKind}
 use Rattle.sheet.specs.declared.kind.RowKind.the-variants.{Null, False, True, Number, String, Array, Object}
 use Rattle.sheet.specs.declared.record.RecordForm.{RecordForm}
-use Rattle.sheet.specs.Doc.{Value, Doc, firstChild, childCount}
-use Rattle.sheet.specs.Record.{textWord}
+use Rattle.sheet.specs.Doc.{Value, Doc, Child, firstChild, childCount, isObject}
+use Rattle.sheet.specs.Record.{textWord, docOf}
 use Rattle.sheet.specs.Accepted.{Laid}
 use Rattle.rulesheet.specs.declared.code.Fields.{Fields}
 use Rattle.rulesheet.specs.declared.form.RuleForm.{RuleForm}
@@ -31,10 +31,12 @@ use Rattle.clause.specs.declared.test.Tried as T
 use Rattle.clause.specs.declared.numbers.Numbered as N
 use Rattle.clause.specs.declared.sizes.Measured as M
 
--- no row of the record breaks the layout, and the text has the length that its trailer says
+-- no row of the record breaks the layout, the text has the length that its trailer says, and no two children of an object share a name
 pub record RecordRead (ws ts : List ℕ) (form : RecordForm) : Type 0 where
   pub laid : Laid ws form
   pub text-length : length ts ≡ textWord ws
+  pub differ : (j k l : ℕ) → j < form .rows → isObject (docOf ws ts .value j) ≡ true → Child (docOf ws ts) j k → Child (docOf ws ts) j l → k < l
+      → docOf ws ts .name k ≡ docOf ws ts .name l → ⊥
 
 -- nothing of the rules breaks the layout, and their text has the length that their trailer says
 pub record RulesRead (ws ts : List ℕ) (form : RuleForm) : Type 0 where
@@ -55,12 +57,11 @@ clauseIn rs us s i = getD (S.rulesOf rs us .clauses s) i (asserts never)
 abbrev pub beforeIn : List ℕ → List ℕ → ℕ → ℕ → List R.Clause
 beforeIn rs us s i = take i (S.rulesOf rs us .clauses s)
 
--- clause i of schema s was read, whose clauses start at `first`
-pub record ClauseRead (rs us : List ℕ) (form : RuleForm) (s first i : ℕ) (clause : Clause) : Type 0 where
+-- clause i of schema s was read, as far as f asks for it
+pub record ClauseRead (f : R.Clause → R.Clause) (rs us : List ℕ) (form : RuleForm) (s i : ℕ) (clause : Clause) : Type 0 where
   pub schema-in : s < form .m
-  pub first-is : first ≡ S.schemaAt rs s .first
   pub clause-in : i < S.schemaAt rs s .count
-  pub means : clauseMeans rs us clause ≡ clauseIn rs us s i
+  pub means : clauseMeans rs us clause ≡ f (clauseIn rs us s i)
   pub tested : Tested rs form clause
 
 -- what trying the clause c on row j tells: whether the row passes its test, or that it has none

@@ -5,12 +5,13 @@ ghost use mathlib.Core.Path.{_≡_};
 ghost use Prim.Native.Nat.{_<_};
 ghost use lib.ListN.{length};
 ghost use Rattle.text.specs.Part.{fits, part};
+ghost use Rattle.sheet.specs.Doc.{isObject};
 ghost use Rattle.sheet.specs.Record.{docOf};
 ghost use Rattle.rulesheet.specs.declared.code.Fields.the-variants.{Names};
 ghost use Rattle.rulesheet.specs.Codes.{entryName};
 ghost use Rattle.rulesheet.specs.Clauses.{entriesOf};
 ghost use Rattle.meaning.specs.Tests.{members?, given};
-ghost use Rattle.meaning.specs.Rules.{present};
+ghost use Rattle.meaning.specs.Rules.{called, present};
 ghost use Rattle.clause.specs.Read.{RecordRead, RulesRead, ListRead, childNamed};
 use crate::numbers::is_kind;
 use rulesheet::clause::Entries;
@@ -24,8 +25,24 @@ use sheet::record::name_of;
 use text::Range;
 use text::same_part;
 
-// Which child of the row, counted from 0, is the first whose name has the bytes of this range of
-// the rule text; the number of children if none has.
+// Whether the row has this name: the bytes of this range of the rule text.
+pub fn has_name<'a>(
+    record: &[u32],
+    text: &'a [u8],
+    form: RecordForm,
+    row: RecordRow,
+    rule_text: &'a [u8],
+    name: Range,
+) -> bool
+    requires { ⌜ RecordRead (now «record») (now text) form × (row .0 < form .rows) ⌝ }
+    requires { ⌜ fits (length (now «rule_text»)) name ≡ true ⌝ }
+    ensures { λ r. ⌜ r ≡ called (docOf (now («record» .entry)) (now (text .entry))) (part (now («rule_text» .entry)) name) (row .0) ⌝ }
+{
+    same_part(text, name_of(record, form, row), rule_text, name)
+}
+
+// Which child of the row, an object, has this name, counted from 0; the number of children if none
+// has. The child at `hint` is tried first: members mostly stand in the order of the rules.
 pub fn child_named<'a>(
     record: &[u32],
     text: &'a [u8],
@@ -33,18 +50,23 @@ pub fn child_named<'a>(
     row: RecordRow,
     rule_text: &'a [u8],
     name: Range,
+    hint: u32,
 ) -> u32
-    requires { ⌜ RecordRead (now «record») (now text) form × (row .0 < form .rows) ⌝ }
+    requires { ⌜ RecordRead (now «record») (now text) form × (row .0 < form .rows) × (isObject (docOf (now «record») (now text) .value (row .0)) ≡ true) ⌝ }
     requires { ⌜ fits (length (now «rule_text»)) name ≡ true ⌝ }
     ensures { λ r. ⌜ r ≡ childNamed (docOf (now («record» .entry)) (now (text .entry))) (row .0) (part (now («rule_text» .entry)) name) ⌝ }
 {
     let children = children_of(record, form, row);
     let first = children.first;
     let count = children.count;
+    if hint < count {
+        if has_name(record, text, form, RecordRow(first + hint), rule_text, name) {
+            return hint;
+        }
+    }
     let mut i = 0;
     while i < count {
-        let own = name_of(record, form, RecordRow(first + i));
-        if same_part(text, own, rule_text, name) {
+        if has_name(record, text, form, RecordRow(first + i), rule_text, name) {
             return i;
         }
         i += 1;
@@ -75,7 +97,7 @@ pub(crate) fn required<'a>(
     let mut i = 0;
     while i < many {
         let name = entry_name(rules, rule_form, list, i);
-        if child_named(record, text, form, row, rule_text, name) == members {
+        if child_named(record, text, form, row, rule_text, name, i) == members {
             return false;
         }
         i += 1;

@@ -6,12 +6,13 @@ use mathlib.Core.Logic.{⊎-elim}
 use mathlib.Core.Path.{_≡_, refl, sym, _∙_}
 use Prim.Native.Nat.{ℕ, zero, suc, _+_, _-_, _*_, _≤_, _<_}
 use native.Mathlib.Omega.{arith}
+use denote.Ref.{RefT}
 use lib.ListN.{length, getD}
 use Rattle.sheet.specs.declared.record.RecordForm.{RecordForm}
 use Rattle.sheet.specs.declared.record.Children.{Children}
 use Rattle.sheet.specs.Record.{rowsWord, formOf}
 use Rattle.sheet.specs.Accepted.{ChildrenRead}
-use Rattle.sheet.proofs.Trailers.{form-rows}
+use Rattle.sheet.proofs.Trailers.{form-rows, form-few}
 use Rattle.laws.proofs.Tests.{le-or-lt}
 use Rattle.clause.proofs.Naming.{child-inside}
 use Rattle.rulesheet.specs.declared.form.RuleForm.{RuleForm}
@@ -21,11 +22,11 @@ use Rattle.rulesheet.specs.Sheet as RS
 use Rattle.rulesheet.specs.Sheet.{schemasWord, schemaAt}
 use Rattle.rulesheet.specs.Faults.{wordsOk}
 use Rattle.rulesheet.specs.Read.{RulesFormed}
-use Rattle.rulesheet.proofs.Trailers.{form-m}
+use Rattle.rulesheet.proofs.Trailers.{facts, form-m, form-c, form-e}
 use Rattle.rulesheet.proofs.Items.{clauses-long}
 use Rattle.meaning.specs.Rules.{Pair}
 use Rattle.areas.specs.Cells.{cellOf, cellAt}
-use Rattle.judge.specs.State.{Case, caseOf, Sheets, Fits, InCase, firstKid, kidCount, clausesOf, clauseAt, rankOf, Reads, ReadsClause}
+use Rattle.judge.specs.State.{Case, caseOf, Sheets, lent, formsOf, recordFormIn, ruleFormIn, FormsFit, Lent, lentCase, Fits, InCase, firstKid, kidCount, clausesOf, clauseAt, rankOf, Reads, ReadsClause}
 use Rattle.judge.proofs.Going.{Aim, pairs-few}
 
 -- the rules' trailer is in order, and the form is its
@@ -93,23 +94,51 @@ pub lent-sheets : {ws ts rs us : List ℕ} {form : RecordForm} {rform : RuleForm
     → Sheets ws ts rs us form rform
 lent-sheets S e f = rw (e, f) S
 
-pub reads-by : {ws ts rs us : List ℕ} {p : Pair} → Sheets ws ts rs us (formOf ws) (RS.formOf rs) → InCase (caseOf ws ts rs us) p → Reads ws ts rs us p
-reads-by S I = record { sheets = S; inside = I }
+-- ---- the forms that are lent
 
-pub reads-clause : {ws ts rs us : List ℕ} {p : Pair} {i : ℕ} → Sheets ws ts rs us (formOf ws) (RS.formOf rs) → InCase (caseOf ws ts rs us) p → i < schemaAt rs (p .rule) .count
-    → ReadsClause ws ts rs us p i
-reads-clause S I h = record { reads = reads-by S I; clause-in = h }
+pub lent-schemas : {ws ts rs us forms : List ℕ} {form : RecordForm} {rform : RuleForm} → Sheets ws ts rs us form rform → forms ≡ formsOf form rform → getD forms 5 0 ≡ schemasWord rs
+lent-schemas S e = rw e (schemas-are S)
+
+pub lends : {words texts : List (RefT (List ℕ))} {forms : List ℕ} {form : RecordForm} {rform : RuleForm} → Sheets (lent words 0) (lent texts 0) (lent words 1) (lent texts 1) form rform
+    → forms ≡ formsOf form rform → Lent words texts forms
+lends S e = record { sheets = own-sheets S; forms-are = e ∙ rw (S .record-read .laid .formed .same-form, formed S .same-form) }
+
+module _ {words texts : List (RefT (List ℕ))} {forms : List ℕ} (all : Lent words texts forms) where
+  pub schemas-lent : getD forms 5 0 ≡ lentCase words texts .m
+  schemas-lent = lent-schemas (all .sheets) (all .forms-are)
+
+  pub forms-fit : FormsFit forms
+  forms-fit =
+      let few = facts (lent words 1) (RS.formOf (lent words 1)) (formed (all .sheets)) in
+      let rows = form-few (lent words 0) (formOf (lent words 0)) (all .sheets .record-read .laid .formed) in
+      let c = form-c (lent words 1) (RS.formOf (lent words 1)) (formed (all .sheets)) in
+      let e = form-e (lent words 1) (RS.formOf (lent words 1)) (formed (all .sheets)) in
+      rw (all .forms-are) (omega arith, omega (arith, schemas-are (all .sheets), few .few), omega (arith, c, few .few-clauses), omega (arith, e, few .few-entries))
+
+  pub record-lent : {form : RecordForm} → form ≡ recordFormIn forms → form ≡ formOf (lent words 0)
+  record-lent e = e ∙ rw (all .forms-are)
+
+  pub rules-lent : {form : RuleForm} → form ≡ ruleFormIn forms → form ≡ RS.formOf (lent words 1)
+  rules-lent e = e ∙ rw (all .forms-are)
+
+  pub formed-lent : RulesFormed (lent words 1) (ruleFormIn forms)
+  formed-lent = rw (rules-lent refl) (formed (all .sheets))
+
+  pub reads-by : {p : Pair} → InCase (lentCase words texts) p → Reads words texts forms p
+  reads-by inside = record { all = all; inside = inside }
+
+  pub reads-clause : {p : Pair} {i : ℕ} → InCase (lentCase words texts) p → i < schemaAt (lent words 1) (p .rule) .count → ReadsClause words texts forms p i
+  reads-clause inside h = record { reads = reads-by inside; clause-in = h }
 
 -- ---- the writers, by the numbers that were read
 
 -- the children of a row end within the rows
-pub kids-small : {ws rs us : List ℕ} (ts : List ℕ) {p : Pair} {form : RecordForm} {kids : Children} → Reads ws ts rs us p → form ≡ formOf ws → ChildrenRead ws (p .row) kids
-    → kids .first < 4294967296 → kids .first + kids .count < 4294967296
-kids-small {ws} {rs} {us} ts {p} {form} {kids} A e K fits =
-    let S = lent-sheets (A .sheets) e refl in
+pub kids-small : {ws rs us : List ℕ} (ts : List ℕ) {p : Pair} {form : RecordForm} {rform : RuleForm} {kids : Children} → Sheets ws ts rs us form rform → InCase (caseOf ws ts rs us) p
+    → ChildrenRead ws (p .row) kids → kids .first < 4294967296 → kids .first + kids .count < 4294967296
+kids-small {ws} ts {p} {form} {kids = kids} S inside K fits =
     ⊎-elim (λ (z : kids .count ≤ 0). omega arith)
     (λ (z : 0 < kids .count).
-    let last = child-inside ws ts form (S .record-read .laid) (p .row) (kids .first) (kids .count) (kids .count - 1) (row-low S (A .inside)) (K .first-is ts) (K .count-is ts) (omega arith) in
+    let last = child-inside ws ts form (S .record-read .laid) (p .row) (kids .first) (kids .count) (kids .count - 1) (row-low S inside) (K .first-is ts) (K .count-is ts) (omega arith) in
     omega (arith, last))
     (le-or-lt (kids .count) 0)
 

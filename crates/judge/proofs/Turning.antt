@@ -1,10 +1,10 @@
 -- A clause of a pair in progress between two of its steps: the loop over the pairs that it applies. And a clause that only tests.
 --     claused-test              a test was tried
 --     Turning, turning          the clause stands where a turn says
---     turning-first, turning-more     it begins, and a pair that it applies was judged
+--     Standing, standing-first, standing-asks, standing-turn     so many of its steps are taken
+--     turning-more              a pair that it applies was judged
 --     turning-aim, turning-ready      that pair, and what applying it asks
---     turning-hands, turning-next    what handing on, and working out where the clause stands next, ask
---     left, left-less           how far it has to go
+--     turning-hands             what handing on asks
 --     cell-asks                 what reading a pair's cell asks
 -- Assumes nothing.
 use mathlib.Core.Bool.{Bool, true, false, not, _&&_, cond}
@@ -22,9 +22,10 @@ use Rattle.clause.specs.Read.{Tries}
 use Rattle.clause.specs.declared.test.Tried.the-variants.{Passed}
 use Rattle.steps.specs.declared.turn.Turn.{Turn}
 use Rattle.steps.specs.Plan.{stepsOf, finishOf}
+use Rattle.steps.specs.Read.{Started}
 use Rattle.steps.specs.Turns.{Skipped, Turned}
 use Rattle.judge.specs.declared.cycle.Done.{Done}
-use Rattle.judge.specs.State.{Case, Fits, InCase, firstKid, kidCount, rankOf, clausesOf, clauseAt, beforeOf, bitsOf, Areas, Ready, Judged, ClauseJudged, manySteps}
+use Rattle.judge.specs.State.{Case, Fits, InCase, firstKid, kidCount, rankOf, clausesOf, clauseAt, beforeOf, bitsOf, Areas, Ready, Judged, ClauseJudged, manySteps, Turns, TurnsTo}
 use Rattle.judge.proofs.State.{areas-cell}
 use Rattle.judge.proofs.Going.{Aim, pairs-few, many, aims, goes, Stepped, stepped-none, stepped-few, stepped-go, stepped-aim, stepped-skips, stepped-went, stepped-hands, stepped-end, going-unsettled, going-ready, going-aimed, going-apply}
 use Rattle.judge.proofs.Claused.{Claused, claused-more}
@@ -72,34 +73,29 @@ turning {T} {p} {cl} {c₀} {l₀} {n₀} {x} {c} {l} {n} {misses} {at} S low t 
         let e : x + (y - x) ≡ y = omega arith in
         subst (λ (z : ℕ). Stepped T p cl c₀ l₀ n₀ z c l n misses) e (stepped-skips (y - x) S (omega arith) (record { idle = λ k u v. f .idle k u (omega arith) }))
 
--- how far the clause has to go
-unfoldable pub left : Case → Pair → ℕ → Turn → ℕ
-left T p cl at = cond (at .go) (many T p cl - at .step) 0
-
-pub left-less : (T : Case) (p : Pair) (cl : ℕ) (at at′ : Turn) {κ : Marks} → at .go ≡ true → at .step < many T p cl
-    → Turned (T .doc) p (beforeOf T p cl) (clauseAt T p cl) (at .step + 1) κ at′ → left T p cl at′ < left T p cl at
-unfolding left
-left-less T p cl at at′ e w t = rw e (by (at′ .go) refl)
-  where
-    by : (b : Bool) → at′ .go ≡ b → cond b (many T p cl - at′ .step) 0 < many T p cl - at .step
-    by true d = let G = t .goes d in let a = G .ahead in let f = G .within in omega arith
-    by false d = omega arith
-
 -- what reading a pair's cell asks
 pub cell-asks : {T : Case} {q : Pair} {d : List Pair} {h : Pair → Marks} {l₀ c l : List ℕ} {n : ℕ} → Fits T → InCase T q → Areas T d h l₀ c l n
     → (cellAt (T .m) q < length c) × (length c < 4294967296)
 cell-asks {T} {q} fit I A =
     (areas-cell A q I, omega (arith, pairs-few (T .n) (T .m) (fit .rows .few) (fit .few), A .long))
 
--- ---- it begins
+-- ---- between two steps
 
--- what working out where the clause stands asks of the cells
-pub ready-turn : {T : Case} {p : Pair} {t : ℕ} {c l : List ℕ} {n : ℕ} → Ready T t p c l n → T .n * T .m ≤ length c
-ready-turn R = let e = R .areas .long in omega arith
+-- x steps of the clause are taken
+pub record Standing (T : Case) (p : Pair) (cl : ℕ) (c₀ l₀ : List ℕ) (n₀ x : ℕ) (cells list : List ℕ) (count misses : ℕ) : Type 0 where
+  pub steps : Stepped T p cl c₀ l₀ n₀ x cells list count misses
+  pub low : x ≤ many T p cl
 
-pub turning-first : {T : Case} {p : Pair} {i : ℕ} {c l : List ℕ} {n : ℕ} {at : Turn} → Ready T (rankOf T p) p c l n → Unsettled (T .m) p c
-    → Turned (T .doc) p (beforeOf T p i) (clauseAt T p i) 0 (column (T .m) c (p .rule)) at → Turning T p i c l n c l n 0 at
-turning-first R u t = turning (stepped-none R u) (omega arith) t
+pub standing-first : {T : Case} {p : Pair} {i : ℕ} {c l : List ℕ} {n : ℕ} → Ready T (rankOf T p) p c l n → Unsettled (T .m) p c → Standing T p i c l n 0 c l n 0
+standing-first R u = record { steps = stepped-none R u; low = omega arith }
+
+module _ {T : Case} {p : Pair} {cl : ℕ} {c₀ l₀ : List ℕ} {n₀ x : ℕ} {c l : List ℕ} {n misses : ℕ} (Z : Standing T p cl c₀ l₀ n₀ x c l n misses) where
+  -- what working out where the clause stands asks
+  pub standing-asks : {from : ℕ} → Started (beforeOf T p cl) (clauseAt T p cl) from → Turns T p cl from c
+  standing-asks started = let e = Z .steps .going .areas .long in record { started = started; room = omega arith; unsettled = going-unsettled (Z .steps .going) }
+
+  pub standing-turn : {at : Turn} → TurnsTo T p cl x c at → Turning T p cl c₀ l₀ n₀ c l n misses at
+  standing-turn t = turning (Z .steps) (Z .low) t
 
 -- ---- a pair that it applies
 
@@ -131,15 +127,8 @@ module _ {T : Case} {p : Pair} {cl : ℕ} {c₀ l₀ : List ℕ} {n₀ : ℕ} {c
         stepped : Stepped T p cl c₀ l₀ n₀ (at .step + 1) c₂ l₁ n₁ h
         stepped = let G = W .goes-on go in stepped-went (G .0) (G .1 .2) (G .1 .3) turning-aim J read M e
 
-        pub turning-next : (at .step + 1 ≤ many T p cl) × (T .n * T .m ≤ length c₂) × Unsettled (T .m) p c₂
-        turning-next =
-            let w = turning-within in
-            let z = stepped .going .areas .long in
-            (omega arith, omega arith, going-unsettled (stepped .going))
-
-        pub turning-more : {at′ : Turn} → Turned (T .doc) p (beforeOf T p cl) (clauseAt T p cl) (at .step + 1) (column (T .m) c₂ (p .rule)) at′
-            → Turning T p cl c₀ l₀ n₀ c₂ l₁ n₁ h at′
-        turning-more t = let w = turning-within in turning stepped (omega arith) t
+        pub turning-more : Standing T p cl c₀ l₀ n₀ (at .step + 1) c₂ l₁ n₁ h
+        turning-more = let w = turning-within in record { steps = stepped; low = omega arith }
 
 -- ---- it ends
 

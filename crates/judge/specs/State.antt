@@ -1,8 +1,8 @@
 -- What the areas show while a record is judged, and what the judging functions ask and leave.
 -- Assumes nothing.
-use Prim.Native.Nat.{ℕ, _+_, _*_, _/_, _%_, _≤_, _<_}
-use mathlib.Core.Bool.{false, cond}
-use mathlib.Core.List.{List, [], _++_, map, List·Memᴰ as Has}
+use Prim.Native.Nat.{ℕ, _+_, _-_, _*_, _/_, _%_, _≤_, _<_}
+use mathlib.Core.Bool.{Bool, false, cond}
+use mathlib.Core.List.{List, [], _∷_, _++_, map, List·Memᴰ as Has}
 use mathlib.Core.Path.{_≡_}
 use denote.Ref.{RefT}
 use lib.ListN.{length, getD, take, drop}
@@ -18,7 +18,11 @@ use Rattle.meaning.specs.Settling.{samePair, listed, inTurn, settle}
 use Rattle.meaning.specs.Fit.{Fit, Inside, rank}
 use Rattle.clause.specs.Read.{RecordRead, RulesRead}
 use Rattle.areas.specs.Cells.{cellAt, verd, Unsettled, bit, settledAs, column, settledOf}
-use Rattle.steps.specs.Plan.{stepsOf}
+use Rattle.areas.specs.Writers.{Writes, Marked, HandsOn}
+use Rattle.steps.specs.declared.turn.Turn.{Turn}
+use Rattle.steps.specs.Plan.{stepsOf, finishOf}
+use Rattle.steps.specs.Read.{Started}
+use Rattle.steps.specs.Turns.{Turned}
 use Rattle.judge.specs.declared.cycle.Done.{Done}
 
 -- what is judged: a record and rules, and how many rows each has
@@ -44,9 +48,26 @@ caseOf ws ts rs us = record { doc = docOf ws ts; rules = rulesOf rs us; n = rows
 abbrev pub lent : List (RefT (List ℕ)) → ℕ → List ℕ
 lent slices k = (getD slices k (record { ptr = (0, 0); name = 0; now = [] })) .now
 
--- the sheets of those arrays are read by their own forms
-abbrev pub Lent : (words texts : List (RefT (List ℕ))) → Type 0
-Lent words texts = Sheets (lent words 0) (lent texts 0) (lent words 1) (lent texts 1) (formOf (lent words 0)) (S.formOf (lent words 1))
+-- where the parts of both sheets lie, as one array lends it: what a form of the record says, then what one of the rules says
+abbrev pub formsOf : RecordForm → RuleForm → List ℕ
+formsOf r f = r .start ∷ r .rows ∷ f .schemas ∷ f .clauses ∷ f .entries ∷ f .m ∷ f .c ∷ f .e ∷ []
+
+-- and the forms as they are read from it
+abbrev pub recordFormIn : List ℕ → RecordForm
+recordFormIn forms = record { start = getD forms 0 0; rows = getD forms 1 0 }
+
+abbrev pub ruleFormIn : List ℕ → RuleForm
+ruleFormIn forms =
+    record { schemas = getD forms 2 0; clauses = getD forms 3 0; entries = getD forms 4 0; m = getD forms 5 0; c = getD forms 6 0; e = getD forms 7 0 }
+
+-- the numbers that are words of a sheet are words
+abbrev pub FormsFit : List ℕ → Type 0
+FormsFit forms = (getD forms 1 0 < 4294967296) × (getD forms 5 0 < 4294967296) × (getD forms 6 0 < 4294967296) × (getD forms 7 0 < 4294967296)
+
+-- both sheets are read by their own forms, which `forms` lends
+pub record Lent (words texts : List (RefT (List ℕ))) (forms : List ℕ) : Type 0 where
+  pub sheets : Sheets (lent words 0) (lent texts 0) (lent words 1) (lent texts 1) (formOf (lent words 0)) (S.formOf (lent words 1))
+  pub forms-are : forms ≡ formsOf (formOf (lent words 0)) (S.formOf (lent words 1))
 
 abbrev pub lentCase : (words texts : List (RefT (List ℕ))) → Case
 lentCase words texts = caseOf (lent words 0) (lent texts 0) (lent words 1) (lent texts 1)
@@ -149,15 +170,15 @@ pub record ClauseJudged (T : Case) (p : Pair) (i : ℕ) (cells₀ list₀ : List
 
 -- ---- what is read of a pair
 
--- both sheets are laid out as their readers ask, and p is one of their pairs
-pub record Reads (ws ts rs us : List ℕ) (p : Pair) : Type 0 where
-  pub sheets : Sheets ws ts rs us (formOf ws) (S.formOf rs)
-  pub inside : InCase (caseOf ws ts rs us) p
+-- both sheets are lent with their forms, and p is one of their pairs
+pub record Reads (words texts : List (RefT (List ℕ))) (forms : List ℕ) (p : Pair) : Type 0 where
+  pub all : Lent words texts forms
+  pub inside : InCase (lentCase words texts) p
 
 -- and i is a clause of its schema
-pub record ReadsClause (ws ts rs us : List ℕ) (p : Pair) (i : ℕ) : Type 0 where
-  pub reads : Reads ws ts rs us p
-  pub clause-in : i < schemaAt rs (p .rule) .count
+pub record ReadsClause (words texts : List (RefT (List ℕ))) (forms : List ℕ) (p : Pair) (i : ℕ) : Type 0 where
+  pub reads : Reads words texts forms p
+  pub clause-in : i < schemaAt (lent words 1) (p .rule) .count
 
 -- clause i of p applies schemas
 abbrev pub Applying : Case → Pair → ℕ → Type 0
@@ -166,3 +187,27 @@ Applying T p i = (t : Test) → clauseAt T p i ≡ asserts t → ⊥
 -- the steps of clause i of p
 abbrev pub manySteps : Case → Pair → ℕ → ℕ
 manySteps T p i = stepsOf (T .doc) p (beforeOf T p i) (clauseAt T p i)
+
+-- what is asked of the cells, and of what the clauses before tell, where clause i of p stands
+pub record Turns (T : Case) (p : Pair) (i from : ℕ) (cells : List ℕ) : Type 0 where
+  pub started : Started (beforeOf T p i) (clauseAt T p i) from
+  pub room : T .n * T .m ≤ length cells
+  pub unsettled : Unsettled (T .m) p cells
+
+-- where it stands once its first x steps are taken
+abbrev pub TurnsTo : Case → Pair → ℕ → ℕ → List ℕ → Turn → Type 0
+TurnsTo T p i x cells r = Turned (T .doc) p (beforeOf T p i) (clauseAt T p i) x (column (T .m) cells (p .rule)) r
+
+-- what it says in the end, where `misses` of its steps applied a pair that failed
+abbrev pub finishAt : Case → Pair → ℕ → ℕ → Bool
+finishAt T p i misses = finishOf (T .doc) p (clauseAt T p i) (manySteps T p i - misses) (manySteps T p i)
+
+-- the marks of p may be written, those handed on by q, and only those of its row's children
+abbrev pub WritesMarks : Case → Pair → List ℕ → Type 0
+WritesMarks T p cells = Writes (T .m) (firstKid T p) (kidCount T p) (p .rule) (p .rule) cells
+
+abbrev pub Hands : Case → Pair → Pair → List ℕ → Type 0
+Hands T p q cells = HandsOn (T .m) (firstKid T p) (kidCount T p) (p .row) (p .rule) (q .row) (q .rule) cells
+
+abbrev pub MarksWritten : Case → Pair → Marks → (cells₀ cells : List ℕ) → Type 0
+MarksWritten T p κ cells₀ cells = Marked (T .m) (firstKid T p) (kidCount T p) (p .rule) κ cells₀ cells

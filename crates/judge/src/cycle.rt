@@ -3,12 +3,12 @@
 // goes down in the record or along an unguarded chain: the rank of a pair is levels left x 33 + its
 // schema's longest unguarded chain.
 //
-// 1,024 pairs can be open at once, so an open pair keeps little: the sheets lie behind one address,
-// and what is read of them is read in `read`, where no pair is open.
+// 1,024 pairs can be open at once, so an open pair keeps little: sheets, texts and forms lie behind one
+// address each, and what is read of them is read in `read`, where no pair is open.
 //
 // The contracts cite `specs/State.antt`.
 ghost use Prim.Native.Nat.{_+_, _<_};
-ghost use Rattle.rulesheet.specs.Sheet.{schemasWord, schemaAt};
+ghost use Rattle.rulesheet.specs.Sheet.{schemaAt};
 ghost use Rattle.areas.specs.Cells.{pairIs, Unsettled};
 ghost use Rattle.judge.specs.State.{lent, lentCase, Lent, rankOf, Ready, Judged, ClauseJudged, Applying};
 use crate::read::RULES;
@@ -45,91 +45,90 @@ pub struct Verdict {
 pub(crate) fn apply<'a, 'b>(
     sheets: &'a [&'b [u32]; 2],
     texts: &'a [&'b [u8]; 2],
+    forms: &'a [usize; 8],
     cells: &mut [u8],
     list: &mut [u32],
     count: usize,
     p: Pair,
 ) -> usize
-    requires { ⌜ Lent (now sheets) (now texts) ⌝ }
+    requires { ⌜ Lent (now sheets) (now texts) (now forms) ⌝ }
     requires { ⌜ Ready (lentCase (now sheets) (now texts)) (rankOf (lentCase (now sheets) (now texts)) (pairIs p) + 1) (pairIs p) (now cells) (now list) count ⌝ }
     ensures { λ r. ⌜ Judged (lentCase (now (sheets .entry)) (now (texts .entry))) (pairIs p) (now (cells .entry)) (now (list .entry)) count (now (cells .exit)) (now (list .exit)) r ⌝ }
 {
-    if verdict_of(sheets[RULES], cells, p) != 0 {
+    if verdict_of(forms, cells, p) != 0 {
         return count;
     }
-    judge_pair(sheets, texts, cells, list, count, p)
+    judge_pair(sheets, texts, forms, cells, list, count, p)
 }
 
 // Judges the clauses of a pair that is not settled, and settles it.
 fn judge_pair<'a, 'b>(
     sheets: &'a [&'b [u32]; 2],
     texts: &'a [&'b [u8]; 2],
+    forms: &'a [usize; 8],
     cells: &mut [u8],
     list: &mut [u32],
     count: usize,
     p: Pair,
 ) -> usize
-    requires { ⌜ Lent (now sheets) (now texts) ⌝ }
+    requires { ⌜ Lent (now sheets) (now texts) (now forms) ⌝ }
     requires { ⌜ Ready (lentCase (now sheets) (now texts)) (rankOf (lentCase (now sheets) (now texts)) (pairIs p) + 1) (pairIs p) (now cells) (now list) count ⌝ }
-    requires { ⌜ Unsettled (schemasWord (lent (now sheets) 1)) (pairIs p) (now cells) ⌝ }
+    requires { ⌜ Unsettled (lentCase (now sheets) (now texts) .m) (pairIs p) (now cells) ⌝ }
     ensures { λ r. ⌜ Judged (lentCase (now (sheets .entry)) (now (texts .entry))) (pairIs p) (now (cells .entry)) (now (list .entry)) count (now (cells .exit)) (now (list .exit)) r ⌝ }
 {
-    let many = clauses_of(sheets[RULES], p.rule);
+    let many = clauses_of(sheets[RULES], forms, p.rule);
     let mut ok = true;
     let mut now = count;
     let mut i = 0;
     while i < many {
-        match tried(sheets, texts, cells, p, i) {
+        match tried(sheets, texts, forms, cells, p, i) {
             Tried::Passed(so) => {
                 ok = ok & so;
             }
             Tried::Applies => {
-                let d = judge_clause(sheets, texts, cells, list, now, p, i);
+                let d = judge_clause(sheets, texts, forms, cells, list, now, p, i);
                 now = d.count;
                 ok = ok & d.ok;
             }
         }
         i += 1;
     }
-    shut(sheets, texts, cells, p, ok);
-    settle(cells, list, schemas_of(sheets[RULES]), p, ok, now)
+    shut(sheets, texts, forms, cells, p, ok);
+    settle(cells, list, schemas_of(forms), p, ok, now)
 }
 
 // Judges clause i of a pair that is not settled, which applies schemas: one pair after the other.
 fn judge_clause<'a, 'b>(
     sheets: &'a [&'b [u32]; 2],
     texts: &'a [&'b [u8]; 2],
+    forms: &'a [usize; 8],
     cells: &mut [u8],
     list: &mut [u32],
     count: usize,
     p: Pair,
     i: u32,
 ) -> Done
-    requires { ⌜ Lent (now sheets) (now texts) ⌝ }
+    requires { ⌜ Lent (now sheets) (now texts) (now forms) ⌝ }
     requires { ⌜ Ready (lentCase (now sheets) (now texts)) (rankOf (lentCase (now sheets) (now texts)) (pairIs p)) (pairIs p) (now cells) (now list) count ⌝ }
-    requires { ⌜ Unsettled (schemasWord (lent (now sheets) 1)) (pairIs p) (now cells) ⌝ }
+    requires { ⌜ Unsettled (lentCase (now sheets) (now texts) .m) (pairIs p) (now cells) ⌝ }
     requires { ⌜ (i < schemaAt (lent (now sheets) 1) (p .rule .0) .count) × Applying (lentCase (now sheets) (now texts)) (pairIs p) i ⌝ }
     ensures { λ r. ⌜ ClauseJudged (lentCase (now (sheets .entry)) (now (texts .entry))) (pairIs p) i (now (cells .entry)) (now (list .entry)) count (now (cells .exit)) (now (list .exit)) r ⌝ }
 {
-    let from = start(sheets, texts, p, i);
+    let from = start(sheets, texts, forms, p, i);
     let mut misses = 0;
     let mut now = count;
-    let mut at = turn(sheets, texts, cells, p, i, from, 0);
-    // Nothing to apply. What is called from two places is not put into its caller's frame.
-    if !at.go {
-        return Done {
-            ok: finish(sheets, texts, p, i, 0),
-            count,
-        };
-    }
-    while at.go {
-        now = apply(sheets, texts, cells, list, now, at.pair);
-        misses = more(misses, verdict_of(sheets[RULES], cells, at.pair) != 1);
-        give(sheets, texts, cells, p, at.pair);
-        at = turn(sheets, texts, cells, p, i, from, at.step + 1);
-    }
-    Done {
-        ok: finish(sheets, texts, p, i, misses),
-        count: now,
+    let mut x = 0;
+    loop {
+        let at = turn(sheets, texts, forms, cells, p, i, from, x);
+        if !at.go {
+            return Done {
+                ok: finish(sheets, texts, forms, p, i, misses),
+                count: now,
+            };
+        }
+        now = apply(sheets, texts, forms, cells, list, now, at.pair);
+        misses = more(misses, verdict_of(forms, cells, at.pair) != 1);
+        give(sheets, texts, forms, cells, p, at.pair);
+        x = at.step + 1;
     }
 }

@@ -1,21 +1,20 @@
 // What the cycle reads of the two sheets and of the cells, and what it writes of marks. No pair is
 // open here, so what these functions keep costs no stack. Each takes the sheets and their texts as
-// arrays of two: the record's, then the rules'.
+// arrays of two, the record's and then the rules', and their forms as one array of numbers, so that no
+// trailer is read while records are judged.
 //
 // The contracts cite `specs/State.antt`.
-ghost use mathlib.Core.Bool.{true};
 ghost use mathlib.Core.Path.{_≡_};
-ghost use Prim.Native.Nat.{_-_, _*_, _≤_, _<_};
+ghost use Prim.Native.Nat.{_≤_, _<_};
 ghost use lib.ListN.{length, getD};
-ghost use Rattle.rulesheet.specs.Sheet.{schemasWord, schemaAt};
-ghost use Rattle.rulesheet.specs.Faults.{wordsOk};
-ghost use Rattle.areas.specs.Cells.{pairIs, cellAt, verd, Unsettled, column, plus};
-ghost use Rattle.areas.specs.Writers.{Writes, Marked, kept, handedOn, HandsOn};
+ghost use Rattle.rulesheet.specs.Read.{RulesFormed};
+ghost use Rattle.rulesheet.specs.Sheet.{schemaAt};
+ghost use Rattle.areas.specs.Cells.{pairIs, cellAt, verd, Unsettled, plus};
+ghost use Rattle.areas.specs.Writers.{kept, handedOn};
 ghost use Rattle.clause.specs.Read.{Tries};
-ghost use Rattle.steps.specs.Plan.{finishOf};
 ghost use Rattle.steps.specs.Read.{Started};
-ghost use Rattle.steps.specs.Turns.{Turned};
-ghost use Rattle.judge.specs.State.{lent, lentCase, clauseAt, beforeOf, firstKid, kidCount, Reads, ReadsClause, Applying, manySteps};
+ghost use Rattle.judge.specs.State.{lentCase, formsOf, recordFormIn, ruleFormIn, FormsFit, clauseAt, beforeOf, Reads, ReadsClause, Applying, manySteps};
+ghost use Rattle.judge.specs.State.{Turns, TurnsTo, finishAt, WritesMarks, Hands, MarksWritten};
 use areas::hand_on;
 use areas::shut_marks;
 use clause::test::Tried;
@@ -45,45 +44,90 @@ pub(crate) fn more(n: u32, so: bool) -> u32
     if so { n + 1 } else { n }
 }
 
-// How many schemas there are.
-pub(crate) fn schemas_of(rules: &[u32]) -> usize
-    requires { ⌜ wordsOk (now rules) ≡ true ⌝ }
-    ensures { λ r. ⌜ r ≡ schemasWord (now (rules .entry)) ⌝ }
+// ---- the forms
+
+// Both forms as numbers.
+pub(crate) fn forms_of(form: RecordForm, rule_form: RuleForm) -> [usize; 8]
+    ensures { λ r. ⌜ r ≡ formsOf form «rule_form» ⌝ }
 {
-    wide(RuleForm::of(rules).m)
+    [
+        form.start,
+        wide(form.rows),
+        rule_form.schemas,
+        rule_form.clauses,
+        rule_form.entries,
+        wide(rule_form.m),
+        wide(rule_form.c),
+        wide(rule_form.e),
+    ]
 }
 
-// The verdict in the pair's cell.
-pub(crate) fn verdict_of(rules: &[u32], cells: &[u8], p: Pair) -> u8
-    requires { ⌜ wordsOk (now rules) ≡ true ⌝ }
-    requires { ⌜ (cellAt (schemasWord (now rules)) (pairIs p) < length (now cells)) × (length (now cells) < 4294967296) ⌝ }
-    ensures { λ r. ⌜ r ≡ verd (getD (now (cells .entry)) (cellAt (schemasWord (now (rules .entry))) (pairIs p)) 0) ⌝ }
+// The record's form.
+fn record_form(forms: &[usize; 8]) -> RecordForm
+    requires { ⌜ FormsFit (now forms) ⌝ }
+    ensures { λ r. ⌜ r ≡ recordFormIn (now (forms .entry)) ⌝ }
 {
-    areas::verdict_of(cells, schemas_of(rules), p)
+    RecordForm {
+        start: forms[0],
+        rows: forms[1] as u32,
+    }
+}
+
+// The rules' form.
+fn rules_form(forms: &[usize; 8]) -> RuleForm
+    requires { ⌜ FormsFit (now forms) ⌝ }
+    ensures { λ r. ⌜ r ≡ ruleFormIn (now (forms .entry)) ⌝ }
+{
+    RuleForm {
+        schemas: forms[2],
+        clauses: forms[3],
+        entries: forms[4],
+        m: forms[5] as u32,
+        c: forms[6] as u32,
+        e: forms[7] as u32,
+    }
+}
+
+// How many schemas there are.
+pub(crate) fn schemas_of(forms: &[usize; 8]) -> usize
+    ensures { λ r. ⌜ r ≡ getD (now (forms .entry)) 5 0 ⌝ }
+{
+    forms[5]
+}
+
+// ---- a pair
+
+// The verdict in the pair's cell.
+pub(crate) fn verdict_of(forms: &[usize; 8], cells: &[u8], p: Pair) -> u8
+    requires { ⌜ (cellAt (getD (now forms) 5 0) (pairIs p) < length (now cells)) × (length (now cells) < 4294967296) ⌝ }
+    ensures { λ r. ⌜ r ≡ verd (getD (now (cells .entry)) (cellAt (getD (now (forms .entry)) 5 0) (pairIs p)) 0) ⌝ }
+{
+    areas::verdict_of(cells, schemas_of(forms), p)
 }
 
 // How many clauses the schema has.
-pub(crate) fn clauses_of(rules: &[u32], s: RuleRow) -> u32
-    requires { ⌜ (wordsOk (now rules) ≡ true) × (s .0 < schemasWord (now rules)) ⌝ }
+pub(crate) fn clauses_of(rules: &[u32], forms: &[usize; 8], s: RuleRow) -> u32
+    requires { ⌜ FormsFit (now forms) × (s .0 < getD (now forms) 5 0) × RulesFormed (now rules) (ruleFormIn (now forms)) ⌝ }
     ensures { λ r. ⌜ r ≡ schemaAt (now (rules .entry)) (s .0) .count ⌝ }
 {
-    schema_at(rules, RuleForm::of(rules), s).count
+    schema_at(rules, rules_form(forms), s).count
 }
 
 // What trying clause i of the pair tells.
 pub(crate) fn tried<'a, 'b>(
     sheets: &'a [&'b [u32]; 2],
     texts: &'a [&'b [u8]; 2],
+    forms: &'a [usize; 8],
     cells: &[u8],
     p: Pair,
     i: u32,
 ) -> Tried
-    requires { ⌜ ReadsClause (lent (now sheets) 0) (lent (now texts) 0) (lent (now sheets) 1) (lent (now texts) 1) (pairIs p) i ⌝ }
-    requires { ⌜ Unsettled (schemasWord (lent (now sheets) 1)) (pairIs p) (now cells) ⌝ }
+    requires { ⌜ ReadsClause (now sheets) (now texts) (now forms) (pairIs p) i ⌝ }
+    requires { ⌜ Unsettled (lentCase (now sheets) (now texts) .m) (pairIs p) (now cells) ⌝ }
     ensures { λ r. ⌜ Tries (lentCase (now (sheets .entry)) (now (texts .entry)) .doc) (p .row .0) (clauseAt (lentCase (now (sheets .entry)) (now (texts .entry))) (pairIs p) i) r ⌝ }
 {
-    let form = RecordForm::of(sheets[RECORD]);
-    let rule_form = RuleForm::of(sheets[RULES]);
+    let form = record_form(forms);
+    let rule_form = rules_form(forms);
     try_clause(
         sheets[RECORD],
         texts[RECORD],
@@ -97,42 +141,40 @@ pub(crate) fn tried<'a, 'b>(
     )
 }
 
+// ---- a clause that applies schemas
+
 // What the clauses before clause i of the pair's schema tell it.
 pub(crate) fn start<'a, 'b>(
     sheets: &'a [&'b [u32]; 2],
     texts: &'a [&'b [u8]; 2],
+    forms: &'a [usize; 8],
     p: Pair,
     i: u32,
 ) -> u32
-    requires { ⌜ ReadsClause (lent (now sheets) 0) (lent (now texts) 0) (lent (now sheets) 1) (lent (now texts) 1) (pairIs p) i ⌝ }
+    requires { ⌜ ReadsClause (now sheets) (now texts) (now forms) (pairIs p) i ⌝ }
     ensures { λ r. ⌜ Started (beforeOf (lentCase (now (sheets .entry)) (now (texts .entry))) (pairIs p) i) (clauseAt (lentCase (now (sheets .entry)) (now (texts .entry))) (pairIs p) i) r ⌝ }
 {
-    start_of(
-        sheets[RULES],
-        texts[RULES],
-        RuleForm::of(sheets[RULES]),
-        p.rule,
-        i,
-    )
+    let rule_form = rules_form(forms);
+    start_of(sheets[RULES], texts[RULES], rule_form, p.rule, i)
 }
 
 // Where clause i of the pair stands once its first x steps are taken.
 pub(crate) fn turn<'a, 'b>(
     sheets: &'a [&'b [u32]; 2],
     texts: &'a [&'b [u8]; 2],
+    forms: &'a [usize; 8],
     cells: &[u8],
     p: Pair,
     i: u32,
     from: u32,
     x: u32,
 ) -> Turn
-    requires { ⌜ ReadsClause (lent (now sheets) 0) (lent (now texts) 0) (lent (now sheets) 1) (lent (now texts) 1) (pairIs p) i ⌝ }
-    requires { ⌜ Started (beforeOf (lentCase (now sheets) (now texts)) (pairIs p) i) (clauseAt (lentCase (now sheets) (now texts)) (pairIs p) i) from × (x ≤ manySteps (lentCase (now sheets) (now texts)) (pairIs p) i) ⌝ }
-    requires { ⌜ ((lentCase (now sheets) (now texts)) .n * (lentCase (now sheets) (now texts)) .m ≤ length (now cells)) × Unsettled (schemasWord (lent (now sheets) 1)) (pairIs p) (now cells) ⌝ }
-    ensures { λ r. ⌜ Turned (lentCase (now (sheets .entry)) (now (texts .entry)) .doc) (pairIs p) (beforeOf (lentCase (now (sheets .entry)) (now (texts .entry))) (pairIs p) i) (clauseAt (lentCase (now (sheets .entry)) (now (texts .entry))) (pairIs p) i) x (column (lentCase (now (sheets .entry)) (now (texts .entry)) .m) (now (cells .entry)) (p .rule .0)) r ⌝ }
+    requires { ⌜ ReadsClause (now sheets) (now texts) (now forms) (pairIs p) i ⌝ }
+    requires { ⌜ Turns (lentCase (now sheets) (now texts)) (pairIs p) i from (now cells) ⌝ }
+    ensures { λ r. ⌜ TurnsTo (lentCase (now (sheets .entry)) (now (texts .entry))) (pairIs p) i x (now (cells .entry)) r ⌝ }
 {
-    let form = RecordForm::of(sheets[RECORD]);
-    let rule_form = RuleForm::of(sheets[RULES]);
+    let form = record_form(forms);
+    let rule_form = rules_form(forms);
     turn_of(
         sheets[RECORD],
         texts[RECORD],
@@ -148,20 +190,22 @@ pub(crate) fn turn<'a, 'b>(
     )
 }
 
-// HandsOn on to the pair p what the pair q that it applied has to give.
+// Hands on to the pair p what the pair q that it applied has to give.
 pub(crate) fn give<'a, 'b>(
     sheets: &'a [&'b [u32]; 2],
     texts: &'a [&'b [u8]; 2],
+    forms: &'a [usize; 8],
     cells: &mut [u8],
     p: Pair,
     q: Pair,
 )
-    requires { ⌜ Reads (lent (now sheets) 0) (lent (now texts) 0) (lent (now sheets) 1) (lent (now texts) 1) (pairIs p) ⌝ }
-    requires { ⌜ HandsOn (schemasWord (lent (now sheets) 1)) (firstKid (lentCase (now sheets) (now texts)) (pairIs p)) (kidCount (lentCase (now sheets) (now texts)) (pairIs p)) (p .row .0) (p .rule .0) (q .row .0) (q .rule .0) (now cells) ⌝ }
-    ensures { λ r. ⌜ Marked (schemasWord (lent (now (sheets .entry)) 1)) (firstKid (lentCase (now (sheets .entry)) (now (texts .entry))) (pairIs p)) (kidCount (lentCase (now (sheets .entry)) (now (texts .entry))) (pairIs p)) (p .rule .0) (handedOn (schemasWord (lent (now (sheets .entry)) 1)) (now (cells .entry)) (p .row .0) (p .rule .0) (q .row .0) (q .rule .0)) (now (cells .entry)) (now (cells .exit)) ⌝ }
+    requires { ⌜ Reads (now sheets) (now texts) (now forms) (pairIs p) ⌝ }
+    requires { ⌜ Hands (lentCase (now sheets) (now texts)) (pairIs p) (pairIs q) (now cells) ⌝ }
+    ensures { λ r. ⌜ MarksWritten (lentCase (now (sheets .entry)) (now (texts .entry))) (pairIs p) (handedOn (lentCase (now (sheets .entry)) (now (texts .entry)) .m) (now (cells .entry)) (p .row .0) (p .rule .0) (q .row .0) (q .rule .0)) (now (cells .entry)) (now (cells .exit)) ⌝ }
 {
-    let kids = children_of(sheets[RECORD], RecordForm::of(sheets[RECORD]), p.row);
-    hand_on(cells, schemas_of(sheets[RULES]), kids, p, q);
+    let form = record_form(forms);
+    let kids = children_of(sheets[RECORD], form, p.row);
+    hand_on(cells, schemas_of(forms), kids, p, q);
 }
 
 // Whether clause i of the pair, which applies schemas, holds where `misses` of its steps applied a
@@ -169,36 +213,33 @@ pub(crate) fn give<'a, 'b>(
 pub(crate) fn finish<'a, 'b>(
     sheets: &'a [&'b [u32]; 2],
     texts: &'a [&'b [u8]; 2],
+    forms: &'a [usize; 8],
     p: Pair,
     i: u32,
     misses: u32,
 ) -> bool
-    requires { ⌜ ReadsClause (lent (now sheets) 0) (lent (now texts) 0) (lent (now sheets) 1) (lent (now texts) 1) (pairIs p) i × Applying (lentCase (now sheets) (now texts)) (pairIs p) i ⌝ }
+    requires { ⌜ ReadsClause (now sheets) (now texts) (now forms) (pairIs p) i × Applying (lentCase (now sheets) (now texts)) (pairIs p) i ⌝ }
     requires { ⌜ misses ≤ manySteps (lentCase (now sheets) (now texts)) (pairIs p) i ⌝ }
-    ensures { λ r. ⌜ r ≡ finishOf (lentCase (now (sheets .entry)) (now (texts .entry)) .doc) (pairIs p) (clauseAt (lentCase (now (sheets .entry)) (now (texts .entry))) (pairIs p) i) (manySteps (lentCase (now (sheets .entry)) (now (texts .entry))) (pairIs p) i - misses) (manySteps (lentCase (now (sheets .entry)) (now (texts .entry))) (pairIs p) i) ⌝ }
+    ensures { λ r. ⌜ r ≡ finishAt (lentCase (now (sheets .entry)) (now (texts .entry))) (pairIs p) i misses ⌝ }
 {
-    finish_of(
-        sheets[RULES],
-        texts[RULES],
-        RuleForm::of(sheets[RULES]),
-        p.rule,
-        i,
-        misses,
-    )
+    let rule_form = rules_form(forms);
+    finish_of(sheets[RULES], texts[RULES], rule_form, p.rule, i, misses)
 }
 
 // Takes the marks of the pair away, unless it holds.
 pub(crate) fn shut<'a, 'b>(
     sheets: &'a [&'b [u32]; 2],
     texts: &'a [&'b [u8]; 2],
+    forms: &'a [usize; 8],
     cells: &mut [u8],
     p: Pair,
     ok: bool,
 )
-    requires { ⌜ Reads (lent (now sheets) 0) (lent (now texts) 0) (lent (now sheets) 1) (lent (now texts) 1) (pairIs p) ⌝ }
-    requires { ⌜ Writes (schemasWord (lent (now sheets) 1)) (firstKid (lentCase (now sheets) (now texts)) (pairIs p)) (kidCount (lentCase (now sheets) (now texts)) (pairIs p)) (p .rule .0) (p .rule .0) (now cells) ⌝ }
-    ensures { λ r. ⌜ Marked (schemasWord (lent (now (sheets .entry)) 1)) (firstKid (lentCase (now (sheets .entry)) (now (texts .entry))) (pairIs p)) (kidCount (lentCase (now (sheets .entry)) (now (texts .entry))) (pairIs p)) (p .rule .0) (kept (schemasWord (lent (now (sheets .entry)) 1)) (now (cells .entry)) (p .rule .0) ok) (now (cells .entry)) (now (cells .exit)) ⌝ }
+    requires { ⌜ Reads (now sheets) (now texts) (now forms) (pairIs p) ⌝ }
+    requires { ⌜ WritesMarks (lentCase (now sheets) (now texts)) (pairIs p) (now cells) ⌝ }
+    ensures { λ r. ⌜ MarksWritten (lentCase (now (sheets .entry)) (now (texts .entry))) (pairIs p) (kept (lentCase (now (sheets .entry)) (now (texts .entry)) .m) (now (cells .entry)) (p .rule .0) ok) (now (cells .entry)) (now (cells .exit)) ⌝ }
 {
-    let kids = children_of(sheets[RECORD], RecordForm::of(sheets[RECORD]), p.row);
-    shut_marks(cells, schemas_of(sheets[RULES]), kids, p.rule, ok);
+    let form = record_form(forms);
+    let kids = children_of(sheets[RECORD], form, p.row);
+    shut_marks(cells, schemas_of(forms), kids, p.rule, ok);
 }

@@ -4,6 +4,7 @@ ghost use Rattle.judge.specs.State.{caseOf, Sheets};
 ghost use Rattle.judge.specs.Whole.{Exact, Roomy, leftBy, judgedOf};
 use crate::cycle::Verdict;
 use crate::cycle::apply;
+use crate::read::forms_of;
 use crate::read::verdict_of;
 use areas::clear;
 use areas::marked_of;
@@ -37,8 +38,9 @@ fn run_exact<'a>(
         row: RecordRow(0),
         rule: RuleRow(0),
     };
-    let count = apply(&sheets, &texts, cells, list, 0, root);
-    let ok = verdict_of(rules, cells, root) == 1;
+    let forms = forms_of(form, rule_form);
+    let count = apply(&sheets, &texts, &forms, cells, list, 0, root);
+    let ok = verdict_of(&forms, cells, root) == 1;
     let kids = children_of(record, form, RecordRow(0));
     let marked = marked_of(cells, wide(rule_form.m), kids);
     Verdict {

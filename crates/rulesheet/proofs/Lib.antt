@@ -9,4 +9,4 @@ pub mod Repeating
 pub mod Items
 pub mod Naming
 pub mod Meanings
-pub mod Telling
+pub mod Asked

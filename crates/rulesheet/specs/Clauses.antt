@@ -162,3 +162,30 @@ telling (R.takes (R.prefixItems ss)) = R.takes (R.prefixItems ss)
 telling (R.takes (R.items s)) = R.asserts R.never
 telling (R.takes (R.unevaluatedProperties s)) = R.asserts R.never
 telling (R.takes (R.unevaluatedItems s)) = R.asserts R.never
+
+-- a clause, if it applies schemas. Else one that applies none
+unfoldable pub applying : R.Clause → R.Clause
+applying (R.asserts t) = R.asserts R.never
+applying (R.inPlace m ss) = R.inPlace m ss
+applying (R.takes c) = R.takes c
+
+-- a clause, if those before it tell it something. Else one that is told nothing
+unfoldable pub told : R.Clause → R.Clause
+told (R.asserts t) = R.asserts R.never
+told (R.inPlace m ss) = R.asserts R.never
+told (R.takes (R.properties es)) = R.asserts R.never
+told (R.takes (R.additionalProperties s)) = R.takes (R.additionalProperties s)
+told (R.takes (R.prefixItems ss)) = R.asserts R.never
+told (R.takes (R.items s)) = R.takes (R.items s)
+told (R.takes (R.unevaluatedProperties s)) = R.asserts R.never
+told (R.takes (R.unevaluatedItems s)) = R.asserts R.never
+
+-- a clause, if it may hold although one of its schemas fails. Else one of which that is not asked
+unfoldable pub sparing : R.Clause → R.Clause
+sparing (R.asserts t) = R.asserts R.never
+sparing (R.inPlace R.allOf ss) = R.asserts R.never
+sparing (R.inPlace R.anyOf ss) = R.inPlace R.anyOf ss
+sparing (R.inPlace R.oneOf ss) = R.inPlace R.oneOf ss
+sparing (R.inPlace R.notOf ss) = R.inPlace R.notOf ss
+sparing (R.inPlace R.ref ss) = R.asserts R.never
+sparing (R.takes c) = R.asserts R.never

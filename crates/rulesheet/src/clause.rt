@@ -5,7 +5,7 @@ ghost use Prim.Native.Nat.{ℕ, _+_, _≤_, _<_};
 ghost use lib.ListN.{getD};
 ghost use Rattle.rulesheet.specs.Sheet.{entryAt, clauseOf};
 ghost use Rattle.rulesheet.specs.Read.{RulesFormed};
-ghost use Rattle.rulesheet.specs.Clauses.{schemasIn, membersIn, clauseMeans, Tested, Decoded, EntryNameRead, telling};
+ghost use Rattle.rulesheet.specs.Clauses.{schemasIn, membersIn, clauseMeans, Tested, Decoded, EntryNameRead};
 use crate::form::EntryRow;
 use crate::form::RuleForm;
 use crate::form::clause_at;
@@ -99,26 +99,6 @@ pub fn clause_of(words: &[u32], form: RuleForm, k: u32) -> Clause
 {
     let row = clause_at(words, form, k);
     decoded(row.code, row.first, row.count)
-}
-
-// Clause k if it tells something to those after it, as `properties` and `prefixItems` do, and else
-// `Clause::Never`, which tells nothing.
-pub fn telling_of(words: &[u32], form: RuleForm, k: u32) -> Clause
-    requires { ⌜ RulesFormed (now words) form × (k < form .c) ⌝ }
-    ensures { λ r. ⌜ ((ts : List ℕ) → clauseMeans (now (words .entry)) ts r ≡ telling (clauseOf (now (words .entry)) ts k)) ⌝ }
-    ensures { λ r. ⌜ Tested (now (words .entry)) form r ⌝ }
-{
-    let row = clause_at(words, form, k);
-    let list = Entries {
-        first: row.first,
-        count: row.count,
-    };
-    let code = row.code;
-    match code {
-        40 => Clause::Properties(list),
-        43 => Clause::PrefixItems(list),
-        _ => Clause::Never,
-    }
 }
 
 // Entry i of a list, its words by name: of an enum a value's kind, first and count.

@@ -4,6 +4,7 @@
 --     firstClauses, before-is, before-long, before-part    the first clauses of a schema, by where its clauses start
 --     prefix-more, names-more          one clause more
 --     clauses-few, entries-few         how many clauses and entries there are
+--     told-started, applied-started, started-as     what a clause is told, as far as it asks, and by the variant that was read
 --     entry-same, entry-names, none-names     whether an entry of a list names a row
 --     unnamed-from, unnamed-more, named-here, unnamed-is     and whether a clause does
 -- Assumes nothing.
@@ -34,7 +35,7 @@ use Rattle.rulesheet.specs.Ruleset.{Reach, properties, additionalProperties, pr
 use Rattle.rulesheet.specs.Codes.{entryName, entryMember}
 use Rattle.rulesheet.specs.Sheet.{schemasWord, schemaAt, entryAt, run, clauseOf, rulesOf}
 use Rattle.rulesheet.specs.Faults.{parts-max}
-use Rattle.rulesheet.specs.Clauses.{entriesOf, membersIn, clauseMeans, EntryNameRead, telling}
+use Rattle.rulesheet.specs.Clauses.{entriesOf, membersIn, clauseMeans, EntryNameRead, telling, applying, told}
 use Rattle.rulesheet.specs.Read.{RulesLaid}
 use Rattle.rulesheet.proofs.Trailers.{facts, form-m, form-c, form-e}
 use Rattle.rulesheet.proofs.Taking.{schema-within}
@@ -82,33 +83,33 @@ told-child (items s) = record { no-names = λ n. refl; no-additional = λ n s e.
 told-child (unevaluatedProperties s) = record { no-names = λ n. refl; no-additional = λ n s e. cc; no-prefix = λ n. refl; no-items = λ n s e. cc }
 told-child (unevaluatedItems s) = record { no-names = λ n. refl; no-additional = λ n s e. cc; no-prefix = λ n. refl; no-items = λ n s e. cc }
 
-told : (rs us : List ℕ) (clause : Clause) → Told (tagOf the-type clause) (clauseMeans rs us clause)
-told rs us Never = told-test _ _
-told rs us (Types mask) = told-test _ _
-told rs us (Enum es) = told-test _ _
-told rs us (Minimum d) = told-test _ _
-told rs us (Maximum d) = told-test _ _
-told rs us (ExclusiveMinimum d) = told-test _ _
-told rs us (ExclusiveMaximum d) = told-test _ _
-told rs us (MultipleOf d) = told-test _ _
-told rs us (MinLength n) = told-test _ _
-told rs us (MaxLength n) = told-test _ _
-told rs us (MinItems n) = told-test _ _
-told rs us (MaxItems n) = told-test _ _
-told rs us (MinProperties n) = told-test _ _
-told rs us (MaxProperties n) = told-test _ _
-told rs us (Required es) = told-test _ _
-told rs us (AllOf es) = told-here _ _ _
-told rs us (AnyOf es) = told-here _ _ _
-told rs us (Exactly es) = told-here _ _ _
-told rs us (Not row) = told-here _ _ _
-told rs us (Ref row) = told-here _ _ _
-told rs us (Properties es) = told-child _
-told rs us (AdditionalProperties row) = told-child _
-told rs us (PrefixItems es) = told-child _
-told rs us (Items row) = told-child _
-told rs us (UnevaluatedProperties row) = told-child _
-told rs us (UnevaluatedItems row) = told-child _
+tells-by : (rs us : List ℕ) (clause : Clause) → Told (tagOf the-type clause) (clauseMeans rs us clause)
+tells-by rs us Never = told-test _ _
+tells-by rs us (Types mask) = told-test _ _
+tells-by rs us (Enum es) = told-test _ _
+tells-by rs us (Minimum d) = told-test _ _
+tells-by rs us (Maximum d) = told-test _ _
+tells-by rs us (ExclusiveMinimum d) = told-test _ _
+tells-by rs us (ExclusiveMaximum d) = told-test _ _
+tells-by rs us (MultipleOf d) = told-test _ _
+tells-by rs us (MinLength n) = told-test _ _
+tells-by rs us (MaxLength n) = told-test _ _
+tells-by rs us (MinItems n) = told-test _ _
+tells-by rs us (MaxItems n) = told-test _ _
+tells-by rs us (MinProperties n) = told-test _ _
+tells-by rs us (MaxProperties n) = told-test _ _
+tells-by rs us (Required es) = told-test _ _
+tells-by rs us (AllOf es) = told-here _ _ _
+tells-by rs us (AnyOf es) = told-here _ _ _
+tells-by rs us (Exactly es) = told-here _ _ _
+tells-by rs us (Not row) = told-here _ _ _
+tells-by rs us (Ref row) = told-here _ _ _
+tells-by rs us (Properties es) = told-child _
+tells-by rs us (AdditionalProperties row) = told-child _
+tells-by rs us (PrefixItems es) = told-child _
+tells-by rs us (Items row) = told-child _
+tells-by rs us (UnevaluatedProperties row) = told-child _
+tells-by rs us (UnevaluatedItems row) = told-child _
 
 -- the places of the variants that apply no schema to children, and of these others
 abbrev places : List ℕ → List ℕ
@@ -130,11 +131,11 @@ not-told-at = 20 ∷ 22 ∷ 24 ∷ 25 ∷ []
 module _ (rs us : List ℕ) (clause : Clause) where
   -- any but a `properties`
   pub names-none : OneOf (places no-names-at) (tagOf the-type clause) → namesOf (clauseMeans rs us clause) ≡ []
-  names-none k = told rs us clause .no-names (lacked no-names-at _ 20 k (miss (places no-names-at) 20 tt))
+  names-none k = tells-by rs us clause .no-names (lacked no-names-at _ 20 k (miss (places no-names-at) 20 tt))
 
   -- any but a `prefixItems`
   pub prefix-none : OneOf (places no-prefix-at) (tagOf the-type clause) → prefixOf (clauseMeans rs us clause) ≡ []
-  prefix-none k = told rs us clause .no-prefix (lacked no-prefix-at _ 22 k (miss (places no-prefix-at) 22 tt))
+  prefix-none k = tells-by rs us clause .no-prefix (lacked no-prefix-at _ 22 k (miss (places no-prefix-at) 22 tt))
 
   -- what the clauses before tell it
   module _ (before : List R.Clause) (r : ℕ) where
@@ -149,7 +150,7 @@ module _ (rs us : List ℕ) (clause : Clause) where
     -- any other
     pub started-other : OneOf (places not-told-at) (tagOf the-type clause) → Started before (clauseMeans rs us clause) r
     started-other k =
-        let t = told rs us clause in
+        let t = tells-by rs us clause in
         record {
           prefix-is = λ s f. absurd (never-not (t .no-items (lacked not-told-at _ 23 k (miss (places not-told-at) 23 tt)) s f));
           within = λ s f. absurd (never-not (t .no-additional (lacked not-told-at _ 21 k (miss (places not-told-at) 21 tt)) s f));
@@ -255,6 +256,32 @@ pub entries-few : {rs : List ℕ} {form : RuleForm} → RulesLaid rs form → fo
 entries-few {rs} {form} laid =
     let formed = laid .clauses-laid .schemas-laid .formed in
     omega (arith, form-e rs form formed, facts rs form formed .few-entries)
+
+-- what a clause is told is what is told to it where it asks for something
+pub told-started : {before : List R.Clause} {from : ℕ} (c : R.Clause) → Started before (told c) from → Started before c from
+unfolding told
+told-started c start =
+    record {
+      prefix-is = λ s e. start .prefix-is s (ap told e);
+      within = λ s e. start .within s (ap told e);
+      names-from = λ s e. start .names-from s (ap told e);
+    }
+
+-- and as far as it applies schemas
+pub applied-started : {before : List R.Clause} {from : ℕ} (c : R.Clause) → Started before c from → Started before (applying c) from
+unfolding applying
+applied-started (asserts t) start =
+    record { prefix-is = λ s e. absurd (nothing cc); within = λ s e. absurd (nothing cc); names-from = λ s e. absurd (nothing cc) }
+  where
+    nothing : true ≡ false → ⊥
+    nothing = never-not
+applied-started (inPlace m ss) start = start
+applied-started (takes c) start = start
+
+-- by the variant that was read
+pub started-as : {before : List R.Clause} {from : ℕ} (rs us : List ℕ) (c : R.Clause) (clause variant : Clause) → clause ≡ variant → clauseMeans rs us clause ≡ applying c
+    → Started before c from → Started before (clauseMeans rs us variant) from
+started-as rs us c clause variant e means start = rw (← e, means) (applied-started c start)
 
 -- ---- a row by name
 

@@ -1,14 +1,14 @@
 -- How many steps a clause has and what it says in the end are what its plan says.
 --     members-counted, elements-counted    how many members and elements a row has
---     counted, no-steps     how many steps a clause has, by the variant that was read
---     named-all, first-of, later     how many `properties`, `prefixItems` and `items` have
---     any-finishes, one-finishes, not-finishes, all-finishes     what a clause says in the end, by the variant that was read and its misses
+--     no-steps              a clause that asserts something has no steps
+--     any-ends, one-ends, not-ends, all-ends     what a clause says in the end, by the variant that was read and its misses
+--     spared-ends, ends-finish     and by what is read of it
 -- Assumes nothing.
-use mathlib.Core.Bool.{Bool, cond}
+use mathlib.Core.Bool.{Bool}
 use mathlib.Core.List.{List, [], _∷_}
 use mathlib.Core.Path.{_≡_, refl, sym, ap, _∙_}
 use mathlib.Core.Logic.{⊎-elim}
-use Prim.Native.Nat.{ℕ, _-_, _≤_, _<_, min}
+use Prim.Native.Nat.{ℕ, _-_, _≤_, _<_}
 use native.Mathlib.Omega.{arith}
 use lib.Dec.{eqb, ltb}
 use lib.ListN.{length}
@@ -25,15 +25,14 @@ use Rattle.rulesheet.specs.declared.clause.Clause.the-variants.{Never, Types, E
 use Rattle.rulesheet.specs.declared.clause.Clause.the-variants.{MinLength, MaxLength, MinItems, MaxItems, MinProperties, MaxProperties, Required}
 use Rattle.rulesheet.specs.declared.clause.Clause.the-variants.{AllOf, AnyOf, OneOf as Exactly, Not, Ref, Properties, AdditionalProperties, PrefixItems, Items, UnevaluatedProperties, UnevaluatedItems}
 use Rattle.rulesheet.specs.Ruleset as R
-use Rattle.rulesheet.specs.Ruleset.{Test, asserts}
-use Rattle.rulesheet.specs.Clauses.{schemasIn, clauseMeans}
-use Rattle.rulesheet.proofs.Items.{schemas-long, members-long}
+use Rattle.rulesheet.specs.Ruleset.{Test, allOf, anyOf, oneOf, notOf, ref, asserts, inPlace, takes}
+use Rattle.rulesheet.specs.Clauses.{clauseMeans, sparing}
+use Rattle.rulesheet.proofs.Items.{schemas-long}
 use Rattle.meaning.specs.Tests.{members?, elements?}
 use Rattle.meaning.specs.Rules.{Pair}
 use Rattle.clause.specs.Read.{sizeOf, orNone}
 use Rattle.meaning.proofs.Members.{range-length}
-use Rattle.steps.specs.Plan.{memberCount, elementCount, finishedBy, own, stepsIn, stepsOf, finishOf}
-use Rattle.steps.specs.Read.{Started}
+use Rattle.steps.specs.Plan.{memberCount, elementCount, finishedBy, endsBy, stepsOf, finishOf}
 
 -- ---- how many members and elements a row has
 
@@ -94,29 +93,9 @@ asserting rs us (Items row) k = absurd (miss asserters 23 tt k)
 asserting rs us (UnevaluatedProperties row) k = absurd (miss asserters 24 tt k)
 asserting rs us (UnevaluatedItems row) k = absurd (miss asserters 25 tt k)
 
-module _ (d : Doc) (p : Pair) (before : List R.Clause) (rs us : List ℕ) where
-  abbrev many : Clause → ℕ
-  many clause = stepsOf d p before (clauseMeans rs us clause)
-
-  pub counted : (clause variant : Clause) (r : ℕ) → clause ≡ variant → r ≡ many variant → r ≡ many clause
-  counted clause variant r e is = is ∙ sym (ap many e)
-
-  pub named-all : (es : Entries) (members r : ℕ) → members ≡ memberCount (own d p) → r ≡ cond (eqb members 0) 0 (es .count) → r ≡ many (Properties es)
-  unfolding stepsOf stepsIn
-  named-all es members r m is = is ∙ rw (m, members-long rs es us)
-
-  pub first-of : (es : Entries) (elements r : ℕ) → elements ≡ elementCount (own d p) → r ≡ min elements (es .count) → r ≡ many (PrefixItems es)
-  unfolding stepsOf stepsIn
-  first-of es elements r m is = is ∙ rw (m, schemas-long rs es)
-
-  pub later : (row : RuleRow) (clause : Clause) (elements from r : ℕ) → clause ≡ Items row → elements ≡ elementCount (own d p) → Started before (clauseMeans rs us clause) from
-      → r ≡ elements - from → r ≡ many clause
-  unfolding stepsOf stepsIn
-  later row clause elements from r e m s is = counted clause (Items row) r e (is ∙ rw (m, s .prefix-is (row .0) (ap (clauseMeans rs us) e)))
-
-  pub no-steps : (clause : Clause) → OneOf asserters (tagOf the-type clause) → 0 ≡ many clause
-  unfolding stepsOf
-  no-steps clause k = let a = asserting rs us clause k in rw (a .means)
+pub no-steps : (d : Doc) (p : Pair) (before : List R.Clause) (rs us : List ℕ) (clause : Clause) → OneOf asserters (tagOf the-type clause) → stepsOf d p before (clauseMeans rs us clause) ≡ 0
+unfolding stepsOf
+no-steps d p before rs us clause k = let a = asserting rs us clause k in rw (a .means)
 
 -- ---- what a clause says in the end, by its misses
 
@@ -132,61 +111,81 @@ some-hit misses n =
     (λ (z : misses < n). lt-ltb misses n z ∙ sym (lt-ltb 0 (n - misses) (omega arith)))
     (le-or-lt n misses)
 
-one-missed : (misses : ℕ) → misses ≤ 1 → eqb misses 1 ≡ eqb (1 - misses) 0
-one-missed misses h =
-    ⊎-elim (λ (z : misses ≤ 0). ne-eqb misses 1 (λ e. omega arith) ∙ sym (ne-eqb (1 - misses) 0 (λ e. omega arith)))
-    (λ (z : 0 < misses). eq-eqb misses 1 (omega arith) ∙ sym (eq-eqb (1 - misses) 0 (omega arith)))
-    (le-or-lt misses 0)
+all-missed : (misses n : ℕ) → misses ≤ n → eqb misses n ≡ eqb (n - misses) 0
+all-missed misses n h =
+    ⊎-elim (λ (z : n ≤ misses). eq-eqb misses n (omega arith) ∙ sym (eq-eqb (n - misses) 0 (omega arith)))
+    (λ (z : misses < n). ne-eqb misses n (λ e. omega arith) ∙ sym (ne-eqb (n - misses) 0 (λ e. omega arith)))
+    (le-or-lt n misses)
 
 -- the positions of the variants that need every step to hold, and those that assert
 abbrev pub others : List ℕ
 others = 0 ∷ 1 ∷ 2 ∷ 3 ∷ 4 ∷ 5 ∷ 6 ∷ 7 ∷ 8 ∷ 9 ∷ 10 ∷ 11 ∷ 12 ∷ 13 ∷ 14 ∷ 15 ∷ 19 ∷ 20 ∷ 21 ∷ 22 ∷ 23 ∷ 24 ∷ 25 ∷ []
 
-module _ (misses : ℕ) where
-  -- what the clause says if r is its answer
-  abbrev pub Finishes : Clause → Bool → Type 0
-  Finishes clause r =
-      (d : Doc) (p : Pair) (before : List R.Clause) (rs us : List ℕ) → ((t : Test) → clauseMeans rs us clause ≡ asserts t → ⊥)
-      → misses ≤ stepsOf d p before (clauseMeans rs us clause)
-      → r ≡ finishOf d p (clauseMeans rs us clause) (stepsOf d p before (clauseMeans rs us clause) - misses) (stepsOf d p before (clauseMeans rs us clause))
+module _ (misses : ℕ) (rs us : List ℕ) where
+  -- what the clause says
+  abbrev pub Ends : Clause → Bool → Type 0
+  Ends clause r = r ≡ endsBy (clauseMeans rs us clause) misses
 
-  pub any-finishes : (es : Entries) → Finishes (AnyOf es) (ltb misses (es .count))
-  unfolding stepsOf finishOf finishedBy
-  any-finishes es d p before rs us applies h = ap (ltb misses) (sym (schemas-long rs es)) ∙ some-hit misses (length (schemasIn rs es))
+  pub any-ends : (es : Entries) → Ends (AnyOf es) (ltb misses (es .count))
+  unfolding endsBy
+  any-ends es = ap (ltb misses) (sym (schemas-long rs es))
 
-  pub one-finishes : (es : Entries) → Finishes (Exactly es) (eqb (es .count - misses) 1)
-  unfolding stepsOf finishOf finishedBy
-  one-finishes es d p before rs us applies h = ap (λ (n : ℕ). eqb (n - misses) 1) (sym (schemas-long rs es))
+  pub one-ends : (es : Entries) → Ends (Exactly es) (eqb (es .count - misses) 1)
+  unfolding endsBy
+  one-ends es = ap (λ (n : ℕ). eqb (n - misses) 1) (sym (schemas-long rs es))
 
-  pub not-finishes : (row : RuleRow) → Finishes (Not row) (eqb misses 1)
-  unfolding stepsOf finishOf finishedBy
-  not-finishes row d p before rs us applies h = one-missed misses h
+  pub not-ends : (row : RuleRow) → Ends (Not row) (eqb misses 1)
+  unfolding endsBy
+  not-ends row = refl
 
-  pub all-finishes : (clause : Clause) → OneOf others (tagOf the-type clause) → Finishes clause (eqb misses 0)
-  unfolding stepsOf finishOf finishedBy
-  all-finishes Never k d p before rs us applies h = absurd (applies _ refl)
-  all-finishes (Types mask) k d p before rs us applies h = absurd (applies _ refl)
-  all-finishes (Enum es) k d p before rs us applies h = absurd (applies _ refl)
-  all-finishes (Minimum z) k d p before rs us applies h = absurd (applies _ refl)
-  all-finishes (Maximum z) k d p before rs us applies h = absurd (applies _ refl)
-  all-finishes (ExclusiveMinimum z) k d p before rs us applies h = absurd (applies _ refl)
-  all-finishes (ExclusiveMaximum z) k d p before rs us applies h = absurd (applies _ refl)
-  all-finishes (MultipleOf z) k d p before rs us applies h = absurd (applies _ refl)
-  all-finishes (MinLength n) k d p before rs us applies h = absurd (applies _ refl)
-  all-finishes (MaxLength n) k d p before rs us applies h = absurd (applies _ refl)
-  all-finishes (MinItems n) k d p before rs us applies h = absurd (applies _ refl)
-  all-finishes (MaxItems n) k d p before rs us applies h = absurd (applies _ refl)
-  all-finishes (MinProperties n) k d p before rs us applies h = absurd (applies _ refl)
-  all-finishes (MaxProperties n) k d p before rs us applies h = absurd (applies _ refl)
-  all-finishes (Required es) k d p before rs us applies h = absurd (applies _ refl)
-  all-finishes (AllOf es) k d p before rs us applies h = none-missed misses _ h
-  all-finishes (AnyOf es) k d p before rs us applies h = absurd (miss others 16 tt k)
-  all-finishes (Exactly es) k d p before rs us applies h = absurd (miss others 17 tt k)
-  all-finishes (Not row) k d p before rs us applies h = absurd (miss others 18 tt k)
-  all-finishes (Ref row) k d p before rs us applies h = none-missed misses _ h
-  all-finishes (Properties es) k d p before rs us applies h = none-missed misses _ h
-  all-finishes (AdditionalProperties row) k d p before rs us applies h = none-missed misses _ h
-  all-finishes (PrefixItems es) k d p before rs us applies h = none-missed misses _ h
-  all-finishes (Items row) k d p before rs us applies h = none-missed misses _ h
-  all-finishes (UnevaluatedProperties row) k d p before rs us applies h = none-missed misses _ h
-  all-finishes (UnevaluatedItems row) k d p before rs us applies h = none-missed misses _ h
+  pub all-ends : (clause : Clause) → OneOf others (tagOf the-type clause) → Ends clause (eqb misses 0)
+  unfolding endsBy
+  all-ends Never k = refl
+  all-ends (Types mask) k = refl
+  all-ends (Enum es) k = refl
+  all-ends (Minimum z) k = refl
+  all-ends (Maximum z) k = refl
+  all-ends (ExclusiveMinimum z) k = refl
+  all-ends (ExclusiveMaximum z) k = refl
+  all-ends (MultipleOf z) k = refl
+  all-ends (MinLength n) k = refl
+  all-ends (MaxLength n) k = refl
+  all-ends (MinItems n) k = refl
+  all-ends (MaxItems n) k = refl
+  all-ends (MinProperties n) k = refl
+  all-ends (MaxProperties n) k = refl
+  all-ends (Required es) k = refl
+  all-ends (AllOf es) k = refl
+  all-ends (AnyOf es) k = absurd (miss others 16 tt k)
+  all-ends (Exactly es) k = absurd (miss others 17 tt k)
+  all-ends (Not row) k = absurd (miss others 18 tt k)
+  all-ends (Ref row) k = refl
+  all-ends (Properties es) k = refl
+  all-ends (AdditionalProperties row) k = refl
+  all-ends (PrefixItems es) k = refl
+  all-ends (Items row) k = refl
+  all-ends (UnevaluatedProperties row) k = refl
+  all-ends (UnevaluatedItems row) k = refl
+
+-- what is asked of misses is asked of few clauses
+pub spared-ends : (c : R.Clause) (misses : ℕ) → endsBy (sparing c) misses ≡ endsBy c misses
+unfolding endsBy sparing
+spared-ends (asserts t) misses = refl
+spared-ends (inPlace allOf ss) misses = refl
+spared-ends (inPlace anyOf ss) misses = refl
+spared-ends (inPlace oneOf ss) misses = refl
+spared-ends (inPlace notOf ss) misses = refl
+spared-ends (inPlace ref ss) misses = refl
+spared-ends (takes c) misses = refl
+
+-- the misses of a clause that applies schemas tell what its hits tell
+pub ends-finish : (d : Doc) (p : Pair) (before : List R.Clause) (c : R.Clause) (misses : ℕ) → ((t : Test) → c ≡ asserts t → ⊥) → misses ≤ stepsOf d p before c
+    → endsBy c misses ≡ finishOf d p c (stepsOf d p before c - misses) (stepsOf d p before c)
+unfolding endsBy stepsOf finishOf finishedBy
+ends-finish d p before (asserts t) misses applies h = absurd (applies t refl)
+ends-finish d p before (inPlace allOf ss) misses applies h = none-missed misses _ h
+ends-finish d p before (inPlace anyOf ss) misses applies h = some-hit misses (length ss)
+ends-finish d p before (inPlace oneOf ss) misses applies h = refl
+ends-finish d p before (inPlace notOf ss) misses applies h = all-missed misses _ h
+ends-finish d p before (inPlace ref ss) misses applies h = none-missed misses _ h
+ends-finish d p before (takes c) misses applies h = none-missed misses _ h

@@ -43,6 +43,16 @@ finishedBy oneOf hits n = eqb hits 1
 finishedBy notOf hits n = eqb hits 0
 finishedBy ref hits n = eqb hits n
 
+-- the same of a clause that applies schemas, by how many steps applied a pair that failed
+unfoldable pub endsBy : Clause → ℕ → Bool
+endsBy (asserts t) misses = eqb misses 0
+endsBy (inPlace allOf ss) misses = eqb misses 0
+endsBy (inPlace anyOf ss) misses = ltb misses (length ss)
+endsBy (inPlace oneOf ss) misses = eqb (length ss - misses) 1
+endsBy (inPlace notOf ss) misses = eqb misses (length ss)
+endsBy (inPlace ref ss) misses = eqb misses 0
+endsBy (takes c) misses = eqb misses 0
+
 module _ (D : Doc) (p : Pair) where
   abbrev pub own : Value
   own = D .value (p .row)

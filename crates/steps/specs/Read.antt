@@ -1,7 +1,7 @@
--- What is read of a clause before its steps are taken, and of a step.
+-- What is read of a clause before its steps are taken.
 -- Assumes nothing.
 use Prim.Native.Nat.{ℕ, _≤_}
-use mathlib.Core.Bool.{Bool, true}
+use mathlib.Core.Bool.{Bool}
 use mathlib.Core.List.{List, [], map}
 use mathlib.Core.Path.{_≡_}
 use lib.ListN.{length, take}
@@ -9,9 +9,7 @@ use Rattle.sheet.specs.Doc.{Doc}
 use Rattle.rulesheet.specs.Ruleset as R
 use Rattle.rulesheet.specs.Ruleset.{takes, additionalProperties, items}
 use Rattle.meaning.specs.Lists.{any, concatMap}
-use Rattle.meaning.specs.Rules.{Pair, Marks, namesOf, prefixOf, called}
-use Rattle.steps.specs.declared.step.Step.{Step}
-use Rattle.steps.specs.Plan.{aimOf, goOf}
+use Rattle.meaning.specs.Rules.{namesOf, prefixOf, called}
 
 -- what the clauses before it tell a clause: `items` how many elements they speak of, `additionalProperties` from which of them on they name members
 pub record Started (before : List R.Clause) (c : R.Clause) (from : ℕ) : Type 0 where
@@ -22,8 +20,3 @@ pub record Started (before : List R.Clause) (c : R.Clause) (from : ℕ) : Type 0
 -- one of the names is that of row k
 abbrev pub namedBy : Doc → List (List ℕ) → ℕ → Bool
 namedBy D names k = any (map (λ n. called D n k) names)
-
--- step x of a clause was read, where κ are the marks that stand in the cells: whether it is applied and, if it is, the pair that it aims at
-pub record StepRead (D : Doc) (p : Pair) (before : List R.Clause) (c : R.Clause) (x : ℕ) (κ : Marks) (r : Step) : Type 0 where
-  pub go-is : r .go ≡ goOf D p before c x (κ (aimOf D p before c x .row))
-  pub aim-is : r .go ≡ true → record { row = r .row; rule = r .rule } ≡ aimOf D p before c x

@@ -1,17 +1,22 @@
 -- A clause between two of its steps: which step is applied next, if one is. κ are the marks that stand in the cells.
 -- Assumes nothing.
-use Prim.Native.Nat.{ℕ, _≤_, _<_}
+use Prim.Native.Nat.{ℕ, _*_, _≤_, _<_}
 use mathlib.Core.Bool.{Bool, true, false}
 use mathlib.Core.List.{List}
 use mathlib.Core.Path.{_≡_}
+use lib.ListN.{length}
+use Rattle.sheet.specs.declared.record.RecordForm.{RecordForm}
+use Rattle.sheet.specs.declared.record.Pair as P
 use Rattle.sheet.specs.Doc.{Doc}
+use Rattle.rulesheet.specs.declared.form.RuleForm.{RuleForm}
 use Rattle.rulesheet.specs.Ruleset.{Clause}
+use Rattle.rulesheet.specs.Sheet.{schemaAt}
 use Rattle.meaning.specs.Rules.{Pair, Marks}
+use Rattle.clause.specs.Read.{RecordRead, RulesRead, clauseIn, beforeIn}
+use Rattle.areas.specs.Cells.{pairIs, Unsettled}
 use Rattle.steps.specs.declared.turn.Turn.{Turn}
-use Rattle.steps.specs.declared.turn.Found.{Found}
-use Rattle.areas.specs.Cells.{pairIs}
 use Rattle.steps.specs.Plan.{stepsOf, aimOf, goOf}
-use Rattle.steps.specs.Read.{StepRead}
+use Rattle.steps.specs.Read.{Started}
 
 module _ (D : Doc) (p : Pair) (before : List Clause) (c : Clause) where
   -- step k is applied
@@ -21,14 +26,6 @@ module _ (D : Doc) (p : Pair) (before : List Clause) (c : Clause) where
   -- no step from x up to y is
   pub record Skipped (κ : Marks) (x y : ℕ) : Type 0 where
     pub idle : (k : ℕ) → x ≤ k → k < y → goesAt κ k ≡ false
-
-  -- the first step from x on that is applied, of `many`
-  pub record Sought (x many : ℕ) (κ : Marks) (r : Found) : Type 0 where
-    pub ahead : x ≤ r .at
-    pub skipped : Skipped κ x (r .at)
-    pub within : r .step .go ≡ true → r .at < many
-    pub read : r .step .go ≡ true → StepRead D p before c (r .at) κ (r .step)
-    pub none : r .step .go ≡ false → r .at ≡ many
 
   -- after x steps the next that is applied is r's, and applies its pair
   pub record Goes (x : ℕ) (κ : Marks) (r : Turn) : Type 0 where
@@ -43,3 +40,18 @@ module _ (D : Doc) (p : Pair) (before : List Clause) (c : Clause) where
   pub record Turned (x : ℕ) (κ : Marks) (r : Turn) : Type 0 where
     pub goes : r .go ≡ true → Goes x κ r
     pub ends : r .go ≡ false → Skipped κ x (stepsOf D p before c)
+
+-- the same on row j, whatever schema the clause is of, the clauses before it and the marks
+abbrev pub TurnedOn : Doc → ℕ → Clause → ℕ → Turn → Type 0
+TurnedOn D j c x r = (p : Pair) (before : List Clause) (κ : Marks) → p .row ≡ j → Turned D p before c x κ r
+
+-- what is asked where clause i of an unsettled pair stands: both sheets are read, `from` is what the clauses before tell it, and each pair has its cell
+pub record TurnAsked (ws ts : List ℕ) (form : RecordForm) (rs us : List ℕ) (rule-form : RuleForm) (cells : List ℕ) (p : P.Pair) (i from : ℕ) : Type 0 where
+  pub record-read : RecordRead ws ts form
+  pub row-in : p .row .0 < form .rows
+  pub rules-read : RulesRead rs us rule-form
+  pub rule-in : p .rule .0 < rule-form .m
+  pub clause-in : i < schemaAt rs (p .rule .0) .count
+  pub started : Started (beforeIn rs us (p .rule .0) i) (clauseIn rs us (p .rule .0) i) from
+  pub room : form .rows * rule-form .m ≤ length cells
+  pub unsettled : Unsettled (rule-form .m) (pairIs p) cells

@@ -17,11 +17,11 @@ ghost use Rattle.meaning.specs.Rules.{Pair, namesOf, prefixOf};
 ghost use Rattle.clause.specs.Read.{RecordRead, RulesRead, ListRead, clauseIn, beforeIn};
 ghost use Rattle.steps.specs.Plan.{unnamed};
 ghost use Rattle.steps.specs.Read.{namedBy, Started};
-use clause::read::clause_in;
 use rulesheet::clause::Clause;
 use rulesheet::clause::Entries;
 use rulesheet::clause::entry_name;
-use rulesheet::clause::telling_of;
+use rulesheet::few::telling_of;
+use rulesheet::few::told_of;
 use rulesheet::form::RuleForm;
 use rulesheet::form::schema_at;
 use sheet::record::RecordForm;
@@ -102,7 +102,7 @@ pub fn start_of<'a>(rules: &[u32], rule_text: &'a [u8], form: RuleForm, s: RuleR
     ensures { λ r. ⌜ Started (beforeIn (now (rules .entry)) (now («rule_text» .entry)) (s .0) i) (clauseIn (now (rules .entry)) (now («rule_text» .entry)) (s .0) i) r ⌝ }
 {
     let first = schema_at(rules, form, s).first;
-    let clause = clause_in(rules, rule_text, form, s, i);
+    let clause = told_of(rules, form, first + i);
     start_in(rules, form, s, first, i, clause)
 }
 

@@ -11,7 +11,7 @@ use Rattle.sheet.specs.Record.{docOf}
 use Rattle.rulesheet.specs.Codes.{entryName}
 use Rattle.rulesheet.specs.Sheet.{entryAt}
 use Rattle.clause.proofs.Listing.{list-few}
-use Rattle.clause.proofs.Naming.{isNamed, entry-lacks, entry-has, no-object, lacks, has-all}
+use Rattle.clause.proofs.Naming.{has-members, isNamed, entry-lacks, entry-has, no-object, lacks, has-all}
 use Rattle.clause.proofs.members.required.Statement.{statement}
 use Rattle.clause.proofs.members.required.Tie as tie
 
@@ -43,7 +43,7 @@ entry-name-requires c κs = (c .before .before .before .before .before .before .
 child-named-requires : tie.Need-child-named-requires Inv-loop μ-loop
 child-named-requires c κs =
     let start = c .before .before .before .before .before .before .before .before .before .before in
-    ((start .pre .0 .0, start .pre .0 .1), rw (start .pre .1 .0 .text-length) (c .entry-name .ensures .name-fits Names refl (start .pre .1 .1 .listed)))
+    ((start .pre .0 .0, start .pre .0 .1, has-members (docOf (start .args .«record» .now) (start .args .text .now) .value (start .args .row .0)) (sym (c .before .before .before .before .before .is-kind .ensures (start .args .text .now)) ∙ not-false _ (c .before .before .before .before .if1 .left))), rw (start .pre .1 .0 .text-length) (c .entry-name .ensures .name-fits Names refl (start .pre .1 .1 .listed)))
 
 returns-2 : tie.Need-returns-2 Inv-loop μ-loop
 returns-2 c =

@@ -1,5 +1,5 @@
 -- `clause_in` meets its contract. Assumes nothing.
-use mathlib.Core.Path.{sym, ap, _∙_}
+use mathlib.Core.Path.{ap}
 use native.Mathlib.Omega.{arith}
 use borrow.Author.Needs.{needs}
 use Rattle.rulesheet.specs.declared.form.SchemaRow.{SchemaRow}
@@ -23,8 +23,7 @@ clause-of-requires c κs =
 returns : tie.Need-returns
 returns c =
     let A = c .before .before .before .before .pre in
-    let at = ap (λ (row : SchemaRow). row .first) (c .before .schema-at .ensures) in
-    λ first e. rw (e ∙ sym at) (clause-read (A .0) (A .1) at (A .2) (c .clause-of .ensures .0) (c .clause-of .ensures .1))
+    clause-read (A .0) (A .1) (ap (λ (row : SchemaRow). row .first) (c .before .schema-at .ensures)) (A .2) (λ d. d) (c .clause-of .ensures .0) (c .clause-of .ensures .1)
 
 pub clause-in-spec : {M : Type 1} → statement M
 clause-in-spec = tie.close (tie.spec schema-at-requires add-clause-of clause-of-requires returns)

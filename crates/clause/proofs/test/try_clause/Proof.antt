@@ -1,5 +1,5 @@
 -- `try_clause` meets its contract. Assumes nothing.
-use mathlib.Core.Path.{refl, subst}
+use mathlib.Core.Path.{subst}
 use borrow.Author.Needs.{needs}
 use Rattle.sheet.specs.Record.{docOf}
 use Rattle.clause.specs.Read.{Tries}
@@ -12,12 +12,12 @@ clause-in-requires c κs = search needs
 try-test-requires : tie.Need-try-test-requires
 try-test-requires c κs =
     let start = c .before .before .before .before .before .before in
-    (start .pre .0, (start .pre .1 .0 .0, c .clause-in .ensures _ refl .tested))
+    (start .pre .0, (start .pre .1 .0 .0, c .clause-in .ensures .tested))
 
 returns : tie.Need-returns
 returns c =
     let start = c .before .before .before .before .before .before .before in
-    subst (λ x. Tries (docOf (start .args .«record» .now) (start .args .text .now)) (start .args .p .row .0) x (c .try-test .result)) (c .before .clause-in .ensures _ refl .means) (c .try-test .ensures)
+    subst (λ x. Tries (docOf (start .args .«record» .now) (start .args .text .now)) (start .args .p .row .0) x (c .try-test .result)) (c .before .clause-in .ensures .means) (c .try-test .ensures)
 
 pub try-clause-spec : {M : Type 1} → statement M
 try-clause-spec = tie.close (tie.spec clause-in-requires try-test-requires returns)

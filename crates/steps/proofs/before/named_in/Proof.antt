@@ -43,7 +43,7 @@ same-part-requires c κs =
 returns : tie.Need-returns Inv-loop μ-loop
 returns c =
     let start = c .before .before .before .before .before .before .before .before .before .before in
-    sym (entry-names (docOf (start .args .«record» .now) (start .args .text .now)) (start .args .row .0) (start .args .rules .now) (start .args .rule-text .now) (start .args .list) (c .before .before .before .before .loop .i) (omega arith) (compared (c .before .before .before .before .before .name-of .ensures) (start .args .text .now) _ _ _ (entry-same (c .before .before .entry-name .ensures) (start .args .rule-text .now) _ _ (omega arith) (c .before .same-part .ensures)) (c .if1 .taken)))
+    sym (entry-names (docOf (start .args .«record» .now) (start .args .text .now)) (start .args .row .0) (start .args .rules .now) (start .args .rule-text .now) (start .args .list) (c .before .before .before .before .loop .i) (omega arith) (sym (compared (c .before .before .before .before .before .name-of .ensures) (start .args .text .now) _ _ (entry-same (c .before .before .entry-name .ensures) (start .args .rule-text .now) _ _ (omega arith) (c .before .same-part .ensures))) ∙ (c .if1 .taken)))
 
 add-i : tie.Need-add-i Inv-loop μ-loop
 add-i c = omega (arith, list-few (c .before .before .before .before .before .before .before .before .before .before .pre .1 .0) (c .before .before .before .before .before .before .before .before .before .before .pre .1 .1))
@@ -59,7 +59,7 @@ loop-again c =
 returns-2 : tie.Need-returns-2 Inv-loop μ-loop
 returns-2 c =
     let start = c .before .before .before .before .before .before .before in
-    sym (none-names (docOf (start .args .«record» .now) (start .args .text .now)) (start .args .row .0) (start .args .rules .now) (start .args .rule-text .now) (start .args .list) (λ (k : ℕ) (l : k < (start .args .list) .count). compared (c .before .before .name-of .ensures) (start .args .text .now) _ _ _ refl (c .before .loop .inv .1 k (omega arith))))
+    sym (none-names (docOf (start .args .«record» .now) (start .args .text .now)) (start .args .row .0) (start .args .rules .now) (start .args .rule-text .now) (start .args .list) (λ (k : ℕ) (l : k < (start .args .list) .count). sym (compared (c .before .before .name-of .ensures) (start .args .text .now) _ _ refl) ∙ c .before .loop .inv .1 k (omega arith)))
 
 pub named-in-spec : {M : Type 1} → statement M
 named-in-spec =

@@ -1,8 +1,8 @@
 -- `finish_in` meets its contract, by the variant. Assumes nothing.
 use mathlib.Core.Path.{sym, subst}
 use lib.Dec.{eqb, ltb}
+use Rattle.steps.proofs.Reading.{Ends, any-ends, one-ends, not-ends, all-ends}
 use borrow.Author.Needs.{needs}
-use Rattle.steps.proofs.Reading.{Finishes, any-finishes, one-finishes, not-finishes, all-finishes}
 use Rattle.steps.proofs.finish.finish_in.Statement.{statement}
 use Rattle.steps.proofs.finish.finish_in.Tie as tie
 
@@ -22,21 +22,21 @@ returns : tie.Need-returns
 returns c =
     let misses = c .before .before .before .before .args .misses in
     let es = c .before .before .clause .given .0 .0 in
-    subst (λ x. Finishes misses x (ltb misses (es .count))) (sym (c .before .before .clause .given .1)) (any-finishes misses es)
+    λ rs us. subst (λ x. Ends misses rs us x (ltb misses (es .count))) (sym (c .before .before .clause .given .1)) (any-ends misses rs us es)
 
 returns-2 : tie.Need-returns-2
 returns-2 c =
     let misses = c .before .before .before .before .args .misses in
     let es = c .before .before .clause2 .given .0 .0 in
-    subst (λ x. Finishes misses x (c .one-left .result)) (sym (c .before .before .clause2 .given .1)) (rw (c .one-left .ensures) (one-finishes misses es))
+    λ rs us. subst (λ x. Ends misses rs us x (c .one-left .result)) (sym (c .before .before .clause2 .given .1)) (rw (c .one-left .ensures) (one-ends misses rs us es))
 
 returns-3 : tie.Need-returns-3
 returns-3 c =
     let misses = c .before .before .args .misses in
-    subst (λ x. Finishes misses x (eqb misses 1)) (sym (c .enum-told .given .1)) (not-finishes misses _)
+    λ rs us. subst (λ x. Ends misses rs us x (eqb misses 1)) (sym (c .enum-told .given .1)) (not-ends misses rs us _)
 
 returns-4 : tie.Need-returns-4
-returns-4 c = all-finishes (c .before .args .misses) (c .before .args .clause) (c .match .keys4)
+returns-4 c = λ rs us. all-ends (c .before .args .misses) rs us (c .before .args .clause) (c .match .keys4)
 
 pub finish-in-spec : {M : Type 1} → statement M
 finish-in-spec =

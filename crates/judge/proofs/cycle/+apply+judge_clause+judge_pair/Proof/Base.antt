@@ -29,15 +29,15 @@ use Rattle.judge.proofs.read.verdict_of.Reads as verdict-of-reads
 
 abbrev pub μ-apply : Measures 4 apply-kinds.ps ℕ
 μ-apply κs a =
-    3 * rankOf (lentCase (a .0 .now) (a .1 .0 .now)) (pairIs (a .1 .1 .1 .1 .1 .0)) + 2
+    3 * rankOf (lentCase (a .0 .now) (a .1 .0 .now)) (pairIs (a .1 .1 .1 .1 .1 .1 .0)) + 2
 
 abbrev pub μ-judge-clause : Measures 4 judge-clause-kinds.ps ℕ
 μ-judge-clause κs a =
-    3 * rankOf (lentCase (a .0 .now) (a .1 .0 .now)) (pairIs (a .1 .1 .1 .1 .1 .0)) + 0
+    3 * rankOf (lentCase (a .0 .now) (a .1 .0 .now)) (pairIs (a .1 .1 .1 .1 .1 .1 .0)) + 0
 
 abbrev pub μ-judge-pair : Measures 4 judge-pair-kinds.ps ℕ
 μ-judge-pair κs a =
-    3 * rankOf (lentCase (a .0 .now) (a .1 .0 .now)) (pairIs (a .1 .1 .1 .1 .1 .0)) + 1
+    3 * rankOf (lentCase (a .0 .now) (a .1 .0 .now)) (pairIs (a .1 .1 .1 .1 .1 .1 .0)) + 1
 
 abbrev pub apply-at : ℕ → In 4 apply-kinds.ps
 apply-at t = and 4 apply-kinds.ps (is 4 apply-kinds.ps μ-apply t) apply.Pre

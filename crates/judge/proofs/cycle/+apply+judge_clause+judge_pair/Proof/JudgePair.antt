@@ -9,8 +9,8 @@ use Rattle.clause.specs.Read.{Tries}
 use Rattle.judge.specs.State.{lentCase, clauseAt}
 use Rattle.judge.proofs.Going.{going-ready, going-unsettled, going-writes, going-open}
 use Rattle.judge.proofs.Claused.{Claused, claused-none, claused-more, claused-shut, claused-end, cells-kept, list-kept}
-use Rattle.judge.proofs.Turning.{claused-test, left}
-use Rattle.judge.proofs.Reading.{rules-ok, clauses-many, reads-by, reads-clause, lt-next, lt-by}
+use Rattle.judge.proofs.Turning.{claused-test}
+use Rattle.judge.proofs.Reading.{forms-fit, schemas-lent, formed-lent, clauses-many, reads-by, reads-clause, lt-next, lt-by}
 use Prim.Native.Nat.{ℕ}
 use borrow.Fn.PlainCycle.{and}
 use Rattle.judge.proofs.cycle.judge_pair.Reads as judge-pair
@@ -18,11 +18,11 @@ use Rattle.judge.proofs.cycle.+apply+judge_clause+judge_pair.Lts-judge_
 use Rattle.judge.proofs.cycle.+apply+judge_clause+judge_pair.Proof.Base.{judge-pair-at, judge-pair-claims}
 
 abbrev pub judge-pair-Inv-loop : judge-pair-lts.InvT-loop
-judge-pair-Inv-loop sheets texts cells₀ list₀ count p many ok₀ now₀ i₀ cells list ok now i =
+judge-pair-Inv-loop sheets texts forms cells₀ list₀ count p many ok₀ now₀ i₀ cells list ok now i =
     (i ≤ many) × Claused (lentCase sheets texts) (pairIs p) cells₀ list₀ count i cells list now ok
 
 abbrev pub judge-pair-μ-loop : judge-pair-lts.MeasureT-loop
-judge-pair-μ-loop sheets texts cells₀ list₀ count p many ok₀ now₀ i₀ cells list ok now i =
+judge-pair-μ-loop sheets texts forms cells₀ list₀ count p many ok₀ now₀ i₀ cells list ok now i =
     many - i
 
 pub judge-pair-element-copy-out-clauses-of : (t : ℕ) → judge-pair-lts.Need-element-copy-out-clauses-of (judge-pair-claims t) (judge-pair-at t) judge-pair.Post judge-pair-Inv-loop judge-pair-μ-loop
@@ -31,7 +31,7 @@ judge-pair-element-copy-out-clauses-of t c =
 
 pub judge-pair-clauses-of-requires : (t : ℕ) → judge-pair-lts.Need-clauses-of-requires (judge-pair-claims t) (judge-pair-at t) judge-pair.Post judge-pair-Inv-loop judge-pair-μ-loop
 judge-pair-clauses-of-requires t c κs =
-    (rules-ok (c .before .before .before .pre .1 .0), (c .before .before .before .pre .1 .1 .0) .inside .rule-in)
+    (forms-fit (c .before .before .before .pre .1 .0), rw (schemas-lent (c .before .before .before .pre .1 .0)) ((c .before .before .before .pre .1 .1 .0) .inside .rule-in), formed-lent (c .before .before .before .pre .1 .0))
 
 pub judge-pair-loop-holds : (t : ℕ) → judge-pair-lts.Need-loop-holds (judge-pair-claims t) (judge-pair-at t) judge-pair.Post judge-pair-Inv-loop judge-pair-μ-loop
 judge-pair-loop-holds t c =
@@ -69,26 +69,22 @@ pub judge-pair-shut-requires : (t : ℕ) → judge-pair-lts.Need-shut-requires (
 judge-pair-shut-requires t c κs =
     (reads-by (c .before .before .before .before .before .before .before .pre .1 .0) ((c .before .before .before .before .before .before .before .pre .1 .1 .0) .inside), going-writes ((c .before .before .loop .inv .1) .going) _ ((c .before .before .before .before .before .before .before .pre .1 .1 .0) .inside .rule-in))
 
-pub judge-pair-element-copy-out-schemas-of : (t : ℕ) → judge-pair-lts.Need-element-copy-out-schemas-of (judge-pair-claims t) (judge-pair-at t) judge-pair.Post judge-pair-Inv-loop judge-pair-μ-loop
-judge-pair-element-copy-out-schemas-of t c =
-    search needs
-
 pub judge-pair-schemas-of-requires : (t : ℕ) → judge-pair-lts.Need-schemas-of-requires (judge-pair-claims t) (judge-pair-at t) judge-pair.Post judge-pair-Inv-loop judge-pair-μ-loop
 judge-pair-schemas-of-requires t c κs =
-    rules-ok (c .before .before .before .before .before .before .before .before .before .before .before .before .before .pre .1 .0)
+    search needs
 
 pub judge-pair-settle-requires : (t : ℕ) → judge-pair-lts.Need-settle-requires (judge-pair-claims t) (judge-pair-at t) judge-pair.Post judge-pair-Inv-loop judge-pair-μ-loop
 judge-pair-settle-requires t c κs =
-    going-open (claused-shut (c .before .before .before .before .before .before .before .before .before .loop .inv .1) (c .before .before .before .before .before .before .shut .ensures)) (ap (λ (k : ℕ). cellAt k (pairIs (c .before .before .before .before .before .before .before .before .before .before .before .before .before .before .args .p))) (c .schemas-of .ensures))
+    going-open (claused-shut (c .before .before .before .before .before .before .before .before .loop .inv .1) (c .before .before .before .before .before .shut .ensures)) (ap (λ (k : ℕ). cellAt k (pairIs (c .before .before .before .before .before .before .before .before .before .before .before .before .before .args .p))) (c .schemas-of .ensures ∙ schemas-lent (c .before .before .before .before .before .before .before .before .before .before .before .before .before .pre .1 .0)))
 
 pub judge-pair-same-length : (t : ℕ) → judge-pair-lts.Need-same-length (judge-pair-claims t) (judge-pair-at t) judge-pair.Post judge-pair-Inv-loop judge-pair-μ-loop
 judge-pair-same-length t c =
-    c .before .before .before .before .settle .kept .0 ∙ c .before .before .before .before .before .before .before .before .before .before .before .shut .ensures .len ∙ cells-kept ((c .before .before .before .before .before .before .before .before .before .before .before .before .before .before .before .before .before .before .before .pre .1 .1 .0) .areas) ((c .before .before .before .before .before .before .before .before .before .before .before .before .before .before .loop .inv .1) .going .areas)
+    c .before .before .before .before .settle .kept .0 ∙ c .before .before .before .before .before .before .before .before .before .before .shut .ensures .len ∙ cells-kept ((c .before .before .before .before .before .before .before .before .before .before .before .before .before .before .before .before .before .before .pre .1 .1 .0) .areas) ((c .before .before .before .before .before .before .before .before .before .before .before .before .before .loop .inv .1) .going .areas)
 
 pub judge-pair-same-length-2 : (t : ℕ) → judge-pair-lts.Need-same-length-2 (judge-pair-claims t) (judge-pair-at t) judge-pair.Post judge-pair-Inv-loop judge-pair-μ-loop
 judge-pair-same-length-2 t c =
-    c .before .before .before .before .settle .kept .1 .0 ∙ list-kept ((c .before .before .before .before .before .before .before .before .before .before .before .before .before .before .before .before .before .before .before .pre .1 .1 .0) .areas) ((c .before .before .before .before .before .before .before .before .before .before .before .before .before .before .loop .inv .1) .going .areas)
+    c .before .before .before .before .settle .kept .1 .0 ∙ list-kept ((c .before .before .before .before .before .before .before .before .before .before .before .before .before .before .before .before .before .before .pre .1 .1 .0) .areas) ((c .before .before .before .before .before .before .before .before .before .before .before .before .before .loop .inv .1) .going .areas)
 
 pub judge-pair-returns : (t : ℕ) → judge-pair-lts.Need-returns (judge-pair-claims t) (judge-pair-at t) judge-pair.Post judge-pair-Inv-loop judge-pair-μ-loop
 judge-pair-returns t c =
-    claused-end (clauses-many (c .before .before .before .before .before .before .before .before .before .before .before .before .before .before .before .before .before .before .before .pre .1 .0) ((c .before .before .before .before .before .before .before .before .before .before .before .before .before .before .before .before .before .before .before .pre .1 .1 .0) .inside) (c .before .before .before .before .before .before .before .before .before .before .before .before .before .before .before .clauses-of .ensures)) (c .before .before .before .before .before .before .before .before .before .before .before .before .before .before .loop .inv .0) (c .before .before .before .before .before .before .before .before .before .before .before .before .before .loop-test .left) (c .before .before .before .before .before .before .before .before .before .before .before .before .before .before .before .before .before .before .before .pre .1 .1 .0) (c .before .before .before .before .before .before .before .before .before .before .before .before .before .before .before .before .before .before .before .pre .1 .1 .1) (c .before .before .before .before .before .before .before .before .before .before .before .before .before .before .loop .inv .1) (c .before .before .before .before .before .before .before .before .before .before .before .shut .ensures) (ap (λ (k : ℕ). cellAt k (pairIs (c .before .before .before .before .before .before .before .before .before .before .before .before .before .before .before .before .before .before .before .args .p))) (c .before .before .before .before .before .schemas-of .ensures)) (c .before .before .before .before .settle .ensures)
+    claused-end (clauses-many (c .before .before .before .before .before .before .before .before .before .before .before .before .before .before .before .before .before .before .pre .1 .0 .sheets) ((c .before .before .before .before .before .before .before .before .before .before .before .before .before .before .before .before .before .before .pre .1 .1 .0) .inside) (c .before .before .before .before .before .before .before .before .before .before .before .before .before .before .clauses-of .ensures)) (c .before .before .before .before .before .before .before .before .before .before .before .before .before .loop .inv .0) (c .before .before .before .before .before .before .before .before .before .before .before .before .loop-test .left) (c .before .before .before .before .before .before .before .before .before .before .before .before .before .before .before .before .before .before .pre .1 .1 .0) (c .before .before .before .before .before .before .before .before .before .before .before .before .before .before .before .before .before .before .pre .1 .1 .1) (c .before .before .before .before .before .before .before .before .before .before .before .before .before .loop .inv .1) (c .before .before .before .before .before .before .before .before .before .before .shut .ensures) (ap (λ (k : ℕ). cellAt k (pairIs (c .before .before .before .before .before .before .before .before .before .before .before .before .before .before .before .before .before .before .args .p))) (c .before .before .before .before .before .schemas-of .ensures ∙ schemas-lent (c .before .before .before .before .before .before .before .before .before .before .before .before .before .before .before .before .before .before .pre .1 .0))) (c .before .before .before .before .settle .ensures)

@@ -1,0 +1,133 @@
+-- Clauses of a few codes.
+--     all-of-decoded, any-of-decoded, one-of-decoded, not-of-decoded, ref-of-decoded, members-decoded, additional-decoded, prefix-decoded, items-decoded, fresh-members-decoded, fresh-items-decoded
+--                       what each code that applies schemas is decoded to
+--     quiet             what is asked of a few codes is not asked of a clause of another
+--     telling-few, told-few, applying-few, sparing-few     the few of each question
+-- Assumes nothing.
+use mathlib.Core.List.{List, [], _∷_}
+use mathlib.Core.Logic.{_⊎_, inl, inr, ⊎-elim}
+use mathlib.Core.Bool.{Bool, true, false}
+use mathlib.Core.Path.{_≡_, refl, sym, ap, _∙_}
+use Prim.Native.Nat.{ℕ}
+use lib.Dec.{eqb}
+use borrow.Author.Tests.{eqb-true}
+use Rattle.sheet.specs.declared.record.RuleRow.{RuleRow}
+use Rattle.rulesheet.specs.declared.clause.Entries.{Entries}
+use Rattle.rulesheet.specs.declared.clause.Clause.the-variants.{AllOf, AnyOf, OneOf, Not, Ref, Properties, AdditionalProperties, PrefixItems, Items, UnevaluatedProperties, UnevaluatedItems}
+use Rattle.rulesheet.specs.Ruleset as R
+use Rattle.rulesheet.specs.Ruleset.{asserts, never}
+use Rattle.rulesheet.specs.Codes.{Parts, CodeLine, codes, unknown, pickLine, lineIn, meansOf}
+use Rattle.rulesheet.specs.Clauses.{Decoded, telling, applying, told, sparing}
+use Rattle.rulesheet.proofs.Reaching.{Every, done, and, in-table}
+
+-- ---- what a code is decoded to
+
+module _ (first count : ℕ) where
+  abbrev entries : Entries
+  entries = record { first = first; count = count }
+
+  abbrev schema : RuleRow
+  schema = record { 0 = first }
+
+  pub all-of-decoded : Decoded 30 first count (AllOf entries)
+  unfolding lineIn
+  all-of-decoded = record { means = λ ws ts. refl; holds = (refl, refl, refl, refl) }
+
+  pub any-of-decoded : Decoded 31 first count (AnyOf entries)
+  unfolding lineIn
+  any-of-decoded = record { means = λ ws ts. refl; holds = (refl, refl, refl, refl) }
+
+  pub one-of-decoded : Decoded 32 first count (OneOf entries)
+  unfolding lineIn
+  one-of-decoded = record { means = λ ws ts. refl; holds = (refl, refl, refl, refl) }
+
+  pub not-of-decoded : Decoded 33 first count (Not schema)
+  unfolding lineIn
+  not-of-decoded = record { means = λ ws ts. refl; holds = (refl, refl) }
+
+  pub ref-of-decoded : Decoded 34 first count (Ref schema)
+  unfolding lineIn
+  ref-of-decoded = record { means = λ ws ts. refl; holds = (refl, refl) }
+
+  pub members-decoded : Decoded 40 first count (Properties entries)
+  unfolding lineIn
+  members-decoded = record { means = λ ws ts. refl; holds = (refl, refl, refl, refl) }
+
+  pub additional-decoded : Decoded 42 first count (AdditionalProperties schema)
+  unfolding lineIn
+  additional-decoded = record { means = λ ws ts. refl; holds = (refl, refl) }
+
+  pub prefix-decoded : Decoded 43 first count (PrefixItems entries)
+  unfolding lineIn
+  prefix-decoded = record { means = λ ws ts. refl; holds = (refl, refl, refl, refl) }
+
+  pub items-decoded : Decoded 44 first count (Items schema)
+  unfolding lineIn
+  items-decoded = record { means = λ ws ts. refl; holds = (refl, refl) }
+
+  pub fresh-members-decoded : Decoded 60 first count (UnevaluatedProperties schema)
+  unfolding lineIn
+  fresh-members-decoded = record { means = λ ws ts. refl; holds = (refl, refl) }
+
+  pub fresh-items-decoded : Decoded 61 first count (UnevaluatedItems schema)
+  unfolding lineIn
+  fresh-items-decoded = record { means = λ ws ts. refl; holds = (refl, refl) }
+
+-- ---- a clause of another code
+
+-- a line that is found has the code, or is none of the table
+found : (lines : List CodeLine) (code : ℕ) → (lineIn lines code .code ≡ code) ⊎ (lineIn lines code ≡ unknown)
+unfolding lineIn
+found [] code = inr refl
+found (line ∷ lines) code = pick (eqb code (line .code)) refl (found lines code)
+  where
+    pick : (b : Bool) → eqb code (line .code) ≡ b → (lineIn lines code .code ≡ code) ⊎ (lineIn lines code ≡ unknown)
+        → (pickLine (eqb code (line .code)) line (lineIn lines code) .code ≡ code) ⊎ (pickLine (eqb code (line .code)) line (lineIn lines code) ≡ unknown)
+    pick true e rest = inl (rw e (sym (eqb-true code (line .code) e)))
+    pick false e rest = rw e rest
+
+-- the code is none of these
+abbrev pub Differs : ℕ → List ℕ → Type 0
+Differs code [] = Unit
+Differs code (n ∷ ns) = Differs code ns × (code ≡ n → ⊥)
+
+module _ (f : R.Clause → R.Clause) (ns : List ℕ) where
+  -- what f asks is not asked of this line unless its code is one of these
+  Quiet : CodeLine → Type 0
+  Quiet line = Differs (line .code) ns → (p : Parts) → f (line .means p) ≡ asserts never
+
+  quiet : Every Quiet codes → f (asserts never) ≡ asserts never → (code : ℕ) → Differs code ns → (p : Parts) → f (meansOf code p) ≡ asserts never
+  unfolding Quiet
+  quiet table still code differs p =
+      ⊎-elim
+      (λ (same : lineIn codes code .code ≡ code). in-table Quiet codes code (λ d q. still) table (rw same differs) p)
+      (λ (none : lineIn codes code ≡ unknown). rw none still)
+      (found codes code)
+
+abbrev pub telling-codes : List ℕ
+telling-codes = 43 ∷ 40 ∷ []
+
+pub telling-few : (code : ℕ) → Differs code telling-codes → (p : Parts) → telling (meansOf code p) ≡ asserts never
+unfolding Quiet telling
+telling-few = quiet telling telling-codes (and (λ d p. refl) (and (λ d p. refl) (and (λ d p. refl) (and (λ d p. refl) (and (λ d p. refl) (and (λ d p. refl) (and (λ d p. refl) (and (λ d p. refl) (and (λ d p. refl) (and (λ d p. refl) (and (λ d p. refl) (and (λ d p. refl) (and (λ d p. refl) (and (λ d p. refl) (and (λ d p. refl) (and (λ d p. refl) (and (λ d p. refl) (and (λ d p. refl) (and (λ d p. refl) (and (λ d p. refl) (and (λ d p. absurd (d .0 .1 refl)) (and (λ d p. refl) (and (λ d p. absurd (d .1 refl)) (and (λ d p. refl) (and (λ d p. refl) (and (λ d p. refl) done)))))))))))))))))))))))))) refl
+
+abbrev pub told-codes : List ℕ
+told-codes = 44 ∷ 42 ∷ []
+
+pub told-few : (code : ℕ) → Differs code told-codes → (p : Parts) → told (meansOf code p) ≡ asserts never
+unfolding Quiet told
+told-few = quiet told told-codes (and (λ d p. refl) (and (λ d p. refl) (and (λ d p. refl) (and (λ d p. refl) (and (λ d p. refl) (and (λ d p. refl) (and (λ d p. refl) (and (λ d p. refl) (and (λ d p. refl) (and (λ d p. refl) (and (λ d p. refl) (and (λ d p. refl) (and (λ d p. refl) (and (λ d p. refl) (and (λ d p. refl) (and (λ d p. refl) (and (λ d p. refl) (and (λ d p. refl) (and (λ d p. refl) (and (λ d p. refl) (and (λ d p. refl) (and (λ d p. absurd (d .0 .1 refl)) (and (λ d p. refl) (and (λ d p. absurd (d .1 refl)) (and (λ d p. refl) (and (λ d p. refl) done)))))))))))))))))))))))))) refl
+
+abbrev pub applying-codes : List ℕ
+applying-codes = 61 ∷ 60 ∷ 44 ∷ 43 ∷ 42 ∷ 40 ∷ 34 ∷ 33 ∷ 32 ∷ 31 ∷ 30 ∷ []
+
+pub applying-few : (code : ℕ) → Differs code applying-codes → (p : Parts) → applying (meansOf code p) ≡ asserts never
+unfolding Quiet applying
+applying-few = quiet applying applying-codes (and (λ d p. refl) (and (λ d p. refl) (and (λ d p. refl) (and (λ d p. refl) (and (λ d p. refl) (and (λ d p. refl) (and (λ d p. refl) (and (λ d p. refl) (and (λ d p. refl) (and (λ d p. refl) (and (λ d p. refl) (and (λ d p. refl) (and (λ d p. refl) (and (λ d p. refl) (and (λ d p. refl) (and (λ d p. absurd (d .0 .0 .0 .0 .0 .0 .0 .0 .0 .0 .1 refl)) (and (λ d p. absurd (d .0 .0 .0 .0 .0 .0 .0 .0 .0 .1 refl)) (and (λ d p. absurd (d .0 .0 .0 .0 .0 .0 .0 .0 .1 refl)) (and (λ d p. absurd (d .0 .0 .0 .0 .0 .0 .0 .1 refl)) (and (λ d p. absurd (d .0 .0 .0 .0 .0 .0 .1 refl)) (and (λ d p. absurd (d .0 .0 .0 .0 .0 .1 refl)) (and (λ d p. absurd (d .0 .0 .0 .0 .1 refl)) (and (λ d p. absurd (d .0 .0 .0 .1 refl)) (and (λ d p. absurd (d .0 .0 .1 refl)) (and (λ d p. absurd (d .0 .1 refl)) (and (λ d p. absurd (d .1 refl)) done)))))))))))))))))))))))))) refl
+
+abbrev pub sparing-codes : List ℕ
+sparing-codes = 33 ∷ 32 ∷ 31 ∷ []
+
+pub sparing-few : (code : ℕ) → Differs code sparing-codes → (p : Parts) → sparing (meansOf code p) ≡ asserts never
+unfolding Quiet sparing
+sparing-few = quiet sparing sparing-codes (and (λ d p. refl) (and (λ d p. refl) (and (λ d p. refl) (and (λ d p. refl) (and (λ d p. refl) (and (λ d p. refl) (and (λ d p. refl) (and (λ d p. refl) (and (λ d p. refl) (and (λ d p. refl) (and (λ d p. refl) (and (λ d p. refl) (and (λ d p. refl) (and (λ d p. refl) (and (λ d p. refl) (and (λ d p. refl) (and (λ d p. absurd (d .0 .0 .1 refl)) (and (λ d p. absurd (d .0 .1 refl)) (and (λ d p. absurd (d .1 refl)) (and (λ d p. refl) (and (λ d p. refl) (and (λ d p. refl) (and (λ d p. refl) (and (λ d p. refl) (and (λ d p. refl) (and (λ d p. refl) done)))))))))))))))))))))))))) refl

@@ -1,0 +1,98 @@
+// Clauses of a few codes. Who asks a clause one thing reads only the codes that matter for it, so that
+// reading and asking become one dispatch; each clause of another code reads as `Clause::Never`.
+ghost use mathlib.Core.List.{List};
+ghost use mathlib.Core.Path.{_≡_};
+ghost use Prim.Native.Nat.{ℕ, _<_};
+ghost use Rattle.rulesheet.specs.Sheet.{clauseOf};
+ghost use Rattle.rulesheet.specs.Read.{RulesFormed};
+ghost use Rattle.rulesheet.specs.Clauses.{clauseMeans, Tested, telling, applying, told, sparing};
+use crate::clause::Clause;
+use crate::clause::Entries;
+use crate::form::RuleForm;
+use crate::form::clause_at;
+use sheet::record::RuleRow;
+
+// Clause k if it tells something to those after it.
+pub fn telling_of(words: &[u32], form: RuleForm, k: u32) -> Clause
+    requires { ⌜ RulesFormed (now words) form × (k < form .c) ⌝ }
+    ensures { λ r. ⌜ ((ts : List ℕ) → clauseMeans (now (words .entry)) ts r ≡ telling (clauseOf (now (words .entry)) ts k)) ⌝ }
+    ensures { λ r. ⌜ Tested (now (words .entry)) form r ⌝ }
+{
+    let row = clause_at(words, form, k);
+    let list = Entries {
+        first: row.first,
+        count: row.count,
+    };
+    let code = row.code;
+    match code {
+        40 => Clause::Properties(list),
+        43 => Clause::PrefixItems(list),
+        _ => Clause::Never,
+    }
+}
+
+// Clause k if those before it tell it something.
+pub fn told_of(words: &[u32], form: RuleForm, k: u32) -> Clause
+    requires { ⌜ RulesFormed (now words) form × (k < form .c) ⌝ }
+    ensures { λ r. ⌜ ((ts : List ℕ) → clauseMeans (now (words .entry)) ts r ≡ told (clauseOf (now (words .entry)) ts k)) ⌝ }
+    ensures { λ r. ⌜ Tested (now (words .entry)) form r ⌝ }
+{
+    let row = clause_at(words, form, k);
+    let schema = RuleRow(row.first);
+    let code = row.code;
+    match code {
+        42 => Clause::AdditionalProperties(schema),
+        44 => Clause::Items(schema),
+        _ => Clause::Never,
+    }
+}
+
+// Clause k if it applies schemas.
+pub fn applied_of(words: &[u32], form: RuleForm, k: u32) -> Clause
+    requires { ⌜ RulesFormed (now words) form × (k < form .c) ⌝ }
+    ensures { λ r. ⌜ ((ts : List ℕ) → clauseMeans (now (words .entry)) ts r ≡ applying (clauseOf (now (words .entry)) ts k)) ⌝ }
+    ensures { λ r. ⌜ Tested (now (words .entry)) form r ⌝ }
+{
+    let row = clause_at(words, form, k);
+    let schema = RuleRow(row.first);
+    let entries = Entries {
+        first: row.first,
+        count: row.count,
+    };
+    let code = row.code;
+    match code {
+        30 => Clause::AllOf(entries),
+        31 => Clause::AnyOf(entries),
+        32 => Clause::OneOf(entries),
+        33 => Clause::Not(schema),
+        34 => Clause::Ref(schema),
+        40 => Clause::Properties(entries),
+        42 => Clause::AdditionalProperties(schema),
+        43 => Clause::PrefixItems(entries),
+        44 => Clause::Items(schema),
+        60 => Clause::UnevaluatedProperties(schema),
+        61 => Clause::UnevaluatedItems(schema),
+        _ => Clause::Never,
+    }
+}
+
+// Clause k if it may hold although one of its schemas fails.
+pub fn sparing_of(words: &[u32], form: RuleForm, k: u32) -> Clause
+    requires { ⌜ RulesFormed (now words) form × (k < form .c) ⌝ }
+    ensures { λ r. ⌜ ((ts : List ℕ) → clauseMeans (now (words .entry)) ts r ≡ sparing (clauseOf (now (words .entry)) ts k)) ⌝ }
+    ensures { λ r. ⌜ Tested (now (words .entry)) form r ⌝ }
+{
+    let row = clause_at(words, form, k);
+    let schema = RuleRow(row.first);
+    let entries = Entries {
+        first: row.first,
+        count: row.count,
+    };
+    let code = row.code;
+    match code {
+        31 => Clause::AnyOf(entries),
+        32 => Clause::OneOf(entries),
+        33 => Clause::Not(schema),
+        _ => Clause::Never,
+    }
+}

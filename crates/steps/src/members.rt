@@ -1,0 +1,112 @@
+// The steps of a clause that takes members by their names.
+ghost use mathlib.Core.Path.{_≡_};
+ghost use Prim.Native.Nat.{_<_};
+ghost use Rattle.sheet.specs.Record.{docOf};
+ghost use Rattle.rulesheet.specs.declared.code.Fields.the-variants.{Members};
+ghost use Rattle.rulesheet.specs.Ruleset as R;
+ghost use Rattle.rulesheet.specs.Sheet.{schemaAt};
+ghost use Rattle.rulesheet.specs.Clauses.{membersIn};
+ghost use Rattle.meaning.specs.Rules.{Pair as Meant, Marks};
+ghost use Rattle.areas.specs.Cells.{pairIs};
+ghost use Rattle.clause.specs.Read.{RecordRead, RulesRead, ListRead, beforeIn};
+ghost use Rattle.steps.specs.Read.{Started};
+ghost use Rattle.steps.specs.Turns.{Turned, TurnedOn};
+use crate::before::unnamed_in;
+use crate::children::members_in;
+use crate::turn::Turn;
+use crate::turn::at_step;
+use crate::turn::ended;
+use clause::members::child_named;
+use rulesheet::clause::Entries;
+use rulesheet::clause::entry_name;
+use rulesheet::clause::member_schema;
+use rulesheet::form::RuleForm;
+use rulesheet::form::schema_at;
+use sheet::record::Pair;
+use sheet::record::RecordForm;
+use sheet::record::RecordRow;
+use sheet::record::RuleRow;
+use sheet::record::children_of;
+
+// Of `properties`: the member that has the name of an entry, with the entry's schema.
+pub(crate) fn named_turn<'a>(
+    record: &[u32],
+    text: &'a [u8],
+    form: RecordForm,
+    rules: &[u32],
+    rule_text: &'a [u8],
+    rule_form: RuleForm,
+    row: RecordRow,
+    list: Entries,
+    x: u32,
+) -> Turn
+    requires { ⌜ RecordRead (now «record») (now text) form × (row .0 < form .rows) ⌝ }
+    requires { ⌜ RulesRead (now rules) (now «rule_text») «rule_form» × ListRead (now rules) «rule_form» Members list ⌝ }
+    ensures { λ r. ⌜ TurnedOn (docOf (now («record» .entry)) (now (text .entry))) (row .0) (R.takes (R.properties (membersIn (now (rules .entry)) (now («rule_text» .entry)) list))) x r ⌝ }
+{
+    let members = members_in(record, form, row);
+    if members == 0 {
+        return ended();
+    }
+    let first = children_of(record, form, row).first;
+    let many = list.count;
+    let mut at = x;
+    while at < many {
+        let name = entry_name(rules, rule_form, list, at);
+        let n = child_named(record, text, form, row, rule_text, name, at);
+        if n < members {
+            return at_step(
+                at,
+                RecordRow(first + n),
+                member_schema(rules, rule_form, list, at),
+            );
+        }
+        at += 1;
+    }
+    ended()
+}
+
+// Of `additionalProperties`: each member that no clause before names.
+pub(crate) fn other_turn<'a>(
+    record: &[u32],
+    text: &'a [u8],
+    form: RecordForm,
+    rules: &[u32],
+    rule_text: &'a [u8],
+    rule_form: RuleForm,
+    p: Pair,
+    i: u32,
+    from: u32,
+    rule: RuleRow,
+    x: u32,
+) -> Turn
+    requires { ⌜ RecordRead (now «record») (now text) form × (p .row .0 < form .rows) ⌝ }
+    requires { ⌜ RulesRead (now rules) (now «rule_text») «rule_form» × (p .rule .0 < «rule_form» .m) × (i < schemaAt (now rules) (p .rule .0) .count) ⌝ }
+    requires { ⌜ Started (beforeIn (now rules) (now «rule_text») (p .rule .0) i) (R.takes (R.additionalProperties (rule .0))) from ⌝ }
+    ensures { λ r. ⌜ ((κ : Marks) → Turned (docOf (now («record» .entry)) (now (text .entry))) (pairIs p) (beforeIn (now (rules .entry)) (now («rule_text» .entry)) (p .rule .0) i) (R.takes (R.additionalProperties (rule .0))) x κ r) ⌝ }
+{
+    let start = schema_at(rules, rule_form, p.rule).first;
+    let many = members_in(record, form, p.row);
+    let first = children_of(record, form, p.row).first;
+    let mut at = x;
+    while at < many {
+        let row = RecordRow(first + at);
+        if unnamed_in(
+            record,
+            text,
+            form,
+            rules,
+            rule_text,
+            rule_form,
+            p.rule,
+            start,
+            i,
+            from,
+            row,
+        ) {
+            return at_step(at, row, rule);
+        }
+        at += 1;
+    }
+    ended()
+}
