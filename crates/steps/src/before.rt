@@ -106,7 +106,8 @@ pub fn start_of<'a>(rules: &[u32], rule_text: &'a [u8], form: RuleForm, s: RuleR
     start_in(rules, form, s, first, i, clause)
 }
 
-// Whether an entry of the list names the row.
+// Whether an entry of the list names the row. The entry at `hint` is tried first: members mostly stand
+// in the order of the rules.
 fn named_in<'a>(
     record: &[u32],
     text: &'a [u8],
@@ -116,6 +117,7 @@ fn named_in<'a>(
     rule_form: RuleForm,
     list: Entries,
     row: RecordRow,
+    hint: u32,
 ) -> bool
     requires { ⌜ RecordRead (now «record») (now text) form × (row .0 < form .rows) ⌝ }
     requires { ⌜ RulesRead (now rules) (now «rule_text») «rule_form» × ListRead (now rules) «rule_form» Members list ⌝ }
@@ -123,6 +125,12 @@ fn named_in<'a>(
 {
     let own = name_of(record, form, row);
     let many = list.count;
+    if hint < many {
+        let name = entry_name(rules, rule_form, list, hint);
+        if same_part(text, own, rule_text, name) {
+            return true;
+        }
+    }
     let mut i = 0;
     while i < many {
         let name = entry_name(rules, rule_form, list, i);
@@ -144,6 +152,7 @@ fn clause_names<'a>(
     rule_form: RuleForm,
     clause: Clause,
     row: RecordRow,
+    hint: u32,
 ) -> bool
     requires { ⌜ RecordRead (now «record») (now text) form × (row .0 < form .rows) ⌝ }
     requires { ⌜ RulesRead (now rules) (now «rule_text») «rule_form» × Tested (now rules) «rule_form» clause ⌝ }
@@ -159,13 +168,14 @@ fn clause_names<'a>(
             rule_form,
             members,
             row,
+            hint,
         ),
         _ => false,
     }
 }
 
 // Whether no `properties` among the first i clauses of the schema names the row, where those before
-// `from` name nothing.
+// `from` name nothing. In each the entry at `hint` is tried first.
 pub(crate) fn unnamed_in<'a>(
     record: &[u32],
     text: &'a [u8],
@@ -178,6 +188,7 @@ pub(crate) fn unnamed_in<'a>(
     i: u32,
     from: u32,
     row: RecordRow,
+    hint: u32,
 ) -> bool
     requires { ⌜ RecordRead (now «record») (now text) form × (row .0 < form .rows) ⌝ }
     requires { ⌜ RulesRead (now rules) (now «rule_text») «rule_form» × (s .0 < «rule_form» .m) × (first ≡ schemaAt (now rules) (s .0) .first) × (i ≤ schemaAt (now rules) (s .0) .count) ⌝ }
@@ -187,7 +198,17 @@ pub(crate) fn unnamed_in<'a>(
     let mut k = from;
     while k < i {
         let clause = telling_of(rules, rule_form, first + k);
-        if clause_names(record, text, form, rules, rule_text, rule_form, clause, row) {
+        if clause_names(
+            record,
+            text,
+            form,
+            rules,
+            rule_text,
+            rule_form,
+            clause,
+            row,
+            hint,
+        ) {
             return false;
         }
         k += 1;

@@ -103,6 +103,7 @@ pub(crate) fn other_turn<'a>(
             i,
             from,
             row,
+            at,
         ) {
             return at_step(at, row, rule);
         }

@@ -13,10 +13,10 @@ use Rattle.steps.proofs.before.unnamed_in.Statement.{statement}
 use Rattle.steps.proofs.before.unnamed_in.Tie as tie
 
 abbrev Inv-loop : tie.InvT-loop
-Inv-loop «record» text form rules rule-text rule-form first i from row k₀ k = (k ≤ i) × (namedBy (docOf «record» text) (concatMap namesOf (firstClauses rules rule-text first k)) (row .0) ≡ false)
+Inv-loop «record» text form rules rule-text rule-form first i from row hint k₀ k = (k ≤ i) × (namedBy (docOf «record» text) (concatMap namesOf (firstClauses rules rule-text first k)) (row .0) ≡ false)
 
 abbrev μ-loop : tie.MeasureT-loop
-μ-loop «record» text form rules rule-text rule-form first i from row k₀ k = i - k
+μ-loop «record» text form rules rule-text rule-form first i from row hint k₀ k = i - k
 
 loop-holds : tie.Need-loop-holds Inv-loop μ-loop
 loop-holds c =
