@@ -1,14 +1,16 @@
 -- The demands, of the number that C gets.
 --     number-demands     every call's number tells an answer that meets them
+--     never-unknown      judging never gives 12, the refusal of a sheet of no known kind
 -- Assumes nothing.
-use mathlib.Core.Bool.{true}
+use mathlib.Core.Bool.{true, not}
 use mathlib.Core.List.{List, _∷_, _++_, List·Memᴰ as In, List·Memᴰ·head as at-head, Memᴰ·append-right}
 use mathlib.Core.Path.{_≡_, refl, sym, ap, _∙_, subst}
 use Prim.Native.Nat.{ℕ, _+_, _*_, _/_, _%_, _≤_, _<_}
 use native.Mathlib.Omega.{arith}
-use lib.Dec.{ltb}
-use borrow.Author.Tests.{ltb-true}
+use lib.Dec.{eqb, ltb}
+use borrow.Author.Tests.{ltb-true, eq-eqb, not-true}
 use Rattle.sheet.specs.Refusals.{Line}
+use Rattle.sheetcheck.specs.LastWord.{unknown-kind}
 use Rattle.meaning.specs.Lists.{all}
 use Rattle.meaning.specs.Answer.{Answer, valid, invalid, refuses, numberForC, Left, table, judge}
 use Rattle.meaning.specs.Demands.{First, Demands}
@@ -28,12 +30,26 @@ module _ (ws ts rs us cs ls : List ℕ) where
   abbrev lines : List Line
   lines = table ws ts rs us cs ls
 
+  -- the line that is given is one of the table's
+  of-table : (line : Line) → First lines line → In line lines
+  of-table line f = subst (λ l. In line l) (sym (f .parted)) (Memᴰ·append-right (f .before) (at-head refl))
+
   -- the number of a refusal leaves room for ten more in a byte
   number-small : (line : Line) → First lines line → line .number < 246
   unfolding all
-  number-small line f =
-      ltb-true (line .number) 246
-      (all-pass (λ l. ltb (l .number) 246) lines .0 refl line (subst (λ l. In line l) (sym (f .parted)) (Memᴰ·append-right (f .before) (at-head refl))))
+  number-small line f = ltb-true (line .number) 246 (all-pass (λ l. ltb (l .number) 246) lines .0 refl line (of-table line f))
+
+  not-unknown : (line : Line) → First lines line → line .number ≡ unknown-kind → ⊥
+  unfolding all
+  not-unknown line f e =
+      let known = all-pass (λ l. not (eqb (l .number) unknown-kind)) lines .0 refl line (of-table line f) in
+      let z : _≡_ {A = ℕ} 0 1 = cc (not-true (eqb (line .number) unknown-kind) known, eq-eqb (line .number) unknown-kind e) in
+      omega arith
+
+  pub never-unknown : (place : ℕ) → judge ws ts rs us cs ls .answer ≡ refuses unknown-kind place → ⊥
+  never-unknown place e =
+      let w = demands ws ts rs us cs ls (judge ws ts rs us cs ls) refl .total .only-refused unknown-kind place e in
+      not-unknown (w .0) (w .1) (omega (arith, w .2))
 
   told : (r : ℕ) (a : Answer) → ((number place : ℕ) → a ≡ refuses number place → number < 246) → r ≡ numberForC a → Tells r a
   told r (valid count marks) small e = tells-valid (low count 0 (omega (arith, e)) (omega arith)) (high count 0 (omega (arith, e)) (omega arith))

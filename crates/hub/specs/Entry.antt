@@ -1,13 +1,24 @@
--- The promise to C (paper 01, "What the judge does"): one 64-bit number for the specification's answer, and the specification's areas.
+-- The promises to C (paper 01, "What the judge does"; paper 02, #103): one 64-bit number for the specification's answer, by one definition for every call
+-- (`numberForC`), and of judging the specification's areas.
 --
--- Any two outcomes that it allows are equal (`outcome-one` in `proofs/Calls.antt`): the number, the cells and the list are each said to be one value, of
+-- Of judging any two outcomes that it allows are equal (`outcome-one` in `proofs/Calls.antt`): the number, the cells and the list are each said to be one value, of
 -- the words, texts and areas at entry.
 -- Assumes nothing.
 use mathlib.Core.List.{List}
 use mathlib.Core.Path.{_≡_}
 use Prim.Native.Nat.{ℕ, _+_, _/_, _%_}
+use Rattle.sheet.specs.Refusals.{Outcome, accepted, refused}
 use Rattle.meaning.specs.Answer.{Answer, valid, invalid, refuses, numberForC, judge}
 use Rattle.meaning.specs.Demands.{Demands}
+
+-- ---- checking a sheet
+
+-- what the check gives, as an answer: in order is told as valid is, with the rows where the count stands
+abbrev pub told : Outcome → Answer
+told (accepted rows) = valid rows 0
+told (refused number place) = refuses number place
+
+-- ---- judging
 
 -- the settled pairs that an answer counts; a refusal counts none
 abbrev pub counted : Answer → ℕ

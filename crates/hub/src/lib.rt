@@ -1,12 +1,30 @@
-// The entry for the hub's host program, which is written in C: judging, its answer as one number.
+// The entries for the hub's host program, which is written in C: checking a sheet and judging, each
+// answer as one number.
 //
 // `include/amphorust.h` says the same to a C programmer. The contracts cite `specs/Entry.antt`.
 ghost use mathlib.Core.Path.{_≡_};
 ghost use Prim.Native.Nat.{_<_, _^_};
-ghost use Rattle.meaning.specs.Answer.{numberForC};
+ghost use Rattle.sheet.specs.Refusals.{outcomeOf};
+ghost use Rattle.sheetcheck.specs.LastWord.{checkOutcome};
+ghost use Rattle.meaning.specs.Answer.{refuses, numberForC};
 ghost use Rattle.judge.specs.Call.{answerOf};
-ghost use Rattle.hub.specs.Entry.{Called, counted};
+ghost use Rattle.hub.specs.Entry.{Called, counted, told};
 use judge::answer::Answer;
+use sheet::refusal::Checked;
+use sheetcheck::ByKind;
+
+// Checks a sheet, whatever the words and the text. The number's lowest byte is 0 for a sheet in
+// order, and 10 more than the refusal's number for refused; what stands above it is the number of
+// rows (of rules, the schemas) or, of a refusal, the place.
+#[no_mangle]
+pub extern "C" fn amphorust_check(words: &[u32], text: &[u8]) -> u64
+    ensures { λ r. ⌜ r ≡ numberForC (told (checkOutcome (now (words .entry)) (now (text .entry)))) ⌝ }
+{
+    match sheetcheck::check(words, text) {
+        ByKind::Known(checked) => number_of_checked(checked),
+        ByKind::Unknown => number_of_refusal(sheetcheck::UNKNOWN_KIND, 0),
+    }
+}
 
 // Judges a record by rules, whatever the words, texts and areas. The number's lowest byte is 0 for
 // valid, 1 for invalid, and 10 more than the refusal's number for refused; what stands above it is
@@ -26,6 +44,16 @@ pub extern "C" fn amphorust_judge<'a>(
     number_of(answer)
 }
 
+// The number of what the check of a known kind gives.
+fn number_of_checked(checked: Checked) -> u64
+    ensures { λ r. ⌜ r ≡ numberForC (told (outcomeOf checked)) ⌝ }
+{
+    match checked {
+        Checked::Accepted(rows) => (rows as u64) * 256,
+        Checked::Refused(refusal, place) => number_of_refusal(refusal.number(), place),
+    }
+}
+
 // The number of an answer whose count fits a word, as that of every call does.
 fn number_of(answer: Answer) -> u64
     requires { ⌜ counted (answerOf answer) < 2 ^ 32 ⌝ }
@@ -34,6 +62,13 @@ fn number_of(answer: Answer) -> u64
     match answer {
         Answer::Valid(count, _) => (count as u64) * 256,
         Answer::Invalid(count, _) => (count as u64) * 256 + 1,
-        Answer::Refused(refusal, place) => (place as u64) * 256 + (10 + refusal.number() as u64),
+        Answer::Refused(refusal, place) => number_of_refusal(refusal.number(), place),
     }
+}
+
+// The number of a refusal.
+fn number_of_refusal(number: u32, place: u32) -> u64
+    ensures { λ r. ⌜ r ≡ numberForC (refuses number place) ⌝ }
+{
+    (place as u64) * 256 + (10 + number as u64)
 }

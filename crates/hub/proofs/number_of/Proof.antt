@@ -24,23 +24,11 @@ add-result c = omega (arith, rw (c .before .answer2 .given .1) at (c .before .be
 enum-known-answer-3 : tie.Need-enum-known-answer-3
 enum-known-answer-3 c = search needs
 
-cast-result : tie.Need-cast-result
-cast-result c = search needs
-
-mul-result-3 : tie.Need-mul-result-3
-mul-result-3 c = search needs
-
 number-requires : tie.Need-number-requires
 number-requires c κs = search needs
 
-cast-result-2 : tie.Need-cast-result-2
-cast-result-2 c = search needs
-
-add-result-2 : tie.Need-add-result-2
-add-result-2 c = search needs
-
-add-result-3 : tie.Need-add-result-3
-add-result-3 c = search needs
+number-of-refusal-requires : tie.Need-number-of-refusal-requires
+number-of-refusal-requires c κs = search needs
 
 returns : tie.Need-returns
 returns c = rw (c .before .answer .given .1)
@@ -49,7 +37,7 @@ returns-2 : tie.Need-returns-2
 returns-2 c = rw (c .before .answer2 .given .1)
 
 returns-3 : tie.Need-returns-3
-returns-3 c = rw (c .before .before .answer3 .given .1, c .number .ensures)
+returns-3 c = rw (c .before .before .before .answer3 .given .1, c .number-of-refusal .ensures, c .before .number .ensures)
 
 pub number-of-spec : {M : Type 1} → statement M
 number-of-spec =
@@ -61,12 +49,8 @@ number-of-spec =
     mul-result-2
     add-result
     enum-known-answer-3
-    cast-result
-    mul-result-3
     number-requires
-    cast-result-2
-    add-result-2
-    add-result-3
+    number-of-refusal-requires
     returns
     returns-2
     returns-3)
