@@ -1,5 +1,5 @@
-/* A host program: judges a queue of three records by one organiser's rules, and prints a line for each.
- * Of an invalid record it prints the settled pairs, from which one sees what failed.
+/* A host program: checks an organiser's rules, judges a queue of three records by them, and prints a line
+ * for each. Of an invalid record it prints the settled pairs, from which one sees what failed.
  *
  * `examples/build-host` builds and runs it. */
 #include <inttypes.h>
@@ -72,22 +72,40 @@ static void print_pairs(uint64_t answer)
     }
 }
 
+static void print_refusal(const char *shown, uint64_t answer)
+{
+    printf("%s: refused, %s (refusal %u, place %" PRIu32 ")\n", shown,
+           amphorust_refusal_text(amphorust_refusal(answer)), amphorust_refusal(answer),
+           amphorust_place(answer));
+}
+
 static void print_answer(const char *shown, uint64_t answer)
 {
     if (amphorust_is_refused(answer)) {
-        printf("%s: refused, %s (refusal %u, place %" PRIu32 ")\n", shown,
-               amphorust_refusal_text(amphorust_refusal(answer)), amphorust_refusal(answer),
-               amphorust_place(answer));
-    } else {
-        printf("%s: %s, %zu pairs settled\n", shown, amphorust_is_valid(answer) ? "valid" : "invalid",
-               amphorust_count(answer));
+        print_refusal(shown, answer);
+        return;
     }
+    printf("%s: %s, %zu pairs settled\n", shown, amphorust_is_valid(answer) ? "valid" : "invalid",
+           amphorust_count(answer));
     if (amphorust_is_invalid(answer))
         print_pairs(answer);
 }
 
+/* Once, when an organiser hands the rules in; judging checks both sheets again. */
+static int rules_in_order(void)
+{
+    uint64_t answer = amphorust_check(rules, LENGTH(rules), (const uint8_t *)rule_text, 1);
+    if (amphorust_is_in_order(answer))
+        printf("the rules: in order, %" PRIu32 " schemas\n", amphorust_size(answer));
+    else
+        print_refusal("the rules", answer);
+    return amphorust_is_in_order(answer);
+}
+
 int main(void)
 {
+    if (!rules_in_order())
+        return 1;
     for (size_t i = 0; i < LENGTH(queue); i++) {
         const struct record *record = &queue[i];
         uint64_t answer = amphorust_judge(record->words, record->length,

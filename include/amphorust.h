@@ -1,8 +1,9 @@
 /* amphorust.h: judges a record by rules, JSON Schema (Draft 2020-12) as sheets of words.
  *
- * One call, `amphorust_judge`, takes a record sheet and a rule sheet, each an array of 32-bit words with
- * its text in bytes, and two areas that it writes: the cells and the settling list. It answers by one
- * 64-bit number, for every input whatever; what it gives and leaves is proved, for all of them.
+ * A sheet is an array of 32-bit words with its text in bytes: a record or rules. `amphorust_check` says
+ * whether one is in order. `amphorust_judge` takes a record and rules, and two areas that it writes: the
+ * cells and the settling list; it checks both sheets itself. Each answers by one 64-bit number, for every
+ * input whatever; what it gives and leaves is proved, for all of them.
  *
  * Link with libhub.a (`rt staticlib hub` writes it to target/staticlib/) and the C library. x86-64 only.
  * `examples/host.c` is a whole host program.
@@ -17,21 +18,28 @@
 extern "C" {
 #endif
 
-/* Judges a record by rules.
- *
- * Each array is a pointer and then its length in elements: words of 4 bytes, or bytes. Any contents and
- * any lengths may be passed; a sheet that is not in order is refused, never followed out of its array.
+/* In both calls each array is a pointer and then its length in elements: words of 4 bytes, or bytes. Any
+ * contents and any lengths may be passed; a sheet that is not in order is refused, never followed out of
+ * its array.
  *   - An array of length 0 may have a null pointer.
  *   - Arrays of words stand at addresses divisible by 4.
- *   - `cells` and `list` overlap no other array. The four that are only read may overlap each other.
- *   - Nothing else writes any of the six while the call runs.
+ *   - `cells` and `list` overlap no other array. Those that are only read may overlap each other.
+ *   - Nothing else writes any of them while the call runs.
+ *
+ * A call keeps no state, allocates nothing, ends on every input, and may run in several threads at once,
+ * each with its own areas. Judging recurses over the record's levels and the rules' references: give a
+ * thread that makes a call a stack of AMPHORUST_STACK bytes, besides what the thread needs itself. */
+
+#define AMPHORUST_STACK 524288 /* the deepest recursion was measured to need 476 KiB */
+
+/* Checks a sheet. The last word says its kind: 1 for a record, 2 for rules. */
+uint64_t amphorust_check(const uint32_t *words, size_t words_length,
+                         const uint8_t *text, size_t text_length);
+
+/* Judges a record by rules.
  *
  * The areas need rows x schemas places each (`amphorust_room` reads that from the two sheets), at most
- * AMPHORUST_ROOM_MAX; longer ones are fine. What they held before does not matter.
- *
- * The call keeps no state, allocates nothing, ends on every input, and may run in several threads at
- * once, each with its own areas. It recurses over the record's levels and the rules' references: give a
- * thread that calls it a stack of AMPHORUST_STACK bytes, besides what the thread needs itself. */
+ * AMPHORUST_ROOM_MAX; longer ones are fine. What they held before does not matter. */
 uint64_t amphorust_judge(const uint32_t *record, size_t record_length,
                          const uint8_t *record_text, size_t record_text_length,
                          const uint32_t *rules, size_t rules_length,
@@ -40,12 +48,14 @@ uint64_t amphorust_judge(const uint32_t *record, size_t record_length,
                          uint32_t *list, size_t list_length);
 
 #define AMPHORUST_ROOM_MAX 1048576 /* 1,024 rows x 1,024 schemas */
-#define AMPHORUST_STACK 524288     /* the deepest recursion was measured to need 476 KiB */
 
 /* ---- The answer
  *
- * The lowest byte is 0 for valid, 1 for invalid, and 10 more than the refusal's number for refused.
- * What stands above it is, for valid and invalid, the number of settled pairs; for refused, the place. */
+ * The lowest byte is 0 for valid or, of a check, in order; 1 for invalid; and 10 more than the refusal's
+ * number for refused. What stands above it is, for valid and invalid, the number of settled pairs; in
+ * order, the number of rows of a record or of schemas of rules; for refused, the place. */
+
+static inline int amphorust_is_in_order(uint64_t answer) { return answer % 256 == 0; }
 
 static inline int amphorust_is_valid(uint64_t answer) { return answer % 256 == 0; }
 
@@ -59,7 +69,13 @@ static inline size_t amphorust_count(uint64_t answer)
     return amphorust_is_refused(answer) ? 0 : (size_t)(answer / 256);
 }
 
-/* The refusal's number, 1 to 11; 0 if the call was not refused. */
+/* The rows of the record, or the schemas of the rules, that a check found in order; 0 if it was refused. */
+static inline uint32_t amphorust_size(uint64_t answer)
+{
+    return amphorust_is_refused(answer) ? 0 : (uint32_t)(answer / 256);
+}
+
+/* The refusal's number, 1 to 12; 0 if the call was not refused. */
 static inline unsigned amphorust_refusal(uint64_t answer)
 {
     return amphorust_is_refused(answer) ? (unsigned)(answer % 256 - 10) : 0;
@@ -73,9 +89,10 @@ static inline uint32_t amphorust_place(uint64_t answer)
 
 /* ---- Refusals
  *
- * They are tested in this order over whole sheets, and the first that applies is given. A refused call
- * leaves both areas as they were. Rows, schemas, clauses and entries count from 0; a place in the rules
- * counts the schemas, then the clauses, then the entries. */
+ * They are tested in order over whole sheets, and the first that applies is given: by a check 12, then 1
+ * to 4 of a record or 5 to 9 of rules; by judging 1 to 11, and never 12: there a sheet of another kind is
+ * refused 1 or 5. A refused call leaves both areas as they were. Rows, schemas, clauses and entries count
+ * from 0; a place in the rules counts the schemas, then the clauses, then the entries. */
 static inline const char *amphorust_refusal_text(unsigned refusal)
 {
     switch (refusal) {
@@ -96,6 +113,8 @@ static inline const char *amphorust_refusal_text(unsigned refusal)
     /* rows x schemas */
     case 10: return "too few cells";
     case 11: return "too short a list";
+    /* place 0 */
+    case 12: return "no words, or a last word that is no kind of sheet";
     default: return "not refused";
     }
 }

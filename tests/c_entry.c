@@ -1,15 +1,18 @@
-/* Calls the entry for C as tests/c_entry.py says on standard input, and writes on standard output what
+/* Calls the entries for C as tests/c_entry.py says on standard input, and writes on standard output what
  * came of each call.
  *
- *     c_entry          every call on this thread
- *     c_entry BYTES    each on a thread whose stack has that many bytes, nothing mapped below it
- *     c_entry past N   none: reads a byte past array N, which must kill it
- *     c_entry into N   none: writes array N, which must kill it if the calls only read that
+ *     c_entry          judges, every call on this thread
+ *     c_entry check    checks sheets
+ *     c_entry BYTES    judges, each on a thread whose stack has that many bytes, nothing mapped below it
+ *     c_entry past N   calls nothing: reads a byte past array N, which must kill it
+ *     c_entry into N   calls nothing: writes array N, which must kill it if the calls only read that
  *
- * A call is six lengths in elements (record, record text, rules, rule text, cells, list), ABSENT for a
- * null pointer and length 0, and then the six arrays. What came of it is the answer, whether it is valid,
- * invalid and refused, the count, the refusal, the place and the room that the header reads from the
- * sheets, 64 bits each, and then the cells and the list.
+ * A call to judge is six lengths in elements (record, record text, rules, rule text, cells, list), ABSENT
+ * for a null pointer and length 0, and then the six arrays. What came of it is the answer, whether it is
+ * valid, invalid and refused, the count, the refusal, the place and the room that the header reads from
+ * the sheets, 64 bits each, and then the cells and the list. A call to check is the first two lengths and
+ * arrays. What came of it is the answer, whether it is in order and refused, the size, the refusal and
+ * the place.
  *
  * Each array ends where its last mapped page does. Arrays that the call only reads can only be read. */
 #define _GNU_SOURCE
@@ -38,6 +41,7 @@ struct part {
 };
 
 static struct part parts[PARTS];
+static int given = PARTS;   /* of them, by a call */
 static uint64_t answer;
 
 static void give_up(const char *why)
@@ -71,9 +75,9 @@ static void lend(struct part *part, size_t size, int protection)
 static int read_call(void)
 {
     uint32_t lengths[PARTS];
-    if (fread(lengths, sizeof lengths, 1, stdin) != 1)
+    if (fread(lengths, sizeof lengths[0], given, stdin) != (size_t)given)
         return 0;
-    for (int i = 0; i < PARTS; i++) {
+    for (int i = 0; i < given; i++) {
         parts[i] = (struct part){0};
         if (lengths[i] == ABSENT)
             continue;
@@ -83,7 +87,13 @@ static int read_call(void)
     return 1;
 }
 
-static void *call(void *unused)
+static void check(void)
+{
+    answer = amphorust_check((const uint32_t *)parts[RECORD].array, parts[RECORD].length,
+                             parts[RECORD_TEXT].array, parts[RECORD_TEXT].length);
+}
+
+static void *judge(void *unused)
 {
     answer = amphorust_judge((const uint32_t *)parts[RECORD].array, parts[RECORD].length,
                              parts[RECORD_TEXT].array, parts[RECORD_TEXT].length,
@@ -94,19 +104,28 @@ static void *call(void *unused)
     return unused;
 }
 
-static void call_on_thread(size_t stack)
+static void judge_on_thread(size_t stack)
 {
     uint8_t *region = map(BELOW + stack, PROT_READ | PROT_WRITE);
     pthread_attr_t attributes;
     pthread_t thread;
     mprotect(region, BELOW, PROT_NONE);
     if (pthread_attr_init(&attributes) != 0 || pthread_attr_setstack(&attributes, region + BELOW, stack) != 0
-        || pthread_create(&thread, &attributes, call, NULL) != 0 || pthread_join(thread, NULL) != 0)
+        || pthread_create(&thread, &attributes, judge, NULL) != 0 || pthread_join(thread, NULL) != 0)
         give_up("no thread");
     munmap(region, BELOW + stack);
 }
 
-static void write_result(void)
+static void write_checked(void)
+{
+    const uint64_t told[] = {
+        answer, amphorust_is_in_order(answer), amphorust_is_refused(answer), amphorust_size(answer),
+        amphorust_refusal(answer), amphorust_place(answer)};
+    fwrite(told, sizeof told, 1, stdout);
+    fflush(stdout);
+}
+
+static void write_judged(void)
 {
     const uint64_t told[] = {
         answer, amphorust_is_valid(answer), amphorust_is_invalid(answer), amphorust_is_refused(answer),
@@ -137,17 +156,22 @@ static void trespass(const char *how, const struct part *part)
 
 int main(int count, char **arguments)
 {
+    int checks = count == 2 && strcmp(arguments[1], "check") == 0;
+    if (checks)
+        given = RULES;
     while (read_call()) {
         if (count > 2)
             trespass(arguments[1], &parts[strtoul(arguments[2], NULL, 10)]);
+        else if (checks)
+            check();
         else if (count > 1)
-            call_on_thread(strtoul(arguments[1], NULL, 10));
+            judge_on_thread(strtoul(arguments[1], NULL, 10));
         else
-            call(NULL);
-        for (int i = 0; i < PARTS; i++)
+            judge(NULL);
+        for (int i = 0; i < given; i++)
             look_before(&parts[i]);
-        write_result();
-        for (int i = 0; i < PARTS; i++)
+        checks ? write_checked() : write_judged();
+        for (int i = 0; i < given; i++)
             if (parts[i].pages != NULL)
                 munmap(parts[i].pages, parts[i].mapped + PAGE);
     }

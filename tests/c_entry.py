@@ -1,10 +1,11 @@
 #!/usr/bin/env python3
-"""The entry for C against the second program: the number, the cells and the list of every call, compared whole.
+"""The entries for C against the second program: the number, the cells and the list of every call, compared whole.
 
 Builds the archive and the example host (examples/build-host), then tests/c_entry.c with the archive. That program
 places each array directly before an unmapped page and makes the four that are only read unwritable. Cases are the
 samples, the limits, texts of 65,535 and 65,536 bytes, sheets cut short and random ones; each is called with areas of
-several lengths, full of random bytes. Finds the smallest stack at which the deepest recursion works.
+several lengths, full of random bytes. Checks of sheets (tests/c_check.py) are compared too. Finds the smallest stack at
+which the deepest recursion works.
 
 Ends with 'N passed, M failed'. COUNT and SEED may be given."""
 import itertools
@@ -17,6 +18,7 @@ import struct
 import subprocess
 import sys
 
+import c_check
 import judged
 import machine
 import second
@@ -26,6 +28,7 @@ ROOT = os.path.dirname(os.path.dirname(os.path.abspath(__file__)))
 ARCHIVE = os.path.join(ROOT, 'target', 'staticlib', 'libhub.a')
 CALLER = os.path.join(ROOT, 'target', 'c_entry')
 HOST_PRINTS = b'''\
+the rules: in order, 3 schemas
 {"p": 7}: valid, 2 pairs settled
 {"p": 7, "q": 8}: invalid, 3 pairs settled
     row 1 by schema 1 held
@@ -34,7 +37,6 @@ HOST_PRINTS = b'''\
 {"p": 7, "p": 8}: refused, two children of an object share a name (refusal 3, place 2)
 '''
 
-ABSENT = 2 ** 32 - 1                    # the length that stands for a null pointer
 FROM_C = {'memset', 'memcpy', 'memmove', 'memcmp', 'bcmp'}      # all that the archive may ask of the C library
 TOLD = struct.Struct('<8Q')             # what the caller tells of an answer before the areas
 BATCH = 1 << 24                         # bytes of input that one run of the caller gets, roughly
@@ -66,7 +68,7 @@ class Call:
         self.arrays = (record, record_text, rules, rule_text, cells, list_)
 
     def sent(self):
-        lengths = [ABSENT if array is None else len(array) for array in self.arrays]
+        lengths = [c_check.ABSENT if array is None else len(array) for array in self.arrays]
         return struct.pack('<6I', *lengths) + b''.join(in_bytes(array or []) for array in self.arrays)
 
     def result_size(self):
@@ -182,10 +184,10 @@ def run_caller(sent, *arguments):
     return subprocess.run(machine.call(CALLER, *arguments), input=sent, capture_output=True)
 
 
-def compare(results, calls):
+def compare(results, calls, *arguments):
     """Checks a batch of calls. A call that does not return is a failure, and the next is tried."""
     while calls:
-        ran = run_caller(b''.join(call.sent() for call in calls))
+        ran = run_caller(b''.join(call.sent() for call in calls), *arguments)
         at = 0
         while calls and at + calls[0].result_size() <= len(ran.stdout):
             call = calls.pop(0)
@@ -199,9 +201,8 @@ def compare(results, calls):
 
 
 def difference(got, wanted):
-    if got[:TOLD.size] != wanted[:TOLD.size]:
-        return 'told %s, the second program %s' % (TOLD.unpack_from(got), TOLD.unpack_from(wanted))
-    return 'the areas differ'
+    told, other = [struct.unpack_from('<%dQ' % min(TOLD.size // 8, len(one) // 8), one) for one in (got, wanted)]
+    return 'told %s, the second program %s' % (told, other) if told != other else 'the areas differ'
 
 
 def check_calls(results, rng, count, seed):
@@ -278,6 +279,7 @@ def main(count=1500, seed=1):
     if machine.EMULATED:
         check_guards(results)
     check_calls(results, rng, count, seed)
+    compare(results, list(c_check.calls(seed, count)), 'check')
     check_archive(results)
     check_stack(results)
     print('%d passed, %d failed' % (results.passed, results.failed))

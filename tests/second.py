@@ -1,4 +1,4 @@
-"""A second judge of record sheets by rule sheets, written from paper 01 alone.
+"""A second judge of record sheets by rule sheets, written from papers 01 and 02 alone.
 
 It is there to be compared with another program, so it is kept as close to the
 words of the paper as it can be: the refusal table is a row of tests over whole
@@ -570,11 +570,24 @@ def judge(record, record_text, rules, rule_text, cells, list_):
     return Judgement(answer, cells, list_)
 
 
+# ---- one check for both kinds of sheet (02, #103) ----
+
+CHECKS = {1: check_record, 2: check_rules}      # by the last word
+
+
+def check(words, text):
+    """'in order' with the number of rows or schemas, or the refusal."""
+    if not words or words[-1] not in CHECKS:
+        return refused(12, 0)
+    found, *numbers = CHECKS[words[-1]](words, text)
+    return refused(*numbers) if found == 'refused' else Answer('in order', *numbers, None, None, None)
+
+
 def number_for_c(answer):
     """The one 64-bit number the host program in C gets."""
     if answer.verdict == 'refused':
         return 10 + answer.number + 256 * answer.place
-    return {'valid': 0, 'invalid': 1}[answer.verdict] + 256 * answer.count
+    return {'valid': 0, 'in order': 0, 'invalid': 1}[answer.verdict] + 256 * answer.count
 
 
 # ---- bench program ----
@@ -612,9 +625,9 @@ def bench(bundle_bytes):
     if parts is None:
         return b'bad bundle\n'
     record_check, rule_check = check_record(*parts[:2]), check_rules(*parts[2:])
-    for check in (record_check, rule_check):
-        if check[0] == 'refused':
-            return b'refused %d %d\n' % check[1:]
+    for found in (record_check, rule_check):
+        if found[0] == 'refused':
+            return b'refused %d %d\n' % found[1:]
     n, m = record_check[1], rule_check[1]
     if n > 128 or m > 128:
         return b'too large\n'

@@ -1,7 +1,7 @@
 #!/usr/bin/env python3
-"""Runs second.py over generated cases and checks what paper 01 states of every answer.
+"""Runs second.py over generated cases and checks what papers 01 and 02 state of every answer.
 
-Written, like second.py and sheets.py, from paper 01 alone. Prints how often each answer
+Written, like second.py and sheets.py, from the papers alone. Prints how often each answer
 came up for each group of cases, then `N passed, 0 failed`.
 
     python3 selfcheck.py [COUNT [SEED]]     5,000 cases of seed 1 unless given
@@ -13,10 +13,13 @@ import time
 from collections import Counter, defaultdict
 
 import judged
+import one_sheet
 import second
 import sheets
 
-ANSWERS = ['valid', 'invalid'] + ['refused %d' % number for number in range(1, 12)]
+ANSWERS = ['valid', 'invalid', 'in order'] + ['refused %d' % number for number in range(1, 13)]
+BY_JUDGING = range(1, 12)                       # refusals that judging gives
+BY_CHECKING = {1: range(1, 5), 2: range(5, 10)}  # and those that a check gives, by the last word
 PRINTED = re.compile(rb'bad bundle\n|too large\n|refused [1-9] \d+\n'
                      rb'|(in)?valid\npairs \d+ marked \d+\n(\d+ \d+ (held|failed)\n)+')
 
@@ -180,6 +183,7 @@ def check_case(results, rng, group, label, *parts):
     results.note(group, answer)
     low, rest = second.number_for_c(answer) % 256, second.number_for_c(answer) // 256
     if answer.verdict == 'refused':
+        results.check(answer.number in BY_JUDGING, 'judging refused %d' % answer.number, label)
         results.check((judgement.cells, judgement.list) == before, 'refused areas changed', label)
         results.check(place_in_range(answer, parts[:2], parts[2:]), 'place out of range', label)
         results.check((low, rest) == (10 + answer.number, answer.place), 'number for C', label)
@@ -209,6 +213,37 @@ def check_bundles(results, seed, count):
     results.check(all(printed[word] for word in (b'bad', b'refused', b'valid', b'invalid')), 'bundles all alike')
 
 
+def check_sheet(results, label, words, text):
+    """A check is refused 12 exactly if the last word is no kind, and else by a refusal of that kind; judging agrees."""
+    answer = second.check(words, text)
+    results.note('check', answer)
+    kind = words[-1] if words else None
+    if kind not in BY_CHECKING:
+        results.check((answer.number, answer.place) == (12, 0), 'a sheet of no kind', label)
+        return answer
+    others = [sheets.lent(one) for one in (sheets.small_record(), sheets.small_rules())]
+    others[kind - 1] = words, text
+    judged_as = second.judge(*others[0], *others[1], [], []).answer
+    if answer.verdict == 'refused':
+        results.check(answer.number in BY_CHECKING[kind], 'a check refused %d' % answer.number, label)
+        results.check(answer == judged_as, 'check and judging differ', label)
+    else:
+        results.check(answer.count == words[-4 if kind == 1 else -6], 'rows or schemas', label)
+        results.check(judged_as.number == 10, 'judging refuses what the check finds in order', label)
+    return answer
+
+
+def check_sheets(results, seed, count):
+    for label, *sheet in one_sheet.limits():
+        answer = check_sheet(results, label, *sheet)
+        found = 'in order %d' % answer.count if answer.number is None else 'refused %d %d' % answer[2:4]
+        results.check(found == label.split(':')[0], 'the check answered ' + found, label)
+    for case in one_sheet.cases(seed, count):
+        check_sheet(results, *case)
+    for number in [*range(1, 10), 12]:
+        results.check(results.table['check']['refused %d' % number] > 0, 'no check is refused %d' % number)
+
+
 def check_spread(results):
     """Every refusal comes up often enough, and both verdicts do."""
     for number in range(1, 10):
@@ -231,6 +266,7 @@ def main(count=5_000, seed=1):
     check_spread(results)
     check_limits(results, rng)
     check_bundles(results, seed, count // 10)
+    check_sheets(results, seed, count // 5)
     results.print_table()
     print('%.0f s for the cases, %.0f s in all' % (random_seconds, time.time() - begun))
     print('%d passed, %d failed' % (results.passed, results.failed))
