@@ -68,7 +68,21 @@ class Tests:
                      for keyword, value in command_cases.NO_CLAUSE.items()]
         for schema, said in command_cases.BAD_SCHEMAS + no_clause:
             self.write('s.json', json.dumps(schema))
-            self.equal(schema, self.run('check', 's.json', 'r.json'), ('', 's.json: %s\n' % said, 2))
+            for records in ([], ['r.json']):
+                self.equal((schema, records), self.run('check', 's.json', *records), ('', 's.json: %s\n' % said, 2))
+
+    def schemas_alone(self):
+        """Without a record the schema is checked: how many schemas its sheet has, by one line and the exit status."""
+        for schema, count in ((True, '1 schema'), ({'$ref': '#/$defs/a', '$defs': {'a': {}, 'b': False}}, '1 schema'),
+                              ({'items': {'type': 'null'}}, '2 schemas'),
+                              ({'allOf': [{'minimum': i} for i in range(127)]}, '128 schemas')):
+            self.write('s.json', schema)
+            self.equal(schema, self.run('check', 's.json'), ('s.json: in order: %s\n' % count, '', 0))
+        self.equal('--json', self.run('check', '--json', 's.json'), ('{"file": "s.json", "schemas": 128}\n', '', 0))
+        self.equal('-q', self.run('check', '-q', 's.json'), ('', '', 0))
+        self.equal('-q, no schema', self.run('check', '-q', self.write('t.json', '1')), ('', '', 2))
+        self.equal('no such schema', self.run('check', 'none.json'), ('', 'none.json: no such file or directory\n', 2))
+        self.equal('a schema in standard input', self.run('check', '-', stdin=b'{}'), ('-: in order: 1 schema\n', '', 0))
 
     # ---- the examples ----
 
@@ -78,6 +92,7 @@ class Tests:
         self.equal('a misspelt member', run('check', 'passage.schema.json', 'passage-misspelt.json'),
                    ('passage-misspelt.json: invalid: /bbi: not allowed here (#/unevaluatedProperties)\n', '', 1))
         self.equal('a relay', run('check', 'relay.schema.json', 'relay.json'), ('relay.json: valid\n', '', 0))
+        self.equal('a schema', run('check', 'passage.schema.json'), ('passage.schema.json: in order: 15 schemas\n', '', 0))
         queue = sorted('queue/' + path.name for path in (EXAMPLES / 'queue').iterdir())
         self.equal('a queue', run('check', 'passage.schema.json', *queue), (
             'queue/1-gate.json: valid\n'
@@ -166,7 +181,7 @@ class Tests:
     def usage(self):
         for arguments, said in (([], 'check or bundle must come first'),
                                 (['chek', 'a', 'b'], 'check or bundle must come first'),
-                                (['check', 'a'], 'check takes a schema and at least one record'),
+                                (['check'], 'check takes a schema, and records to be judged by it'),
                                 (['check', '--jsn', 'a', 'b'], 'no such option: --jsn'),
                                 (['bundle', 'a', 'b', 'c'], 'bundle takes a schema and a record'),
                                 (['check', '-q', '--json', 'a', 'b'], '-q and --json exclude each other')):
@@ -268,9 +283,9 @@ def damaged(rng, data):
 def main():
     with tempfile.TemporaryDirectory() as folder:
         tests = Tests(folder)
-        for part in (tests.verdicts, tests.bad_records, tests.bad_schemas, tests.examples, tests.damaged_relays,
-                     tests.options, tests.ways, tests.usage, tests.bundles, tests.programs, tests.closed_output,
-                     tests.damaged):
+        for part in (tests.verdicts, tests.bad_records, tests.bad_schemas, tests.schemas_alone, tests.examples,
+                     tests.damaged_relays, tests.options, tests.ways, tests.usage, tests.bundles, tests.programs,
+                     tests.closed_output, tests.damaged):
             part()
     print('%d passed, %d failed' % (tests.passed, tests.failed))
     return tests.failed > 0

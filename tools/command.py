@@ -8,11 +8,11 @@ from tools import explain, program, refusals
 from tools.fault import CannotJudge
 from tools.reading import read_json
 from tools.records import record_of
-from tools.schemas import rules_of
+from tools.schemas import rules_of, schemas_in
 
 ALL_VALID, SOME_INVALID, NOT_JUDGED = 0, 1, 2
 
-USAGE = '''usage: amphorust check [-q | --json] SCHEMA RECORD...
+USAGE = '''usage: amphorust check [-q | --json] SCHEMA [RECORD...]
        amphorust bundle SCHEMA RECORD
        amphorust --help
 '''
@@ -22,13 +22,15 @@ proved program target/bin/bench, which the first call builds.
 
 check   prints a line per record, 'FILE: valid' or 'FILE: invalid: ' and why.
         Exits 0 if all are valid, 1 if some are invalid, 2 if something could
-        not be judged, which is told on standard error.
+        not be judged, which is told on standard error. Without a record it
+        checks the schema: 'FILE: in order: 12 schemas' and 0, or why not and 2.
 bundle  writes the sheets that the program reads to standard output.
 
 -       as RECORD: standard input
 -q      print nothing
 --json  print an object per record: file, valid and errors (the draft's output
-        units), or file, error and place if it could not be judged
+        units), or file, error and place if it could not be judged; of a schema
+        in order file and schemas
 
 Judged: type enum const minimum maximum exclusiveMinimum exclusiveMaximum
 multipleOf minLength maxLength minItems maxItems minProperties maxProperties
@@ -63,8 +65,8 @@ def options_in(arguments):
         raise BadUsage('check or bundle must come first')
     if command == 'bundle' and (len(files) != 2 or options):
         raise BadUsage('bundle takes a schema and a record')
-    if len(files) < 2:
-        raise BadUsage('check takes a schema and at least one record')
+    if not files:
+        raise BadUsage('check takes a schema, and records to be judged by it')
     if '-q' in options and '--json' in options:
         raise BadUsage('-q and --json exclude each other')
     return Options(command, '-q' in options, '--json' in options, files)
@@ -75,6 +77,10 @@ class Teller:
 
     def __init__(self, options):
         self.quiet, self.json = options.quiet, options.json
+
+    def in_order(self, file, schemas):
+        self.tell({'file': file, 'schemas': schemas},
+                  '%s: in order: %d %s' % (file, schemas, 'schema' if schemas == 1 else 'schemas'))
 
     def valid(self, file):
         self.tell({'file': file, 'valid': True}, '%s: valid' % file)
@@ -134,7 +140,9 @@ def check(options):
     except CannotJudge as fault:
         teller.not_judged(schema_file, fault)
         return NOT_JUDGED
-    return max([check_record(teller, rules, file) for file in files])
+    if not files:
+        teller.in_order(schema_file, schemas_in(rules))
+    return max([check_record(teller, rules, file) for file in files], default=ALL_VALID)
 
 
 def check_record(teller, rules, file):

@@ -28,7 +28,7 @@ def refuse_record(answer, record):
 def refuse_rules(answer, rules):
     """Says why a schema is not judged by, from the answer on a record that is in order."""
     if answer.word == 'too large':
-        raise too_large(max(rules.row_of.values()) + 1, 'schemas')
+        raise too_large(schemas.schemas_in(rules), 'schemas')
     if answer.word == 'refused':
         raise refused(answer.number, RULE_WORDS, rule_place(answer, rules))
 

@@ -66,6 +66,11 @@ def rules_of(document):
     return Rules(sheet, root, clauses, row_of, places, references.base_of(()))
 
 
+def schemas_in(rules):
+    """How many schemas their sheet has."""
+    return max(rules.row_of.values()) + 1
+
+
 class SchemaReader:
     """Reads the schema at one place into clauses."""
 
