@@ -1,11 +1,12 @@
-/* Times cases, each judged through the C entry and, where it has JSON, by rapidjson's schema validator:
+/* Times cases, each judged through the C entry, its sheets checked and, where it has JSON, judged by rapidjson's schema
+ * validator:
  *
  *     measure CASE...
  *
  * A case is a file CASE.bundle, the sheets as the bench program reads them, and perhaps CASE.schema and CASE.record
  * for rapidjson, whose schema is compiled and whose record is parsed beforehand. Prints a line for each case: rows,
- * schemas, the answer's number, nanoseconds of a call; then rapidjson's verdict, 0 for valid and 1 for invalid, and
- * nanoseconds, or '- -' if it was not asked. */
+ * schemas, the answer's number, nanoseconds of a call and of the two sheets' checks alone; then rapidjson's verdict, 0
+ * for valid and 1 for invalid, and nanoseconds, or '- -' if it was not asked. */
 #include <cstdint>
 #include <cstdio>
 #include <cstdlib>
@@ -73,7 +74,7 @@ struct Judging {
     Sheet record, rules;
     std::vector<uint8_t> cells;
     std::vector<uint32_t> list;
-    uint64_t answer = 0;
+    uint64_t answer = 0, checked = 0;
 
     explicit Judging(const std::string &bundle)
     {
@@ -104,6 +105,12 @@ struct Judging {
         answer = amphorust_judge(record.words.data(), record.words.size(), record.text.data(), record.text.size(),
                                  rules.words.data(), rules.words.size(), rules.text.data(), rules.text.size(),
                                  cells.data(), cells.size(), list.data(), list.size());
+    }
+
+    void check()
+    {
+        checked += amphorust_check(record.words.data(), record.words.size(), record.text.data(), record.text.size());
+        checked += amphorust_check(rules.words.data(), rules.words.size(), rules.text.data(), rules.text.size());
     }
 };
 
@@ -141,7 +148,7 @@ struct Validation {
 struct Case {
     Judging judging;
     std::unique_ptr<Validation> validation;
-    Timer ours, theirs;
+    Timer ours, checks, theirs;
 
     explicit Case(const std::string &path) : judging(read_file(path + ".bundle"))
     {
@@ -155,6 +162,7 @@ struct Case {
     void round()
     {
         ours.round([this] { judging.judge(); });
+        checks.round([this] { judging.check(); });
         if (validation)
             theirs.round([this] { validation->validate(); });
     }
@@ -162,8 +170,8 @@ struct Case {
     void print() const
     {
         const std::vector<uint32_t> &record = judging.record.words, &rules = judging.rules.words;
-        printf("%u %u %llu %.1f", amphorust_rows(record.data(), record.size()),
-               amphorust_schemas(rules.data(), rules.size()), (unsigned long long)judging.answer, ours.best);
+        printf("%u %u %llu %.1f %.1f", amphorust_rows(record.data(), record.size()),
+               amphorust_schemas(rules.data(), rules.size()), (unsigned long long)judging.answer, ours.best, checks.best);
         if (validation)
             printf(" %d %.1f\n", validation->valid ? 0 : 1, theirs.best);
         else

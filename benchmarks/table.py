@@ -12,14 +12,15 @@ from tools import sheets
 
 LIMIT = 20      # seconds that a hostile case may take
 
-HEADING = '''The smallest times; both sheets are checked in each call. rapidjson: its time as a multiple of ours,
-with its schema compiled and the record parsed beforehand, where draft 4 can say the case. Slopes: how the
-time grows from size to size, 1.0 in proportion, 2.0 by the square. Overlapping names: of {:,} bytes
-each, in {:,} bytes of text.
+HEADING = '''The smallest times; both sheets are checked in each call, and 'checks' is what the two checks take as calls
+of their own. rapidjson: its time as a multiple of ours, with its schema compiled and the record parsed
+beforehand, where draft 4 can say the case. Slopes: how the time grows from size to size, 1.0 in proportion,
+2.0 by the square. Overlapping names: of {:,} bytes each, in {:,} bytes of text.
 '''
 
-# answer is the C entry's number, theirs rapidjson's nanoseconds (None: not asked), agrees whether its verdict is ours.
-Measured = namedtuple('Measured', 'rows schemas answer ours theirs agrees')
+# answer is the C entry's number, ours a call's nanoseconds and checks those of both checks alone, theirs rapidjson's
+# (None: not asked), agrees whether its verdict is ours.
+Measured = namedtuple('Measured', 'rows schemas answer ours checks theirs agrees')
 
 
 def write(folder, name, case):
@@ -44,10 +45,10 @@ def measured(folder, found):
 
 
 def read_line(line):
-    rows, schemas, answer, ours, verdict, theirs = line.split()
+    rows, schemas, answer, ours, checks, verdict, theirs = line.split()
     asked = verdict != '-'
-    return Measured(int(rows), int(schemas), int(answer), float(ours), float(theirs) if asked else None,
-                    asked and int(answer) % 256 == int(verdict))
+    return Measured(int(rows), int(schemas), int(answer), float(ours), float(checks),
+                    float(theirs) if asked else None, asked and int(answer) % 256 == int(verdict))
 
 
 def measured_alone(folder, case):
@@ -107,12 +108,12 @@ def sizes_line(name, sizes):
 # ---- tables
 
 def print_cases(found, times):
-    shape = '%-30s %5s %7s %9s %10s %10s %10s%s'
-    print(shape % ('case', 'rows', 'schemas', 'pairs', 'a call', 'a pair', 'rapidjson', ''))
+    shape = '%-30s %5s %7s %9s %10s %10s %10s %10s%s'
+    print(shape % ('case', 'rows', 'schemas', 'pairs', 'a call', 'checks', 'a pair', 'rapidjson', ''))
     for case, one in zip(found, times):
         pairs = one.answer // 256
         print(shape % (case.name, one.rows, one.schemas, '{:,}'.format(pairs), duration(one.ours),
-                       duration(one.ours / max(pairs, 1)), multiple(one), said(one)))
+                       duration(one.checks), duration(one.ours / max(pairs, 1)), multiple(one), said(one)))
 
 
 def print_families(families):
