@@ -20,10 +20,10 @@ use Rattle.meaning.proofs.Demands.{demands}
 use Rattle.hub.specs.Entry.{Called, Tells, tells-valid, tells-invalid, tells-refused, NumberDemands}
 
 -- a byte, and what stands above it
-low : {r : ℕ} (above byte : ℕ) → r ≡ above * 256 + byte → byte < 256 → r % 256 ≡ byte
+pub low : {r : ℕ} (above byte : ℕ) → r ≡ above * 256 + byte → byte < 256 → r % 256 ≡ byte
 low above byte e h = ap (λ (x : ℕ). x % 256) e ∙ rule-of 256 above byte h
 
-high : {r : ℕ} (above byte : ℕ) → r ≡ above * 256 + byte → byte < 256 → r / 256 ≡ above
+pub high : {r : ℕ} (above byte : ℕ) → r ≡ above * 256 + byte → byte < 256 → r / 256 ≡ above
 high above byte e h = ap (λ (x : ℕ). x / 256) e ∙ row-of 256 above byte h
 
 module _ (ws ts rs us cs ls : List ℕ) where

@@ -14,9 +14,9 @@ use Rattle.meaning.specs.Demands.{Demands}
 -- ---- checking a sheet
 
 -- what the check gives, as an answer: in order is told as valid is, with the rows where the count stands
-abbrev pub told : Outcome → Answer
-told (accepted rows) = valid rows 0
-told (refused number place) = refuses number place
+abbrev pub checkAnswer : Outcome → Answer
+checkAnswer (accepted rows) = valid rows 0
+checkAnswer (refused number place) = refuses number place
 
 -- ---- judging
 
@@ -31,9 +31,9 @@ pub record Called (ws ts rs us cells₀ list₀ cells list : List ℕ) (r : ℕ)
   pub cells-are : cells ≡ judge ws ts rs us cells₀ list₀ .cells
   pub list-is : list ≡ judge ws ts rs us cells₀ list₀ .list
 
--- ---- the demands, of the number
+-- ---- what the number tells
 
--- what the number tells of an answer: its lowest byte the case, what stands above it the count or the place
+-- of an answer: its lowest byte the case, what stands above it the count or the place
 pub data Tells (r : ℕ) : Answer → Type 0 where
   tells-valid : {count marks : ℕ} → r % 256 ≡ 0 → r / 256 ≡ count → Tells r (valid count marks)
   tells-invalid : {count marks : ℕ} → r % 256 ≡ 1 → r / 256 ≡ count → Tells r (invalid count marks)

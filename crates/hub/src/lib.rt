@@ -8,7 +8,7 @@ ghost use Rattle.sheet.specs.Refusals.{outcomeOf};
 ghost use Rattle.sheetcheck.specs.LastWord.{checkOutcome};
 ghost use Rattle.meaning.specs.Answer.{refuses, numberForC};
 ghost use Rattle.judge.specs.Call.{answerOf};
-ghost use Rattle.hub.specs.Entry.{Called, counted, told};
+ghost use Rattle.hub.specs.Entry.{Called, counted, checkAnswer};
 use judge::answer::Answer;
 use sheet::refusal::Checked;
 use sheetcheck::ByKind;
@@ -18,7 +18,7 @@ use sheetcheck::ByKind;
 // rows (of rules, the schemas) or, of a refusal, the place.
 #[no_mangle]
 pub extern "C" fn amphorust_check(words: &[u32], text: &[u8]) -> u64
-    ensures { λ r. ⌜ r ≡ numberForC (told (checkOutcome (now (words .entry)) (now (text .entry)))) ⌝ }
+    ensures { λ r. ⌜ r ≡ numberForC (checkAnswer (checkOutcome (now (words .entry)) (now (text .entry)))) ⌝ }
 {
     match sheetcheck::check(words, text) {
         ByKind::Known(checked) => number_of_checked(checked),
@@ -46,7 +46,7 @@ pub extern "C" fn amphorust_judge<'a>(
 
 // The number of what the check of a known kind gives.
 fn number_of_checked(checked: Checked) -> u64
-    ensures { λ r. ⌜ r ≡ numberForC (told (outcomeOf checked)) ⌝ }
+    ensures { λ r. ⌜ r ≡ numberForC (checkAnswer (outcomeOf checked)) ⌝ }
 {
     match checked {
         Checked::Accepted(rows) => (rows as u64) * 256,
