@@ -43,22 +43,22 @@ module _ (ws ts : List ℕ) where
 -- ---- answers
 
 -- no refusal of the two checks has this number
-never-unknown : (f : Refusal) → refusalNumber f ≡ unknown-kind → ⊥
-never-unknown RecordTrailer e = omega arith
-never-unknown RecordLayout e = omega arith
-never-unknown RepeatedName e = omega arith
-never-unknown TooDeep e = omega arith
-never-unknown RuleTrailer e = omega arith
-never-unknown RuleLayout e = omega arith
-never-unknown RepeatedEntry e = omega arith
-never-unknown UnguardedLoop e = omega arith
-never-unknown LongChain e = omega arith
-never-unknown FewCells e = omega arith
-never-unknown ShortList e = omega arith
+another-number : (f : Refusal) → refusalNumber f ≡ unknown-kind → ⊥
+another-number RecordTrailer e = omega arith
+another-number RecordLayout e = omega arith
+another-number RepeatedName e = omega arith
+another-number TooDeep e = omega arith
+another-number RuleTrailer e = omega arith
+another-number RuleLayout e = omega arith
+another-number RepeatedEntry e = omega arith
+another-number UnguardedLoop e = omega arith
+another-number LongChain e = omega arith
+another-number FewCells e = omega arith
+another-number ShortList e = omega arith
 
 known-is : (c : Checked) → outcomeOf c ≡ refused unknown-kind 0 → ⊥
 known-is (Accepted rows) e = clash (accepted rows) rows unknown-kind 0 refl e
-known-is (Refused f place) e = let number : refusalNumber f ≡ unknown-kind = cc in never-unknown f number
+known-is (Refused f place) e = let number : refusalNumber f ≡ unknown-kind = cc in another-number f number
 
 pub answer-one : (a b : ByKind) → outcomeByKind a ≡ outcomeByKind b → a ≡ b
 answer-one (Known c) (Known d) e = ap Known (outcome-one c d e)
