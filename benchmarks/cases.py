@@ -165,6 +165,23 @@ def splits(n):
                 list(range(0, 7 * n, 7)))
 
 
+SHARED = 'the-same-long-beginning-of-every-name-of-an-organiser-60-bytes'[:60]
+
+
+def shared(n, name, make):
+    """n members against a `properties` of their names in another order; what the names share is as long as SHARED."""
+    known = [make('%03d' % i) for i in range(n)]
+    return case(name, {'properties': dict.fromkeys(known[::-1], {'type': 'number'})}, {k: i for i, k in enumerate(known)})
+
+
+def shared_beginnings(n):
+    return shared(n, '%d names that begin alike' % n, lambda i: SHARED + i)
+
+
+def shared_endings(n):
+    return shared(n, '%d names that end alike' % n, lambda i: i + SHARED)
+
+
 def many_schemas(n):
     """A record that meets two of n schemas."""
     known = {'p%03d' % i: {'type': 'integer', 'minimum': i, 'maximum': 1000 + i} for i in range(n - 1)}
@@ -180,7 +197,8 @@ def million_pairs():
 def table():
     return [passage(), flat(), full(), unevaluated(), members(1023)._replace(name='1,023 members'), splits(200),
             properties(100)._replace(name='100 properties in order'),
-            reversed_properties(100)._replace(name='100 properties reversed'), many_schemas(300),
+            reversed_properties(100)._replace(name='100 properties reversed'), shared_beginnings(200),
+            shared_endings(200), many_schemas(300),
             chain(24)._replace(name='chain of 24, each link twice'), million_pairs()]
 
 
