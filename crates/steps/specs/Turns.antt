@@ -8,12 +8,13 @@ use lib.ListN.{length}
 use Rattle.sheet.specs.declared.record.RecordForm.{RecordForm}
 use Rattle.sheet.specs.declared.record.Pair as P
 use Rattle.sheet.specs.Doc.{Doc}
+use Rattle.sheet.specs.Record.{docOf}
 use Rattle.rulesheet.specs.declared.form.RuleForm.{RuleForm}
 use Rattle.rulesheet.specs.Ruleset.{Clause}
 use Rattle.rulesheet.specs.Sheet.{schemaAt}
 use Rattle.meaning.specs.Rules.{Pair, Marks}
 use Rattle.clause.specs.Read.{RecordRead, RulesRead, clauseIn, beforeIn}
-use Rattle.areas.specs.Cells.{pairIs, Unsettled}
+use Rattle.areas.specs.Cells.{pairIs, Unsettled, column}
 use Rattle.steps.specs.declared.turn.Turn.{Turn}
 use Rattle.steps.specs.Plan.{stepsOf, aimOf, goOf}
 use Rattle.steps.specs.Read.{Started}
@@ -55,3 +56,11 @@ pub record TurnAsked (ws ts : List ℕ) (form : RecordForm) (rs us : List ℕ) (
   pub started : Started (beforeIn rs us (p .rule .0) i) (clauseIn rs us (p .rule .0) i) from
   pub room : form .rows * rule-form .m ≤ length cells
   pub unsettled : Unsettled (rule-form .m) (pairIs p) cells
+
+-- where clause i of p's schema, which means c, stands after x steps: over the two sheets and the marks of p in the cells
+abbrev pub TurnedIn : (ws ts rs us : List ℕ) → P.Pair → ℕ → Clause → ℕ → ℕ → List ℕ → Turn → Type 0
+TurnedIn ws ts rs us p i c x m cells r = Turned (docOf ws ts) (pairIs p) (beforeIn rs us (p .rule .0) i) c x (column m cells (p .rule .0)) r
+
+-- the same of a clause that is told nothing by those before it
+abbrev pub TurnedFresh : (ws ts : List ℕ) → P.Pair → Clause → ℕ → ℕ → List ℕ → Turn → Type 0
+TurnedFresh ws ts p c x m cells r = (before : List Clause) → Turned (docOf ws ts) (pairIs p) before c x (column m cells (p .rule .0)) r

@@ -10,11 +10,10 @@ ghost use Rattle.rulesheet.specs.Ruleset as R;
 ghost use Rattle.rulesheet.specs.Read.{RulesFormed};
 ghost use Rattle.rulesheet.specs.Clauses.{schemasIn};
 ghost use Rattle.meaning.specs.Rules.{Pair as Meant, Marks};
-ghost use Rattle.areas.specs.Cells.{pairIs, column};
 ghost use Rattle.clause.specs.Read.{sizeIn, orNone};
 ghost use Rattle.steps.specs.Plan.{memberCount, elementCount};
 ghost use Rattle.steps.specs.Read.{Started};
-ghost use Rattle.steps.specs.Turns.{Turned, TurnedOn};
+ghost use Rattle.steps.specs.Turns.{Turned, TurnedOn, TurnedFresh};
 use crate::turn::Turn;
 use crate::turn::at_step;
 use crate::turn::ended;
@@ -134,8 +133,8 @@ pub(crate) fn fresh_turn(
 ) -> Turn
     requires { ⌜ Laid (now «record») form × (p .row .0 < form .rows) × ((ts : List ℕ) → many ≤ childCount (docOf (now «record») ts .value (p .row .0))) ⌝ }
     requires { ⌜ (form .rows * m ≤ length (now cells)) × (p .rule .0 < m) ⌝ }
-    ensures { λ r. ⌜ ((ts : List ℕ) (before : List R.Clause) → many ≡ memberCount (docOf (now («record» .entry)) ts .value (p .row .0)) → Turned (docOf (now («record» .entry)) ts) (pairIs p) before (R.takes (R.unevaluatedProperties (rule .0))) x (column m (now (cells .entry)) (p .rule .0)) r) ⌝ }
-    ensures { λ r. ⌜ ((ts : List ℕ) (before : List R.Clause) → many ≡ elementCount (docOf (now («record» .entry)) ts .value (p .row .0)) → Turned (docOf (now («record» .entry)) ts) (pairIs p) before (R.takes (R.unevaluatedItems (rule .0))) x (column m (now (cells .entry)) (p .rule .0)) r) ⌝ }
+    ensures { λ r. ⌜ ((ts : List ℕ) → many ≡ memberCount (docOf (now («record» .entry)) ts .value (p .row .0)) → TurnedFresh (now («record» .entry)) ts p (R.takes (R.unevaluatedProperties (rule .0))) x m (now (cells .entry)) r) ⌝ }
+    ensures { λ r. ⌜ ((ts : List ℕ) → many ≡ elementCount (docOf (now («record» .entry)) ts .value (p .row .0)) → TurnedFresh (now («record» .entry)) ts p (R.takes (R.unevaluatedItems (rule .0))) x m (now (cells .entry)) r) ⌝ }
 {
     let first = children_of(record, form, p.row).first;
     let column = p.rule;

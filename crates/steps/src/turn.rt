@@ -1,11 +1,9 @@
 // Where a clause that applies schemas stands between two of its steps.
 ghost use mathlib.Core.Bool.{true, false};
 ghost use mathlib.Core.Path.{_≡_};
-ghost use Rattle.sheet.specs.Record.{docOf};
 ghost use Rattle.rulesheet.specs.Clauses.{clauseMeans, applying};
-ghost use Rattle.areas.specs.Cells.{pairIs, column};
-ghost use Rattle.clause.specs.Read.{clauseIn, beforeIn, ClauseRead};
-ghost use Rattle.steps.specs.Turns.{Turned, TurnAsked};
+ghost use Rattle.clause.specs.Read.{clauseIn, ClauseRead};
+ghost use Rattle.steps.specs.Turns.{TurnAsked, TurnedIn};
 use crate::children::elements_in;
 use crate::children::fresh_turn;
 use crate::children::members_in;
@@ -77,7 +75,7 @@ fn turn_in<'a>(
 ) -> Turn
     requires { ⌜ TurnAsked (now «record») (now text) form (now rules) (now «rule_text») «rule_form» (now cells) p i from ⌝ }
     requires { ⌜ ClauseRead applying (now rules) (now «rule_text») «rule_form» (p .rule .0) i clause ⌝ }
-    ensures { λ r. ⌜ Turned (docOf (now («record» .entry)) (now (text .entry))) (pairIs p) (beforeIn (now (rules .entry)) (now («rule_text» .entry)) (p .rule .0) i) (clauseMeans (now (rules .entry)) (now («rule_text» .entry)) clause) x (column («rule_form» .m) (now (cells .entry)) (p .rule .0)) r ⌝ }
+    ensures { λ r. ⌜ TurnedIn (now («record» .entry)) (now (text .entry)) (now (rules .entry)) (now («rule_text» .entry)) p i (clauseMeans (now (rules .entry)) (now («rule_text» .entry)) clause) x («rule_form» .m) (now (cells .entry)) r ⌝ }
 {
     let row = p.row;
     match clause {
@@ -133,7 +131,7 @@ pub fn turn_of<'a>(
     x: u32,
 ) -> Turn
     requires { ⌜ TurnAsked (now «record») (now text) form (now rules) (now «rule_text») «rule_form» (now cells) p i from ⌝ }
-    ensures { λ r. ⌜ Turned (docOf (now («record» .entry)) (now (text .entry))) (pairIs p) (beforeIn (now (rules .entry)) (now («rule_text» .entry)) (p .rule .0) i) (clauseIn (now (rules .entry)) (now («rule_text» .entry)) (p .rule .0) i) x (column («rule_form» .m) (now (cells .entry)) (p .rule .0)) r ⌝ }
+    ensures { λ r. ⌜ TurnedIn (now («record» .entry)) (now (text .entry)) (now (rules .entry)) (now («rule_text» .entry)) p i (clauseIn (now (rules .entry)) (now («rule_text» .entry)) (p .rule .0) i) x («rule_form» .m) (now (cells .entry)) r ⌝ }
 {
     let first = schema_at(rules, rule_form, p.rule).first;
     let clause = applied_of(rules, rule_form, first + i);

@@ -163,12 +163,12 @@ returns-9 c =
 returns-10 : tie.Need-returns-10
 returns-10 c =
     let start = c .before .before .before .before .before .before .before .before .before .before .before in
-    turned-as (start .args .rules .now) (start .args .rule-text .now) (start .args .clause) _ (c .before .before .before .clause10 .given .1) (c .fresh-turn .ensures .0 (start .args .text .now) (beforeIn (start .args .rules .now) (start .args .rule-text .now) (start .args .p .rule .0) (start .args .i)) (c .before .members-in .ensures (start .args .text .now)))
+    turned-as (start .args .rules .now) (start .args .rule-text .now) (start .args .clause) _ (c .before .before .before .clause10 .given .1) (c .fresh-turn .ensures .0 (start .args .text .now) (c .before .members-in .ensures (start .args .text .now)) (beforeIn (start .args .rules .now) (start .args .rule-text .now) (start .args .p .rule .0) (start .args .i)))
 
 returns-11 : tie.Need-returns-11
 returns-11 c =
     let start = c .before .before .before .before .before .before .before .before .before .before .before in
-    turned-as (start .args .rules .now) (start .args .rule-text .now) (start .args .clause) _ (c .before .before .before .clause11 .given .1) (c .fresh-turn2 .ensures .1 (start .args .text .now) (beforeIn (start .args .rules .now) (start .args .rule-text .now) (start .args .p .rule .0) (start .args .i)) (c .before .elements-in .ensures (start .args .text .now)))
+    turned-as (start .args .rules .now) (start .args .rule-text .now) (start .args .clause) _ (c .before .before .before .clause11 .given .1) (c .fresh-turn2 .ensures .1 (start .args .text .now) (c .before .elements-in .ensures (start .args .text .now)) (beforeIn (start .args .rules .now) (start .args .rule-text .now) (start .args .p .rule .0) (start .args .i)))
 
 returns-12 : tie.Need-returns-12
 returns-12 c =
