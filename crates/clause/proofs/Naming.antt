@@ -3,16 +3,19 @@
 --     child-found                  the search that was made is the search that is meant
 --     compared                     a row has a name, by the names that were compared
 --     alone                        where no two children share a name, the one that has it is the first
+--     is-missed, is-found, not-end whether the place that was found is the end
 --     has-members                  what is an object by its kind's number is one
 --     entry-lacks, entry-has       no child has an entry's name, or one has it, by what the search gave
 --     no-object, lacks, has-all    what `required` says of a row
 -- Assumes nothing.
-use mathlib.Core.Bool.{Bool, true, false}
+use mathlib.Core.Bool.{Bool, true, false, not}
 use mathlib.Core.List.{List, [], map}
 use mathlib.Core.Logic.{⊎-elim}
 use mathlib.Core.Path.{_≡_, refl, sym, ap, _∙_}
 use Prim.Native.Nat.{ℕ, _+_, _-_, _≤_, _<_}
 use native.Mathlib.Omega.{arith}
+use lib.Dec.{eqb}
+use borrow.Author.Tests.{eqb-true, eq-eqb, not-true, not-false}
 use Rattle.laws.specs.Lowest.{lowest}
 use Rattle.laws.proofs.Tests.{decide}
 use Rattle.laws.proofs.Searches.{clear-below, holds-at, at-most-end, lowest-is}
@@ -34,7 +37,7 @@ use Rattle.meaning.specs.Lists.{any, range}
 use Rattle.meaning.specs.Tests.{members?, given}
 use Rattle.meaning.specs.Rules.{called, present}
 use Rattle.clause.specs.Read.{childNamed}
-use Rattle.clause.proofs.Having.{isOf, never, members-found, no-members}
+use Rattle.clause.proofs.Having.{isOf, never, never-not, members-found, no-members}
 use Rattle.clause.proofs.Listing.{range-run, any-found, any-nowhere, entries-all, entry-missed}
 
 pub child-inside : (ws ts : List ℕ) (form : RecordForm) → Laid ws form → (j first count i : ℕ) → j < form .rows
@@ -100,6 +103,16 @@ module _ (d : Doc) (j : ℕ) (name : List ℕ) where
         in-order
         ∙ any-found (λ k. called d name k) count first (first + r) (omega arith) (omega arith)
         (ap (λ (k : ℕ). called d name (first + k)) read ∙ holds-at (λ k. called d name (first + k)) count 0 (omega (arith, read)))
+
+-- by whether the place that was found is the end
+pub is-missed : {r : Bool} {k n : ℕ} → r ≡ not (eqb k n) → r ≡ false → k ≡ n
+is-missed {r} {k} {n} is e = eqb-true k n (not-false (eqb k n) (sym is ∙ e))
+
+pub is-found : {r : Bool} {k n : ℕ} → r ≡ not (eqb k n) → r ≡ true → k ≡ n → ⊥
+is-found {r} {k} {n} is e same = never-not (sym (eq-eqb k n same) ∙ not-true (eqb k n) (sym is ∙ e))
+
+pub not-end : {at k members n : ℕ} → at < n → at ≡ k → members ≡ n → k ≡ members → ⊥
+not-end h e f g = omega arith
 
 pub has-members : (v : Value) → isOf 6 v ≡ true → isObject v ≡ true
 has-members null t = absurd (never t)

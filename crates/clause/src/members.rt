@@ -1,11 +1,12 @@
 // The children of a row by name, and the keyword `required`.
-ghost use mathlib.Core.Bool.{true};
+ghost use mathlib.Core.Bool.{true, not};
 ghost use mathlib.Core.List.{map};
 ghost use mathlib.Core.Path.{_≡_};
 ghost use Prim.Native.Nat.{_<_};
+ghost use lib.Dec.{eqb};
 ghost use lib.ListN.{length};
 ghost use Rattle.text.specs.Part.{fits, part};
-ghost use Rattle.sheet.specs.Doc.{isObject};
+ghost use Rattle.sheet.specs.Doc.{childCount, isObject};
 ghost use Rattle.sheet.specs.Record.{docOf};
 ghost use Rattle.rulesheet.specs.declared.code.Fields.the-variants.{Names};
 ghost use Rattle.rulesheet.specs.Codes.{entryName};
@@ -26,7 +27,7 @@ use text::Range;
 use text::same_part;
 
 // Whether the row has this name: the bytes of this range of the rule text.
-pub fn has_name<'a>(
+fn has_name<'a>(
     record: &[u32],
     text: &'a [u8],
     form: RecordForm,
@@ -41,8 +42,63 @@ pub fn has_name<'a>(
     same_part(text, name_of(record, form, row), rule_text, name)
 }
 
-// Which child of the row, an object, has this name, counted from 0; the number of children if none
-// has. The child at `hint` is tried first: members mostly stand in the order of the rules.
+// Whether the row, an object, has a child at this place that has the name: no other has it then.
+fn named_at<'a>(
+    record: &[u32],
+    text: &'a [u8],
+    form: RecordForm,
+    row: RecordRow,
+    rule_text: &'a [u8],
+    name: Range,
+    at: u32,
+) -> bool
+    requires { ⌜ RecordRead (now «record») (now text) form × (row .0 < form .rows) × (isObject (docOf (now «record») (now text) .value (row .0)) ≡ true) ⌝ }
+    requires { ⌜ fits (length (now «rule_text»)) name ≡ true ⌝ }
+    ensures { λ r. ⌜ (r ≡ true → (at < childCount (docOf (now («record» .entry)) (now (text .entry)) .value (row .0))) × (at ≡ childNamed (docOf (now («record» .entry)) (now (text .entry))) (row .0) (part (now («rule_text» .entry)) name))) ⌝ }
+{
+    let children = children_of(record, form, row);
+    if at < children.count {
+        return has_name(
+            record,
+            text,
+            form,
+            RecordRow(children.first + at),
+            rule_text,
+            name,
+        );
+    }
+    false
+}
+
+// Which child of the row, counted from 0, is the first that has this name; the number of children if
+// none has.
+fn first_named<'a>(
+    record: &[u32],
+    text: &'a [u8],
+    form: RecordForm,
+    row: RecordRow,
+    rule_text: &'a [u8],
+    name: Range,
+) -> u32
+    requires { ⌜ RecordRead (now «record») (now text) form × (row .0 < form .rows) ⌝ }
+    requires { ⌜ fits (length (now «rule_text»)) name ≡ true ⌝ }
+    ensures { λ r. ⌜ r ≡ childNamed (docOf (now («record» .entry)) (now (text .entry))) (row .0) (part (now («rule_text» .entry)) name) ⌝ }
+{
+    let children = children_of(record, form, row);
+    let first = children.first;
+    let count = children.count;
+    let mut i = 0;
+    while i < count {
+        if has_name(record, text, form, RecordRow(first + i), rule_text, name) {
+            return i;
+        }
+        i += 1;
+    }
+    i
+}
+
+// The same of an object. The child at `hint` is tried first: members mostly stand in the order of the
+// rules.
 pub fn child_named<'a>(
     record: &[u32],
     text: &'a [u8],
@@ -56,22 +112,31 @@ pub fn child_named<'a>(
     requires { ⌜ fits (length (now «rule_text»)) name ≡ true ⌝ }
     ensures { λ r. ⌜ r ≡ childNamed (docOf (now («record» .entry)) (now (text .entry))) (row .0) (part (now («rule_text» .entry)) name) ⌝ }
 {
-    let children = children_of(record, form, row);
-    let first = children.first;
-    let count = children.count;
-    if hint < count {
-        if has_name(record, text, form, RecordRow(first + hint), rule_text, name) {
-            return hint;
-        }
+    if named_at(record, text, form, row, rule_text, name, hint) {
+        return hint;
     }
-    let mut i = 0;
-    while i < count {
-        if has_name(record, text, form, RecordRow(first + i), rule_text, name) {
-            return i;
-        }
-        i += 1;
+    first_named(record, text, form, row, rule_text, name)
+}
+
+// Whether one of the members of the row, an object, has this name; that at `hint` is tried first.
+fn has_member<'a>(
+    record: &[u32],
+    text: &'a [u8],
+    form: RecordForm,
+    row: RecordRow,
+    rule_text: &'a [u8],
+    name: Range,
+    hint: u32,
+    members: u32,
+) -> bool
+    requires { ⌜ RecordRead (now «record») (now text) form × (row .0 < form .rows) × (isObject (docOf (now «record») (now text) .value (row .0)) ≡ true) ⌝ }
+    requires { ⌜ (fits (length (now «rule_text»)) name ≡ true) × (members ≡ childCount (docOf (now «record») (now text) .value (row .0))) ⌝ }
+    ensures { λ r. ⌜ r ≡ not (eqb (childNamed (docOf (now («record» .entry)) (now (text .entry))) (row .0) (part (now («rule_text» .entry)) name)) members) ⌝ }
+{
+    if named_at(record, text, form, row, rule_text, name, hint) {
+        return true;
     }
-    i
+    first_named(record, text, form, row, rule_text, name) != members
 }
 
 // Whether the row, if it is an object, has a member of each name of the list.
@@ -97,7 +162,7 @@ pub(crate) fn required<'a>(
     let mut i = 0;
     while i < many {
         let name = entry_name(rules, rule_form, list, i);
-        if child_named(record, text, form, row, rule_text, name, i) == members {
+        if !has_member(record, text, form, row, rule_text, name, i, members) {
             return false;
         }
         i += 1;

@@ -1,89 +1,25 @@
--- `child_named` meets its contract: what is left of the search tells what the whole tells, and no two children share a name. Assumes nothing.
-use mathlib.Core.Path.{sym, _∙_}
-use Prim.Native.Nat.{_+_, _-_}
-use native.Mathlib.Omega.{arith}
+-- `child_named` meets its contract. Assumes nothing.
 use borrow.Author.Needs.{needs}
-use Rattle.laws.proofs.Passing.{Passing, begin, here, further, nowhere}
-use Rattle.text.specs.Part.{part}
-use Rattle.sheet.specs.Record.{docOf}
-use Rattle.meaning.specs.Rules.{called}
-use Rattle.clause.proofs.Naming.{child-inside, child-found, alone}
 use Rattle.clause.proofs.members.child_named.Statement.{statement}
 use Rattle.clause.proofs.members.child_named.Tie as tie
 
-abbrev Inv-loop : tie.InvT-loop
-Inv-loop «record» text form rule-text name hint first count i₀ i = Passing (λ k. called (docOf «record» text) (part rule-text name) (first + k)) count i
+named-at-requires : tie.Need-named-at-requires
+named-at-requires c κs = (c .before .before .before .pre .0, c .before .before .before .pre .1)
 
-abbrev μ-loop : tie.MeasureT-loop
-μ-loop «record» text form rule-text name hint first count i₀ i = count - i
+returns : tie.Need-returns
+returns c = c .before .named-at .ensures (c .if1 .taken) .1
 
-children-of-requires : tie.Need-children-of-requires Inv-loop μ-loop
-children-of-requires c κs = (c .before .before .before .pre .0 .0 .laid .formed, c .before .before .before .pre .0 .1)
+first-named-requires : tie.Need-first-named-requires
+first-named-requires c κs = ((c .before .before .before .before .before .pre .0 .0, c .before .before .before .before .before .pre .0 .1), c .before .before .before .before .before .pre .1)
 
-add-t14 : tie.Need-add-t14 Inv-loop μ-loop
-add-t14 c =
-    let start = c .before .before .before .before .before in
-    omega (arith, child-inside (start .args .«record» .now) (start .args .text .now) (start .args .form) (start .pre .0 .0 .laid) (start .args .row .0) (c .before .children-of .result .first) (c .before .children-of .result .count) (start .args .hint) (start .pre .0 .1) (c .before .children-of .ensures .first-is (start .args .text .now)) (c .before .children-of .ensures .count-is (start .args .text .now)) (omega arith))
-
-has-name-requires : tie.Need-has-name-requires Inv-loop μ-loop
-has-name-requires c κs =
-    let start = c .before .before .before .before .before in
-    ((start .pre .0 .0, child-inside (start .args .«record» .now) (start .args .text .now) (start .args .form) (start .pre .0 .0 .laid) (start .args .row .0) (c .before .children-of .result .first) (c .before .children-of .result .count) (start .args .hint) (start .pre .0 .1) (c .before .children-of .ensures .first-is (start .args .text .now)) (c .before .children-of .ensures .count-is (start .args .text .now)) (omega arith) .0), start .pre .1)
-
-returns : tie.Need-returns Inv-loop μ-loop
-returns c =
-    let start = c .before .before .before .before .before .before .before in
-    let ts = start .args .text .now in
-    let j = start .args .row .0 in
-    alone (docOf (start .args .«record» .now) ts) j (part (start .args .rule-text .now) (start .args .name)) (λ k l. start .pre .0 .0 .differ j k l (start .pre .0 .1) (start .pre .0 .2)) _ _ _ (c .before .before .before .children-of .ensures .first-is ts) (c .before .before .before .children-of .ensures .count-is ts) (omega arith) (sym (c .before .has-name .ensures) ∙ c .if2 .taken)
-
-loop-holds : tie.Need-loop-holds Inv-loop μ-loop
-loop-holds c = begin _ _
-
-add-t18 : tie.Need-add-t18 Inv-loop μ-loop
-add-t18 c =
-    let start = c .before .before .before .before .before .before .before in
-    omega (arith, child-inside (start .args .«record» .now) (start .args .text .now) (start .args .form) (start .pre .0 .0 .laid) (start .args .row .0) (c .before .before .before .children-of .result .first) (c .before .before .before .children-of .result .count) (c .before .loop .i) (start .pre .0 .1) (c .before .before .before .children-of .ensures .first-is (start .args .text .now)) (c .before .before .before .children-of .ensures .count-is (start .args .text .now)) (omega arith))
-
-has-name-requires-2 : tie.Need-has-name-requires-2 Inv-loop μ-loop
-has-name-requires-2 c κs =
-    let start = c .before .before .before .before .before .before .before in
-    ((start .pre .0 .0, child-inside (start .args .«record» .now) (start .args .text .now) (start .args .form) (start .pre .0 .0 .laid) (start .args .row .0) (c .before .before .before .children-of .result .first) (c .before .before .before .children-of .result .count) (c .before .loop .i) (start .pre .0 .1) (c .before .before .before .children-of .ensures .first-is (start .args .text .now)) (c .before .before .before .children-of .ensures .count-is (start .args .text .now)) (omega arith) .0), start .pre .1)
-
-returns-2 : tie.Need-returns-2 Inv-loop μ-loop
-returns-2 c =
-    let start = c .before .before .before .before .before .before .before .before .before in
-    child-found (docOf (start .args .«record» .now) (start .args .text .now)) (start .args .row .0) (part (start .args .rule-text .now) (start .args .name)) _ _ _ (c .before .before .before .before .before .children-of .ensures .first-is (start .args .text .now)) (c .before .before .before .before .before .children-of .ensures .count-is (start .args .text .now)) (here (c .before .before .before .loop .inv) (omega arith) (sym (c .before .has-name2 .ensures) ∙ c .if3 .taken))
-
-add-i : tie.Need-add-i Inv-loop μ-loop
-add-i c = search needs
-
-loop-less : tie.Need-loop-less Inv-loop μ-loop
-loop-less c = search needs
-
-loop-again : tie.Need-loop-again Inv-loop μ-loop
-loop-again c = further (c .before .before .before .loop .inv) (omega arith) (sym (c .before .has-name2 .ensures) ∙ c .if3 .left)
-
-returns-3 : tie.Need-returns-3 Inv-loop μ-loop
-returns-3 c =
-    let start = c .before .before .before .before .before .before .before in
-    child-found (docOf (start .args .«record» .now) (start .args .text .now)) (start .args .row .0) (part (start .args .rule-text .now) (start .args .name)) _ _ _ (c .before .before .before .children-of .ensures .first-is (start .args .text .now)) (c .before .before .before .children-of .ensures .count-is (start .args .text .now)) (nowhere (c .before .loop .inv) (omega arith))
+returns-2 : tie.Need-returns-2
+returns-2 c = c .first-named .ensures
 
 pub child-named-spec : {M : Type 1} → statement M
 child-named-spec =
     tie.close
     (tie.spec
-    Inv-loop
-    μ-loop
-    children-of-requires
-    add-t14
-    has-name-requires
+    named-at-requires
     returns
-    loop-holds
-    add-t18
-    has-name-requires-2
-    returns-2
-    add-i
-    loop-less
-    loop-again
-    returns-3)
+    first-named-requires
+    returns-2)

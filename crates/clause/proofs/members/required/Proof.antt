@@ -11,7 +11,7 @@ use Rattle.sheet.specs.Record.{docOf}
 use Rattle.rulesheet.specs.Codes.{entryName}
 use Rattle.rulesheet.specs.Sheet.{entryAt}
 use Rattle.clause.proofs.Listing.{list-few}
-use Rattle.clause.proofs.Naming.{has-members, isNamed, entry-lacks, entry-has, no-object, lacks, has-all}
+use Rattle.clause.proofs.Naming.{has-members, is-missed, is-found, isNamed, entry-lacks, entry-has, no-object, lacks, has-all}
 use Rattle.clause.proofs.members.required.Statement.{statement}
 use Rattle.clause.proofs.members.required.Tie as tie
 
@@ -40,15 +40,15 @@ loop-holds c =
 entry-name-requires : tie.Need-entry-name-requires Inv-loop μ-loop
 entry-name-requires c κs = (c .before .before .before .before .before .before .before .before .before .pre .1 .0 .laid .clauses-laid .schemas-laid .formed, c .before .before .before .before .before .before .before .before .before .pre .1 .1 .within, omega arith)
 
-child-named-requires : tie.Need-child-named-requires Inv-loop μ-loop
-child-named-requires c κs =
+has-member-requires : tie.Need-has-member-requires Inv-loop μ-loop
+has-member-requires c κs =
     let start = c .before .before .before .before .before .before .before .before .before .before in
-    ((start .pre .0 .0, start .pre .0 .1, has-members (docOf (start .args .«record» .now) (start .args .text .now) .value (start .args .row .0)) (sym (c .before .before .before .before .before .is-kind .ensures (start .args .text .now)) ∙ not-false _ (c .before .before .before .before .if1 .left))), rw (start .pre .1 .0 .text-length) (c .entry-name .ensures .name-fits Names refl (start .pre .1 .1 .listed)))
+    ((start .pre .0 .0, start .pre .0 .1, has-members (docOf (start .args .«record» .now) (start .args .text .now) .value (start .args .row .0)) (sym (c .before .before .before .before .before .is-kind .ensures (start .args .text .now)) ∙ not-false _ (c .before .before .before .before .if1 .left))), (rw (start .pre .1 .0 .text-length) (c .entry-name .ensures .name-fits Names refl (start .pre .1 .1 .listed)), c .before .before .before .children-of .ensures .count-is (start .args .text .now)))
 
 returns-2 : tie.Need-returns-2 Inv-loop μ-loop
 returns-2 c =
     let start = c .before .before .before .before .before .before .before .before .before .before .before .before in
-    lacks (docOf (start .args .«record» .now) (start .args .text .now)) (start .args .row .0) (start .args .rules .now) (start .args .rule-text .now) (start .args .list) (sym (c .before .before .before .before .before .before .before .is-kind .ensures (start .args .text .now)) ∙ not-false _ (c .before .before .before .before .before .before .if1 .left)) (c .before .before .before .before .loop .i) (omega arith) (entry-lacks (docOf (start .args .«record» .now) (start .args .text .now)) (start .args .row .0) (start .args .rules .now) (start .args .rule-text .now) (start .args .list) (c .before .before .before .before .loop .i) (omega arith) _ (c .before .before .entry-name .ensures) _ _ (c .before .child-named .ensures) (c .before .before .before .before .before .children-of .ensures .count-is (start .args .text .now)) (c .if2 .taken))
+    lacks (docOf (start .args .«record» .now) (start .args .text .now)) (start .args .row .0) (start .args .rules .now) (start .args .rule-text .now) (start .args .list) (sym (c .before .before .before .before .before .before .before .is-kind .ensures (start .args .text .now)) ∙ not-false _ (c .before .before .before .before .before .before .if1 .left)) (c .before .before .before .before .loop .i) (omega arith) (entry-lacks (docOf (start .args .«record» .now) (start .args .text .now)) (start .args .row .0) (start .args .rules .now) (start .args .rule-text .now) (start .args .list) (c .before .before .before .before .loop .i) (omega arith) _ (c .before .before .entry-name .ensures) _ _ refl (c .before .before .before .before .before .children-of .ensures .count-is (start .args .text .now)) (is-missed (c .before .has-member .ensures) (not-true _ (c .if2 .taken))))
 
 add-i : tie.Need-add-i Inv-loop μ-loop
 add-i c = omega (arith, list-few (c .before .before .before .before .before .before .before .before .before .before .before .before .pre .1 .0) (c .before .before .before .before .before .before .before .before .before .before .before .before .pre .1 .1))
@@ -59,7 +59,7 @@ loop-less c = search needs
 loop-again : tie.Need-loop-again Inv-loop μ-loop
 loop-again c =
     let start = c .before .before .before .before .before .before .before .before .before .before .before .before in
-    (omega arith, below-more (λ (k : ℕ). isNamed (docOf (start .args .«record» .now) (start .args .text .now)) (start .args .row .0) (entryName (start .args .rule-text .now) (entryAt (start .args .rules .now) ((start .args .list) .first + k))) ≡ true) (c .before .before .before .before .loop .i) (c .before .before .before .before .loop .inv .1) (entry-has (docOf (start .args .«record» .now) (start .args .text .now)) (start .args .row .0) (start .args .rules .now) (start .args .rule-text .now) (start .args .list) (c .before .before .before .before .loop .i) (omega arith) _ (c .before .before .entry-name .ensures) _ _ (c .before .child-named .ensures) (c .before .before .before .before .before .children-of .ensures .count-is (start .args .text .now)) (c .if2 .left)))
+    (omega arith, below-more (λ (k : ℕ). isNamed (docOf (start .args .«record» .now) (start .args .text .now)) (start .args .row .0) (entryName (start .args .rule-text .now) (entryAt (start .args .rules .now) ((start .args .list) .first + k))) ≡ true) (c .before .before .before .before .loop .i) (c .before .before .before .before .loop .inv .1) (entry-has (docOf (start .args .«record» .now) (start .args .text .now)) (start .args .row .0) (start .args .rules .now) (start .args .rule-text .now) (start .args .list) (c .before .before .before .before .loop .i) (omega arith) _ (c .before .before .entry-name .ensures) _ _ refl (c .before .before .before .before .before .children-of .ensures .count-is (start .args .text .now)) (is-found (c .before .has-member .ensures) (not-false _ (c .if2 .left)))))
 
 returns-3 : tie.Need-returns-3 Inv-loop μ-loop
 returns-3 c =
@@ -77,7 +77,7 @@ required-spec =
     children-of-requires
     loop-holds
     entry-name-requires
-    child-named-requires
+    has-member-requires
     returns-2
     add-i
     loop-less
