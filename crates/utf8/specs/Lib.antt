@@ -1,0 +1,4 @@
+pub mod Encoding
+pub mod Automaton
+pub mod Counting
+pub mod Places
