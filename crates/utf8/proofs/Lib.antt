@@ -11,4 +11,5 @@ pub mod Passing
 pub mod Runs
 pub mod Skips
 pub mod Reading
+pub mod Reaching
 pub mod Samples

@@ -2,3 +2,4 @@ pub mod Encoding
 pub mod Automaton
 pub mod Counting
 pub mod Places
+pub mod Reach

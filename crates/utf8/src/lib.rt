@@ -17,6 +17,7 @@ use crate::state::step;
 use text::Range;
 
 pub mod ascii;
+pub mod reach;
 pub mod state;
 
 // Whether the range's bytes are UTF-8.
@@ -68,7 +69,7 @@ pub fn characters(text: &[u8], range: Range) -> u32
 }
 
 // Whether the place is inside a character of a text that is UTF-8.
-fn inside(text: &[u8], at: usize) -> bool
+pub(crate) fn inside(text: &[u8], at: usize) -> bool
     ensures { λ r. ⌜ r ≡ insideOf (now (text .entry)) at ⌝ }
 {
     if at >= text.len() {
