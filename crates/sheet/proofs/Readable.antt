@@ -31,11 +31,11 @@ use Rattle.sheet.specs.Faults.{notUtf8}
 use Rattle.sheet.specs.Accepted.{Laid}
 use Rattle.sheet.proofs.Values.{value-read, name-read, string-read}
 
-other : {A : Type 0} (a b : ℕ) → eqb a b ≡ false → a ≡ b → A
+pub other : {A : Type 0} (a b : ℕ) → eqb a b ≡ false → a ≡ b → A
 other a b f e = absurd (clash (eq-eqb a b e) f)
 
 module _ (ts : List ℕ) (first count : ℕ) where
-  string-kind : (kind : RowKind) → kindNumber kind ≡ kindNumber String → valueBy kind ts first count ≡ string (part ts (record { start = first; length = count }))
+  pub string-kind : (kind : RowKind) → kindNumber kind ≡ kindNumber String → valueBy kind ts first count ≡ string (part ts (record { start = first; length = count }))
   string-kind Null e = other 0 4 refl e
   string-kind False e = other 1 4 refl e
   string-kind True e = other 2 4 refl e
@@ -44,7 +44,7 @@ module _ (ts : List ℕ) (first count : ℕ) where
   string-kind Array e = other 5 4 refl e
   string-kind Object e = other 6 4 refl e
 
-  no-string : (kind : RowKind) → (kindNumber kind ≡ kindNumber String → ⊥) → stringBytes (valueBy kind ts first count) ≡ []
+  pub no-string : (kind : RowKind) → (kindNumber kind ≡ kindNumber String → ⊥) → stringBytes (valueBy kind ts first count) ≡ []
   no-string Null n = refl
   no-string False n = refl
   no-string True n = refl
