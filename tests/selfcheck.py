@@ -1,7 +1,7 @@
 #!/usr/bin/env python3
 """Runs second.py over generated cases and checks what paper 01 states of every answer.
 
-Written, like second.py and sheets.py, from paper 01 alone. Prints how often each answer
+Written, like second.py and sheets.py, from paper 01 and request #102 of 02 alone. Prints how often each answer
 came up for each group of cases, then `N passed, 0 failed`.
 
     python3 selfcheck.py [COUNT [SEED]]     5,000 cases of seed 1 unless given
@@ -16,8 +16,8 @@ import judged
 import second
 import sheets
 
-ANSWERS = ['valid', 'invalid'] + ['refused %d' % number for number in range(1, 12)]
-PRINTED = re.compile(rb'bad bundle\n|too large\n|refused [1-9] \d+\n'
+ANSWERS = ['valid', 'invalid'] + ['refused %d' % number for number in (*range(1, 12), 13)]
+PRINTED = re.compile(rb'bad bundle\n|too large\n|refused ([1-9]|13) \d+\n'
                      rb'|(in)?valid\npairs \d+ marked \d+\n(\d+ \d+ (held|failed)\n)+')
 
 
@@ -68,10 +68,11 @@ def place_in_range(answer, record, rules):
     number, place = answer.number, answer.place
     if number in (1, 5):
         return place == 0
-    if number <= 4:
+    if number <= 4 or number == 13 and second.check_record(*record)[0] == 'refused':
         return place < record[0][-4]
     m, c, e = rules[0][-6:-3]
-    lowest, end = {6: (0, m + c + e), 7: (m + c + 1, m + c + e), 8: (0, m), 9: (0, m)}[number]
+    lowest, end = {6: (0, m + c + e), 7: (m + c + 1, m + c + e), 13: (m + c, m + c + e), 8: (0, m),
+                   9: (0, m)}[number]
     return lowest <= place < end
 
 
@@ -211,7 +212,7 @@ def check_bundles(results, seed, count):
 
 def check_spread(results):
     """Every refusal comes up often enough, and both verdicts do."""
-    for number in range(1, 10):
+    for number in (*range(1, 10), 13):
         results.check(results.total('refused %d' % number) >= 50, 'refusal %d is rare' % number)
     valid, invalid = results.total('valid'), results.total('invalid')
     for some in (valid, invalid):
