@@ -3,11 +3,12 @@
 use mathlib.Core.List.{List}
 use mathlib.Core.Logic.{inl, inr, ⊎-elim}
 use mathlib.Core.Path.{_≡_, refl, subst, _∙_}
-use Prim.Native.Nat.{ℕ, _+_, _/_, _≤_, _<_}
+use Prim.Native.Nat.{ℕ, _+_, _≤_, _<_}
 use native.Mathlib.Omega.{arith}
+use lib.Bits.{bitOr, or-add-and, and-le-l, and-le-r}
 use lib.ListN.{getD}
 use Rattle.utf8.specs.declared.state.State.{State}
-use Rattle.utf8.specs.Places.{High, Ascii, AsciiTo, Onward}
+use Rattle.utf8.specs.Places.{Bits, Ascii, AsciiTo, Onward}
 use Rattle.laws.proofs.Tests.{le-or-lt}
 
 pub none : (text : List ℕ) (a : ℕ) → Ascii text a a
@@ -24,15 +25,17 @@ module _ (text : List ℕ) (a b c : ℕ) where
 pub one : (text : List ℕ) (a : ℕ) → getD text a 0 < 0x80 → Ascii text a (a + 1)
 one text a h = λ (i : ℕ) (l : a ≤ i) (m : i < a + 1). let e : a ≡ i = omega arith in subst (λ (k : ℕ). getD text k 0 < 0x80) e h
 
-pub high-one : (text : List ℕ) (at r : ℕ) → getD text at 0 < 256 → r ≡ getD text at 0 / 128 → High text at 1 r
-high-one text at r h e = record { few = omega arith; low = λ (z : r ≡ 0). one text at (omega arith) }
+pub bits-one : (text : List ℕ) (at : ℕ) → Bits text at 1 (getD text at 0)
+bits-one text at = record { low = one text at }
 
-pub doubled : (text : List ℕ) (at n : ℕ) {a b : ℕ} → High text at n a → High text (at + n) n b → High text at (n + n) (a + b)
+pub doubled : (text : List ℕ) (at n : ℕ) {a b : ℕ} → Bits text at n a → Bits text (at + n) n b → Bits text at (n + n) (bitOr a b)
 doubled text at n {a} {b} p q =
     record {
-      few = omega (arith, p .few, q .few);
       low =
-          λ (z : a + b ≡ 0).
+          λ (h : bitOr a b < 0x80).
+          let sum = or-add-and a b in
+          let left = and-le-l a b in
+          let right = and-le-r a b in
           let e : (at + n) + n ≡ at + (n + n) = omega arith in
           subst (λ (k : ℕ). Ascii text at k) e (join text at (at + n) ((at + n) + n) (p .low (omega arith)) (q .low (omega arith)));
     }
@@ -51,8 +54,8 @@ onward {text} {from} {end} {at} to p l h q =
 pub one-more : {text : List ℕ} {from end at : ℕ} → Passed text from end at → at < end → getD text at 0 < 0x80 → Passed text from end (at + 1)
 one-more {text} {from} {end} {at} p l h = onward (at + 1) p (omega arith) (omega arith) (one text at h)
 
-pub eight-more : {text : List ℕ} {from end at : ℕ} → Passed text from end at → at + 8 ≤ end → Ascii text at (at + 8) → Passed text from end (at + 8)
-eight-more {at = at} p l q = onward (at + 8) p (omega arith) l q
+pub more : (n : ℕ) {text : List ℕ} {from end at : ℕ} → Passed text from end at → at + n ≤ end → Ascii text at (at + n) → Passed text from end (at + n)
+more n {at = at} p l q = onward (at + n) p (omega arith) l q
 
 -- a run, and what a further look finds after it
 pub continued : {text : List ℕ} {from end at r : ℕ} → Passed text from end at → AsciiTo text at end r → AsciiTo text from end r

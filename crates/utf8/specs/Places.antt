@@ -21,10 +21,9 @@ inside text at = ltb at (length text) && continues (getD text at 0)
 abbrev pub Ascii : List ℕ → ℕ → ℕ → Type 0
 Ascii text from to = (i : ℕ) → from ≤ i → i < to → getD text i 0 < 0x80
 
--- r is at most n, and 0 only where n places have ASCII
-pub record High (text : List ℕ) (at n r : ℕ) : Type 0 where
-  pub few : r ≤ n
-  pub low : r ≡ 0 → Ascii text at (at + n)
+-- r has the bits of all of n bytes, so that it is ASCII only where they are
+pub record Bits (text : List ℕ) (at n r : ℕ) : Type 0 where
+  pub low : r < 0x80 → Ascii text at (at + n)
 
 -- ASCII goes on from one place to r, and no further than the end
 pub record AsciiTo (text : List ℕ) (from end r : ℕ) : Type 0 where

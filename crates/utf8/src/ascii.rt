@@ -1,31 +1,46 @@
 // How far ASCII goes on from a place of a text. Contracts cite `specs/Places.antt`.
+//
+// Bytes are taken together by `|`, of which the compiler makes a few steps for 32 of them.
 ghost use mathlib.Core.Path.{_≡_};
 ghost use mathlib.Core.Bool.{true};
 ghost use Prim.Native.Nat.{_+_, _≤_};
 ghost use lib.ListN.{length};
-ghost use Rattle.utf8.specs.Places.{High, Ascii, AsciiTo};
+ghost use Rattle.utf8.specs.Places.{Bits, Ascii, AsciiTo};
 
-// How many of the bytes from a place on are not ASCII: of one byte, of two, of four.
-fn high_one(text: &[u8], at: usize) -> u32
+// The bits that stand in any of the bytes from a place on: of one byte, of two, of four, and so on.
+fn bits_one(text: &[u8], at: usize) -> u8
     requires { ⌜ at + 1 ≤ length (now text) ⌝ }
-    ensures { λ r. ⌜ High (now (text .entry)) at 1 r ⌝ }
+    ensures { λ r. ⌜ Bits (now (text .entry)) at 1 r ⌝ }
 {
-    let b = text[at];
-    (b / 128) as u32
+    text[at]
 }
 
-fn high_two(text: &[u8], at: usize) -> u32
+fn bits_two(text: &[u8], at: usize) -> u8
     requires { ⌜ at + 2 ≤ length (now text) ⌝ }
-    ensures { λ r. ⌜ High (now (text .entry)) at 2 r ⌝ }
+    ensures { λ r. ⌜ Bits (now (text .entry)) at 2 r ⌝ }
 {
-    high_one(text, at) + high_one(text, at + 1)
+    bits_one(text, at) | bits_one(text, at + 1)
 }
 
-fn high_four(text: &[u8], at: usize) -> u32
+fn bits_four(text: &[u8], at: usize) -> u8
     requires { ⌜ at + 4 ≤ length (now text) ⌝ }
-    ensures { λ r. ⌜ High (now (text .entry)) at 4 r ⌝ }
+    ensures { λ r. ⌜ Bits (now (text .entry)) at 4 r ⌝ }
 {
-    high_two(text, at) + high_two(text, at + 2)
+    bits_two(text, at) | bits_two(text, at + 2)
+}
+
+fn bits_eight(text: &[u8], at: usize) -> u8
+    requires { ⌜ at + 8 ≤ length (now text) ⌝ }
+    ensures { λ r. ⌜ Bits (now (text .entry)) at 8 r ⌝ }
+{
+    bits_four(text, at) | bits_four(text, at + 4)
+}
+
+fn bits_sixteen(text: &[u8], at: usize) -> u8
+    requires { ⌜ at + 16 ≤ length (now text) ⌝ }
+    ensures { λ r. ⌜ Bits (now (text .entry)) at 16 r ⌝ }
+{
+    bits_eight(text, at) | bits_eight(text, at + 8)
 }
 
 // Whether the eight bytes from a place on are ASCII.
@@ -33,7 +48,15 @@ fn ascii_eight(text: &[u8], at: usize) -> bool
     requires { ⌜ at + 8 ≤ length (now text) ⌝ }
     ensures { λ r. ⌜ (r ≡ true → Ascii (now (text .entry)) at (at + 8)) ⌝ }
 {
-    high_four(text, at) + high_four(text, at + 4) == 0
+    bits_eight(text, at) < 128
+}
+
+// Whether the 32 bytes from a place on are ASCII.
+fn ascii_block(text: &[u8], at: usize) -> bool
+    requires { ⌜ at + 32 ≤ length (now text) ⌝ }
+    ensures { λ r. ⌜ (r ≡ true → Ascii (now (text .entry)) at (at + 32)) ⌝ }
+{
+    (bits_sixteen(text, at) | bits_sixteen(text, at + 16)) < 128
 }
 
 // How far ASCII goes on from a place, looked at byte by byte.
@@ -52,10 +75,9 @@ fn ascii_end(text: &[u8], from: usize, end: usize) -> usize
 }
 
 // The same, eight bytes at a time while there are as many.
-pub(crate) fn ascii_run(text: &[u8], from: usize, end: usize) -> usize
+fn ascii_eights(text: &[u8], from: usize, end: usize) -> usize
     requires { ⌜ end ≤ length (now text) ⌝ }
-    requires { ⌜ from ≤ 0xFFFF_FFFF_FFFF ⌝ }
-    requires { ⌜ end ≤ 0xFFFF_FFFF_FFFF ⌝ }
+    requires { ⌜ (from ≤ 0xFFFF_FFFF_FFFF) × (end ≤ 0xFFFF_FFFF_FFFF) ⌝ }
     ensures { λ r. ⌜ AsciiTo (now (text .entry)) from end r ⌝ }
 {
     let mut at = from;
@@ -66,4 +88,20 @@ pub(crate) fn ascii_run(text: &[u8], from: usize, end: usize) -> usize
         at += 8;
     }
     ascii_end(text, at, end)
+}
+
+// The same, 32 bytes at a time while there are as many.
+pub(crate) fn ascii_run(text: &[u8], from: usize, end: usize) -> usize
+    requires { ⌜ end ≤ length (now text) ⌝ }
+    requires { ⌜ (from ≤ 0xFFFF_FFFF_FFFF) × (end ≤ 0xFFFF_FFFF_FFFF) ⌝ }
+    ensures { λ r. ⌜ AsciiTo (now (text .entry)) from end r ⌝ }
+{
+    let mut at = from;
+    while at + 32 <= end {
+        if !ascii_block(text, at) {
+            return ascii_eights(text, at, end);
+        }
+        at += 32;
+    }
+    ascii_eights(text, at, end)
 }

@@ -1,26 +1,15 @@
--- `utf8::ascii::ascii_eight` meets its contract. Twice four bytes, of which none is high.
+-- `utf8::ascii::ascii_eight` meets its contract. By the bits of all eight.
 -- Assumes nothing.
-use borrow.Author.Tests.{eqb-true}
-use Rattle.utf8.proofs.Runs.{doubled}
+use borrow.Author.Tests.{ltb-true}
 use borrow.Author.Needs.{needs}
 use Rattle.utf8.proofs.ascii.ascii_eight.Statement.{statement}
 use Rattle.utf8.proofs.ascii.ascii_eight.Tie as tie
 
-high-four-requires : tie.Need-high-four-requires
-high-four-requires c κs = search needs
-
-add-high-four : tie.Need-add-high-four
-add-high-four c = search needs
-
-high-four-requires-2 : tie.Need-high-four-requires-2
-high-four-requires-2 c κs = search needs
-
-add-result : tie.Need-add-result
-add-result c = search needs
+bits-eight-requires : tie.Need-bits-eight-requires
+bits-eight-requires c κs = search needs
 
 returns : tie.Need-returns
-returns c = λ e. doubled _ _ 4 (c .before .high-four .ensures) (c .high-four2 .ensures) .low (eqb-true _ _ e)
+returns c = λ t. c .bits-eight .ensures .low (ltb-true _ _ t)
 
 pub ascii-eight-spec : {M : Type 1} → statement M
-ascii-eight-spec =
-    tie.close (tie.spec high-four-requires add-high-four high-four-requires-2 add-result returns)
+ascii-eight-spec = tie.close (tie.spec bits-eight-requires returns)

@@ -3,9 +3,9 @@
 use mathlib.Core.Logic.{⊎-elim}
 use Prim.Native.Nat.{_-_}
 use native.Mathlib.Omega.{arith}
-use borrow.Author.Needs.{needs}
 use borrow.Author.Tests.{not-false}
-use Rattle.utf8.proofs.Runs.{Passed, begin, eight-more, continued}
+use Rattle.utf8.proofs.Runs.{Passed, begin, more, continued}
+use borrow.Author.Needs.{needs}
 use Rattle.utf8.proofs.ascii.ascii_run.Statement.{statement}
 use Rattle.utf8.proofs.ascii.ascii_run.Tie as tie
 
@@ -21,14 +21,14 @@ loop-holds c = begin _ _ _
 add-loop : tie.Need-add-loop Inv-loop μ-loop
 add-loop c = ⊎-elim (λ l. omega arith) (λ e. omega arith) (c .loop .inv .run .short)
 
-ascii-eight-requires : tie.Need-ascii-eight-requires Inv-loop μ-loop
-ascii-eight-requires c κs = omega arith
+ascii-block-requires : tie.Need-ascii-block-requires Inv-loop μ-loop
+ascii-block-requires c κs = omega arith
 
-ascii-end-requires : tie.Need-ascii-end-requires Inv-loop μ-loop
-ascii-end-requires c κs = search needs
+ascii-eights-requires : tie.Need-ascii-eights-requires Inv-loop μ-loop
+ascii-eights-requires c κs = omega arith
 
 returns : tie.Need-returns Inv-loop μ-loop
-returns c = continued (c .before .before .before .before .loop .inv) (c .ascii-end .ensures)
+returns c = continued (c .before .before .before .before .loop .inv) (c .ascii-eights .ensures)
 
 add-at : tie.Need-add-at Inv-loop μ-loop
 add-at c = omega arith
@@ -37,27 +37,13 @@ loop-less : tie.Need-loop-less Inv-loop μ-loop
 loop-less c = omega arith
 
 loop-again : tie.Need-loop-again Inv-loop μ-loop
-loop-again c = eight-more (c .before .before .before .loop .inv) (omega arith) (c .before .ascii-eight .ensures (not-false _ (c .if1 .left)))
+loop-again c = more 32 (c .before .before .before .loop .inv) (omega arith) (c .before .ascii-block .ensures (not-false _ (c .if1 .left)))
 
-ascii-end-requires-2 : tie.Need-ascii-end-requires-2 Inv-loop μ-loop
-ascii-end-requires-2 c κs = search needs
+ascii-eights-requires-2 : tie.Need-ascii-eights-requires-2 Inv-loop μ-loop
+ascii-eights-requires-2 c κs = ⊎-elim (λ l. omega arith) (λ e. omega arith) (c .before .loop .inv .run .short)
 
 returns-2 : tie.Need-returns-2 Inv-loop μ-loop
-returns-2 c = continued (c .before .before .loop .inv) (c .ascii-end2 .ensures)
+returns-2 c = continued (c .before .before .loop .inv) (c .ascii-eights2 .ensures)
 
 pub ascii-run-spec : {M : Type 1} → statement M
-ascii-run-spec =
-    tie.close
-    (tie.spec
-    Inv-loop
-    μ-loop
-    loop-holds
-    add-loop
-    ascii-eight-requires
-    ascii-end-requires
-    returns
-    add-at
-    loop-less
-    loop-again
-    ascii-end-requires-2
-    returns-2)
+ascii-run-spec = tie.close (tie.spec Inv-loop μ-loop loop-holds add-loop ascii-block-requires ascii-eights-requires returns add-at loop-less loop-again ascii-eights-requires-2 returns-2)
