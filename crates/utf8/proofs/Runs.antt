@@ -3,7 +3,8 @@
 use mathlib.Core.List.{List}
 use mathlib.Core.Logic.{inl, inr, ⊎-elim}
 use mathlib.Core.Path.{_≡_, refl, subst, _∙_}
-use Prim.Native.Nat.{ℕ, _+_, _≤_, _<_}
+use Prim.Native.Nat.{ℕ, _+_, _-_, _≤_, _<_}
+use native.Mathlib.Nat.{zero-add}
 use native.Mathlib.Omega.{arith}
 use lib.Bits.{bitOr, or-add-and, and-le-l, and-le-r}
 use lib.ListN.{getD}
@@ -21,6 +22,20 @@ module _ (text : List ℕ) (a b c : ℕ) where
   -- a run and one after it
   pub join : Ascii text a b → Ascii text b c → Ascii text a c
   join p q = λ (i : ℕ) (l : a ≤ i) (h : i < c). ⊎-elim (λ (m : b ≤ i). q i m h) (λ (m : i < b). p i l m) (le-or-lt b i)
+
+-- two runs that cover all
+pub cover : (text : List ℕ) (a b n : ℕ) → Ascii text 0 a → Ascii text b n → b ≤ a → Ascii text 0 n
+cover text a b n p q h = λ (i : ℕ) (l : 0 ≤ i) (m : i < n). ⊎-elim (λ (k : b ≤ i). q i k m) (λ (k : i < b). p i l (omega arith)) (le-or-lt b i)
+
+-- the bits of the first k bytes and of the last k are those of all
+pub both-ends : (text : List ℕ) (n k : ℕ) {a b : ℕ} → k ≤ n → n ≤ k + k → Bits text 0 k a → Bits text (n - k) k b → bitOr a b < 0x80 → Ascii text 0 n
+both-ends text n k {a} {b} h g p q l =
+    let sum = or-add-and a b in
+    let left = and-le-l a b in
+    let right = and-le-r a b in
+    let e : (n - k) + k ≡ n = omega arith in
+    let first = subst (λ (i : ℕ). Ascii text 0 i) (zero-add k) (p .low (omega arith)) in
+    cover text k (n - k) n first (subst (λ (i : ℕ). Ascii text (n - k) i) e (q .low (omega arith))) (omega arith)
 
 pub one : (text : List ℕ) (a : ℕ) → getD text a 0 < 0x80 → Ascii text a (a + 1)
 one text a h = λ (i : ℕ) (l : a ≤ i) (m : i < a + 1). let e : a ≡ i = omega arith in subst (λ (k : ℕ). getD text k 0 < 0x80) e h

@@ -74,7 +74,41 @@ fn ascii_end(text: &[u8], from: usize, end: usize) -> usize
     at
 }
 
-// The same, eight bytes at a time while there are as many.
+// Whether the bytes, fewer than 32, are ASCII: the first of them and the last, some twice.
+fn ascii_few(text: &[u8]) -> bool
+    requires { ⌜ length (now text) ≤ 31 ⌝ }
+    ensures { λ r. ⌜ (r ≡ true → Ascii (now (text .entry)) 0 (length (now (text .entry)))) ⌝ }
+{
+    let n = text.len();
+    if n < 8 {
+        return ascii_end(text, 0, n) == n;
+    }
+    if n < 16 {
+        return (bits_eight(text, 0) | bits_eight(text, n - 8)) < 128;
+    }
+    (bits_sixteen(text, 0) | bits_sixteen(text, n - 16)) < 128
+}
+
+// Whether all of the bytes are ASCII.
+pub(crate) fn all_ascii(text: &[u8]) -> bool
+    requires { ⌜ length (now text) ≤ 0xFFFF_FFFF_FFFF ⌝ }
+    ensures { λ r. ⌜ (r ≡ true → Ascii (now (text .entry)) 0 (length (now (text .entry)))) ⌝ }
+{
+    let n = text.len();
+    if n < 32 {
+        return ascii_few(text);
+    }
+    let mut at: usize = 0;
+    while at + 32 <= n {
+        if !ascii_block(text, at) {
+            return false;
+        }
+        at += 32;
+    }
+    ascii_block(text, n - 32)
+}
+
+// How far ASCII goes on, eight bytes at a time while there are as many.
 fn ascii_eights(text: &[u8], from: usize, end: usize) -> usize
     requires { ⌜ end ≤ length (now text) ⌝ }
     requires { ⌜ (from ≤ 0xFFFF_FFFF_FFFF) × (end ≤ 0xFFFF_FFFF_FFFF) ⌝ }

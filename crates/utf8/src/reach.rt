@@ -12,7 +12,7 @@ ghost use lib.ListN.{length};
 ghost use Rattle.text.specs.Part.{fits, part};
 ghost use Rattle.utf8.specs.Automaton.{isUtf8};
 ghost use Rattle.utf8.specs.Reach.{CharacterAt, Walked, Reach, Told, Known, AllUtf8, places, blocks};
-use crate::ascii::ascii_run;
+use crate::ascii::all_ascii;
 use crate::inside;
 use crate::is_utf8;
 use crate::range_is_utf8;
@@ -196,6 +196,5 @@ pub fn is_ascii(text: &[u8]) -> bool
     requires { ⌜ length (now text) < places ⌝ }
     ensures { λ r. ⌜ (r ≡ true → AllUtf8 (now (text .entry))) ⌝ }
 {
-    let n = text.len();
-    ascii_run(text, 0, n) == n
+    all_ascii(text)
 }
