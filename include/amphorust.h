@@ -40,7 +40,7 @@ uint64_t amphorust_judge(const uint32_t *record, size_t record_length,
                          uint32_t *list, size_t list_length);
 
 #define AMPHORUST_ROOM_MAX 1048576 /* 1,024 rows x 1,024 schemas */
-#define AMPHORUST_STACK 524288     /* the deepest recursion was measured to need 508 KiB */
+#define AMPHORUST_STACK 540672     /* the deepest recursion was measured to need 524 KiB */
 
 /* ---- The answer
  *
