@@ -1,11 +1,12 @@
 // The clauses that limit a size: the characters of a string, the elements of an array, the members
 // of an object. A row that has no such size keeps them.
+ghost use mathlib.Core.Bool.{true};
 ghost use mathlib.Core.List.{List};
 ghost use mathlib.Core.Option.{Option};
 ghost use mathlib.Core.Path.{_≡_};
 ghost use Prim.Native.Nat.{ℕ, _<_};
 ghost use lib.ListN.{length};
-ghost use Rattle.sheet.specs.Record.{docOf};
+ghost use Rattle.sheet.specs.Record.{textWord, docOf};
 ghost use Rattle.sheet.specs.Accepted.{Laid};
 ghost use Rattle.meaning.specs.Tests.{bytes?, elements?, members?, lengthOf, atLeast, atMost};
 ghost use Rattle.clause.specs.Read.{RecordRead, sizeIn, sizeBy, sizeOf};
@@ -89,7 +90,18 @@ pub(crate) fn min_length(
     at_least(length_of(record, text, form, row), k)
 }
 
-// Whether the row, if it is a string, has at most k characters.
+// Whether the row is no string, or one of at most k bytes: then it has at most k characters.
+fn few_bytes(record: &[u32], form: RecordForm, row: RecordRow, k: u32) -> bool
+    requires { ⌜ Laid (now «record») form × (row .0 < form .rows) ⌝ }
+    ensures { λ r. ⌜ ((ts : List ℕ) → length ts ≡ textWord (now («record» .entry)) → r ≡ true → atMost lengthOf k (bytes? (docOf (now («record» .entry)) ts .value (row .0))) ≡ true) ⌝ }
+{
+    if !is_kind(record, form, row, RowKind::STRING) {
+        return true;
+    }
+    string_of(record, form, row).length <= k
+}
+
+// Whether the row, if it is a string, has at most k characters. A short one is not counted.
 pub(crate) fn max_length(
     record: &[u32],
     text: &[u8],
@@ -100,6 +112,9 @@ pub(crate) fn max_length(
     requires { ⌜ RecordRead (now «record») (now text) form × (row .0 < form .rows) ⌝ }
     ensures { λ r. ⌜ r ≡ atMost lengthOf k (bytes? (docOf (now («record» .entry)) (now (text .entry)) .value (row .0))) ⌝ }
 {
+    if few_bytes(record, form, row, k) {
+        return true;
+    }
     at_most(length_of(record, text, form, row), k)
 }
 
