@@ -75,7 +75,7 @@ static inline uint32_t amphorust_size(uint64_t answer)
     return amphorust_is_refused(answer) ? 0 : (uint32_t)(answer / 256);
 }
 
-/* The refusal's number, 1 to 12; 0 if the call was not refused. */
+/* The refusal's number, 1 to 13; 0 if the call was not refused. */
 static inline unsigned amphorust_refusal(uint64_t answer)
 {
     return amphorust_is_refused(answer) ? (unsigned)(answer % 256 - 10) : 0;
@@ -89,10 +89,11 @@ static inline uint32_t amphorust_place(uint64_t answer)
 
 /* ---- Refusals
  *
- * They are tested in order over whole sheets, and the first that applies is given: by a check 12, then 1
- * to 4 of a record or 5 to 9 of rules; by judging 1 to 11, and never 12: there a sheet of another kind is
- * refused 1 or 5. A refused call leaves both areas as they were. Rows, schemas, clauses and entries count
- * from 0; a place in the rules counts the schemas, then the clauses, then the entries. */
+ * They are tested in order over whole sheets, and the first that applies is given: by a check 12, then 1,
+ * 2, 3, 13, 4 of a record or 5, 6, 7, 13, 8, 9 of rules; by judging the record's, the rules', 10 and 11,
+ * and never 12: there a sheet of another kind is refused 1 or 5. A refused call leaves both areas as they
+ * were. Rows, schemas, clauses and entries count from 0; a place in the rules counts the schemas, then the
+ * clauses, then the entries. */
 static inline const char *amphorust_refusal_text(unsigned refusal)
 {
     switch (refusal) {
@@ -115,6 +116,8 @@ static inline const char *amphorust_refusal_text(unsigned refusal)
     case 11: return "too short a list";
     /* place 0 */
     case 12: return "no words, or a last word that is no kind of sheet";
+    /* the lowest such row, or the lowest such entry */
+    case 13: return "a name or a string is not UTF-8";
     default: return "not refused";
     }
 }
@@ -182,7 +185,7 @@ static inline size_t amphorust_room(const uint32_t *record, size_t record_length
  *
  * Row 0 is the root, with owner 0 and label 0, 0. The children of a row stand together, after it, and
  * name it as owner. The label of an object's child is the start and length of its name in the text; all
- * other labels are 0, 0. The root is level 1, and the deepest level is 32.
+ * other labels are 0, 0. Names and strings are UTF-8. The root is level 1, and the deepest level is 32.
  *
  * ---- Rule sheet
  *
@@ -204,7 +207,7 @@ static inline size_t amphorust_room(const uint32_t *record, size_t record_length
  *     10, 11         minimum, maximum                              a number as in kind 3
  *     12, 13         exclusiveMinimum, exclusiveMaximum            a number
  *     14             multipleOf                                    a number above 0
- *     20, 21         minLength, maxLength (in bytes)               first
+ *     20, 21         minLength, maxLength (in characters)          first
  *     22, 23         minItems, maxItems                            first
  *     24, 25         minProperties, maxProperties                  first
  *     26             required                                      entries start, length of a name, 0
@@ -216,7 +219,7 @@ static inline size_t amphorust_room(const uint32_t *record, size_t record_length
  *     60, 61         unevaluatedProperties, unevaluatedItems       first: a schema
  *
  * Lists of 3, 30, 31, 32 and 43 have at least one entry. Names and strings of the rules stand in the rule
- * text. A chain of schemas that reach each other by 30 to 34 has at most 32 and no loop. */
+ * text and are UTF-8. A chain of schemas that reach each other by 30 to 34 has at most 32 and no loop. */
 
 #ifdef __cplusplus
 }

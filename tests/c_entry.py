@@ -119,10 +119,26 @@ def calls_of(rng, label, *parts):
 
 # ---- cases that other tests lack ----
 
+def long_characters():
+    """Two-byte characters to the greatest length, then a byte that is none: lengths, and strings that overlap."""
+    half = LONGEST // 2
+    letters = 'ż'.encode() * half
+    for text in (letters, letters + b'\xff'):
+        whole = second.record_of([(4, 0, 2 * half, 0, 0, 0)], text)
+        for most in (half - 1, half):
+            yield '%d characters, at most %d' % (half, most), whole, text, second.rules_of([(0, 1)], [(21, most, 0)], [], b''), b''
+        rules = second.rules_of([(0, 1)], [(2, 32, 0)], [], b'')
+        for label, last in (('all good', (0, 2)), ('the last starts inside', (1, 1)), ('the last ends inside', (0, 3)),
+                            ('the last to the end', (2 * half - 2, len(text) - 2 * half + 2))):
+            rows = [(4, 2 * i, 60_000, 0, 0, 0) for i in range(100)] + [(4, *last, 0, 0, 0)]
+            overlapping = second.record_of([(5, 1, len(rows), 0, 0, 0)] + rows, text)
+            yield 'strings of 60,000 bytes, ' + label, overlapping, text, rules, b''
+
+
 def long_texts():
     """Texts of the greatest length, and one byte more, which no bundle holds."""
     for length in (LONGEST - 1, LONGEST, LONGEST + 1):
-        text = bytes(i * i // 251 % 256 for i in range(length))
+        text = bytes(i * i // 251 % 128 for i in range(length))
         other = text[:-1] + bytes([text[-1] ^ 1])
         string = second.record_of([(4, 0, length, 0, 0, 0)], text)
         named = second.record_of([(6, 1, 1, 0, 0, 0), (0, 0, 0, 0, 0, length)], text)
@@ -159,6 +175,7 @@ def cases(rng, count, seed):
         yield 'sample %d' % number, *record, *rules
     yield from sheets.limits()
     yield from long_texts()
+    yield from long_characters()
     for parts in itertools.product(([], [0] * 4), (b'', b'x'), ([], [0] * 6), (b'', b'x')):
         yield 'no sheets', *parts
     for label, *parts in sheets.cases(seed, count):

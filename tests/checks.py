@@ -106,7 +106,7 @@ def check_judged(results, seed, count):
 
 def check_bundles(results, seed, count):
     results.compare_all(list(sheets.bundles(seed, count)))
-    for answer in ['bad bundle', 'too large', 'valid', 'invalid'] + ['refused %d' % number for number in range(1, 10)]:
+    for answer in ['bad bundle', 'too large', 'valid', 'invalid'] + ['refused %d' % number for number in (*range(1, 10), 13)]:
         results.check(results.answers[answer] > 0, 'no bundle got the answer ' + answer)
 
 

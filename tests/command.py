@@ -99,7 +99,7 @@ class Tests:
             'queue/2-marshal.json: valid\n'
             'queue/4-marshal.json: invalid: fits none of 2 (#/anyOf): missing "chip" (#/$defs/read/required); '
             '/bib: is string, must be integer (#/$defs/bib/type)\n'
-            'queue/5-gate.json: invalid: fits none of 2 (#/anyOf): /chip: has 7 bytes, must have at least 8 '
+            'queue/5-gate.json: invalid: fits none of 2 (#/anyOf): /chip: has 7 characters, must have at least 8 '
             '(#/$defs/read/properties/chip/minLength); missing "marshal" (#/$defs/noted/required), and 2 more\n',
             'queue/3-cut-off.json: line 4, column 27: not JSON: invalid control character\n', 2))
 

@@ -2,7 +2,7 @@
 
 cases(seed, count) yields (label, record words, record text, rule words, rule text), as sheets.cases does. Many of the
 rules are mended until the record holds. Spread counts what the judging of cases came to, and says what must be met.
-Written, like second.py and sheets.py, from paper 01 alone.
+Written, like second.py and sheets.py, from paper 01 and request #102 of 02 alone.
 """
 import random
 from collections import Counter

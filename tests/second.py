@@ -63,6 +63,15 @@ def range_fits(start, length, text):
     return start + length <= len(text)
 
 
+def is_utf8(part):
+    """Python's strict decoder is that of RFC 3629."""
+    try:
+        bytes(part).decode('utf-8')
+    except UnicodeDecodeError:
+        return False
+    return True
+
+
 def leaf_fits(kind, first, count, text):
     """Whether kind, first, count are those of a row of kinds 0 to 4."""
     if kind in (NULL, FALSE, TRUE):
@@ -82,7 +91,7 @@ def lowest(numbers, at_fault):
     return next((i for i in numbers if at_fault(i)), None)
 
 
-# ---- record sheet: refusals 1 to 4 ----
+# ---- record sheet: refusals 1 to 4, and 13 ----
 
 def record_trailer_is_bad(words, text):
     if len(words) < 4:
@@ -151,6 +160,14 @@ def earlier_sibling_has_name(rows, text, j):
     return any(name_of(rows, text, i) == name_of(rows, text, j) for i in range(rows[owner].first, j))
 
 
+def string_of(rows, text, j):
+    return text[rows[j].first:rows[j].first + rows[j].count] if rows[j].kind == STRING else b''
+
+
+def text_is_not_utf8(rows, text, j):
+    return not (is_utf8(name_of(rows, text, j)) and is_utf8(string_of(rows, text, j)))
+
+
 def level(rows, j):
     """The root is at level 1. Asked only of sheets in which owners stand before their children."""
     steps = 1
@@ -160,12 +177,13 @@ def level(rows, j):
 
 
 def check_record(words, text):
-    """('accepted', n), or ('refused', 1 to 4, place)."""
+    """('accepted', n), or ('refused', one of 1, 2, 3, 13 and 4, place)."""
     if record_trailer_is_bad(words, text):
         return ('refused', 1, 0)
     rows = read_rows(words)
     tests = ((2, lambda j: row_breaks_layout(rows, text, j)),
              (3, lambda j: earlier_sibling_has_name(rows, text, j)),
+             (13, lambda j: text_is_not_utf8(rows, text, j)),
              (4, lambda j: level(rows, j) > HIGHEST_LEVEL))
     for number, at_fault in tests:
         place = lowest(range(len(rows)), at_fault)
@@ -174,7 +192,7 @@ def check_record(words, text):
     return ('accepted', len(rows))
 
 
-# ---- rule sheet: refusals 5 to 9 ----
+# ---- rule sheet: refusals 5 to 9, and 13 ----
 
 def rule_trailer_is_bad(words, text):
     if len(words) < 6:
@@ -311,6 +329,23 @@ def lowest_repeated_name(rules):
     return None
 
 
+def entry_text(rules, code, entry):
+    """The bytes that an entry names in the rule text, if it names any."""
+    if code in NAME_LIST_CODES:
+        return entry_name(rules, entry)
+    return rules.text[entry[1]:entry[1] + entry[2]] if code == 3 and entry[0] == STRING else b''
+
+
+def lowest_text_not_utf8(rules):
+    """Refusal 13: the lowest entry whose name, or whose string in an enum, is not UTF-8."""
+    for i in lists(rules):
+        clause = rules.clauses[i]
+        for place, entry in enumerate(entries_of(rules, clause), clause.first):
+            if not is_utf8(entry_text(rules, clause.code, entry)):
+                return len(rules.schemas) + len(rules.clauses) + place
+    return None
+
+
 def unguarded_steps(rules, s):
     """The schemas that schema s reaches by one unguarded step."""
     reached = set()
@@ -342,11 +377,11 @@ def starting_chain(steps, length):
 
 
 def check_rules(words, text):
-    """('accepted', m), or ('refused', 5 to 9, place)."""
+    """('accepted', m), or ('refused', one of 5, 6, 7, 13, 8 and 9, place)."""
     if rule_trailer_is_bad(words, text):
         return ('refused', 5, 0)
     rules = read_rules(words, text)
-    for number, fault in ((6, lowest_layout_fault), (7, lowest_repeated_name)):
+    for number, fault in ((6, lowest_layout_fault), (7, lowest_repeated_name), (13, lowest_text_not_utf8)):
         place = fault(rules)
         if place is not None:
             return ('refused', number, place)
@@ -484,10 +519,9 @@ class Derivation:
             return any(self.equals(row, entry) for entry in entries_of(self.rules, clause))
         if code in NUMBER_CODES:
             return COMPARE[code](decimal(row.first, row.count), decimal(first, count))
-        if code in (20, 22, 24):            # bytes of the string, items, properties
-            return row.count >= first
-        if code in (21, 23, 25):
-            return row.count <= first
+        if code in SIZE_CODES:              # characters of the string, items, properties
+            size = len(bytes(string_of(self.rows, self.record_text, j)).decode('utf-8')) if code < 22 else row.count
+            return size >= first if code % 2 == 0 else size <= first
         names = [self.name(child) for child in children(self.rows, j)]
         return all(entry_name(self.rules, entry) in names for entry in entries_of(self.rules, clause))
 
@@ -537,7 +571,7 @@ def refused(number, place):
 
 
 def refusal(record, record_text, rules, rule_text, cells, list_):
-    """The first refusal of 1 to 11 that applies, or None."""
+    """The first refusal that applies, or None."""
     record_check = check_record(record, record_text)
     if record_check[0] == 'refused':
         return refused(*record_check[1:])

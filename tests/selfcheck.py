@@ -17,10 +17,10 @@ import one_sheet
 import second
 import sheets
 
-ANSWERS = ['valid', 'invalid', 'in order'] + ['refused %d' % number for number in range(1, 13)]
-BY_JUDGING = range(1, 12)                       # refusals that judging gives
-BY_CHECKING = {1: range(1, 5), 2: range(5, 10)}  # and those that a check gives, by the last word
-PRINTED = re.compile(rb'bad bundle\n|too large\n|refused [1-9] \d+\n'
+ANSWERS = ['valid', 'invalid', 'in order'] + ['refused %d' % number for number in range(1, 14)]
+BY_JUDGING = (*range(1, 12), 13)                       # refusals that judging gives
+BY_CHECKING = {1: (*range(1, 5), 13), 2: (*range(5, 10), 13)}  # and those that a check gives, by the last word
+PRINTED = re.compile(rb'bad bundle\n|too large\n|refused ([1-9]|13) \d+\n'
                      rb'|(in)?valid\npairs \d+ marked \d+\n(\d+ \d+ (held|failed)\n)+')
 
 
@@ -71,10 +71,11 @@ def place_in_range(answer, record, rules):
     number, place = answer.number, answer.place
     if number in (1, 5):
         return place == 0
-    if number <= 4:
+    if number <= 4 or number == 13 and second.check_record(*record)[0] == 'refused':
         return place < record[0][-4]
     m, c, e = rules[0][-6:-3]
-    lowest, end = {6: (0, m + c + e), 7: (m + c + 1, m + c + e), 8: (0, m), 9: (0, m)}[number]
+    lowest, end = {6: (0, m + c + e), 7: (m + c + 1, m + c + e), 13: (m + c, m + c + e), 8: (0, m),
+                   9: (0, m)}[number]
     return lowest <= place < end
 
 
@@ -246,7 +247,7 @@ def check_sheets(results, seed, count):
 
 def check_spread(results):
     """Every refusal comes up often enough, and both verdicts do."""
-    for number in range(1, 10):
+    for number in (*range(1, 10), 13):
         results.check(results.total('refused %d' % number) >= 50, 'refusal %d is rare' % number)
     valid, invalid = results.total('valid'), results.total('invalid')
     for some in (valid, invalid):

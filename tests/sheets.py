@@ -1,4 +1,4 @@
-"""Seeded record and rule sheets for comparing two judges, written from paper 01 alone.
+"""Seeded record and rule sheets for comparing two judges, written from paper 01 and request #102 of 02 alone.
 
 cases(seed, count, what) yields (label, record words, record text, rule words, rule text).
 A label says what the case is aimed at, its group before the colon. A case aimed at a
@@ -28,8 +28,14 @@ CODES = (1, 2, 3, 10, 11, 12, 13, 14, 20, 21, 22, 23, 24, 25, 26, 30, 31, 32, 33
 TYPE_BITS = {0: (1,), 1: (2,), 2: (2,), 3: (4, 4, 8), 4: (16,), 5: (32,), 6: (64,)}
 
 NAMES = (b'', b'a', b'b', b'ab', b'aa', b'ba', b'p', b'q', b'r', b'pq', b'\x00', b'\xc3\xa9', b'name')
-ABSENT = (b'z', b'zz', b'abz', b'nam', b'\xc3')
-STRINGS = NAMES + (b'abab', b'a name', b'\xff\xfe', b'qrpq' * 3)
+ABSENT = (b'z', b'zz', b'abz', b'nam', b'\xc3\xa8')
+STRINGS = NAMES + (b'abab', b'a name', 'żółw'.encode(), '日本語'.encode(), '🏃é'.encode(), b'qrpq' * 3)
+# UTF-8 at both ends of each length, and what stands beside it: overlong forms, surrogates, above 10FFFF, stray and missing bytes
+UTF8 = (b'', b'\x00', b'\x7f', b'\xc2\x80', b'\xdf\xbf', b'\xe0\xa0\x80', b'\xe1\x80\x80', b'\xec\xbf\xbf', b'\xed\x9f\xbf', b'\xee\x80\x80',
+        b'\xef\xbf\xbf', b'\xf0\x90\x80\x80', b'\xf1\x80\x80\x80', b'\xf3\xbf\xbf\xbf', b'\xf4\x8f\xbf\xbf')
+NOT_UTF8 = (b'\x80', b'\xbf', b'\xc0\x80', b'\xc1\xbf', b'\xc2', b'\xc2\x7f', b'\xc2\xc0', b'\xe0\x80\x80', b'\xe0\x9f\xbf', b'\xe1\x80', b'\xe1\x80\x41',
+            b'\xed\xa0\x80', b'\xed\xbf\xbf', b'\xf0\x80\x80\x80', b'\xf0\x8f\xbf\xbf', b'\xf1\x80\x80', b'\xf4\x90\x80\x80', b'\xf5\x80\x80\x80',
+            b'\xf8\x88\x80\x80\x80', b'\xfe', b'\xff')
 
 
 # ---- sheets that can be built up and damaged ----
@@ -289,7 +295,9 @@ class Writer:
         return other_scale(self.rng, whole, count if self.is_mild() else self.rng.choice((0, 1, 9)))
 
     def size(self, code, s):
-        kind, _, count = self.record.rows[self.view[s]][:OWNER]
+        kind, first, count = self.record.rows[self.view[s]][:OWNER]
+        if kind == 4:
+            count = len(self.record.text.bytes[first:first + count].decode('utf-8', 'replace'))
         own = count if kind >= 4 else self.rng.randrange(3)
         if not self.is_mild():
             return max(0, own + self.rng.choice((-1, 1)))
@@ -649,6 +657,47 @@ def repeat_rule_name(rng, sheet, times=1):
     return 'name repeated' if lists else 'no name to repeat'
 
 
+def damage_text(rng, sheet, ranges):
+    """A range cut or moved by a byte, a byte of the text changed, or bytes that are not UTF-8 named or left unnamed."""
+    text = sheet.text
+    kind = rng.randrange(4)
+    if kind == 0 and text.bytes:
+        at = rng.randrange(len(text.bytes))
+        text.bytes = text.bytes[:at] + bytes([rng.choice((0x80, 0xbf, 0xc3, 0xe0, 0xff, 0x41))]) + text.bytes[at + 1:]
+    elif kind == 1 or not ranges:
+        text.bytes += rng.choice(NOT_UTF8)
+    elif kind == 2:
+        row, at = rng.choice(ranges)
+        row[at + 1] = max(0, row[at + 1] - 1)
+    else:
+        row, at = rng.choice(ranges)
+        row[at:at + 2] = text.place(rng.choice(NOT_UTF8 + UTF8))
+    return ('a byte changed', 'bytes that nothing names', 'a range cut', 'another range')[kind]
+
+
+def record_ranges(sheet):
+    """The rows and where in them a text range stands."""
+    strings = [(row, FIRST) for row in sheet.rows if row[KIND] == 4]
+    return strings + [(row, START) for row in sheet.rows[1:] if sheet.rows[row[OWNER]][KIND] == OBJECT]
+
+
+def rule_ranges(sheet):
+    found = []
+    for code, first, count in sheet.clauses:
+        entries = sheet.entries[first:first + count]
+        found += [(entry, 0) for entry in entries if code in (26, 40)]
+        found += [(entry, 1) for entry in entries if code == 3 and entry[0] == 4]
+    return found
+
+
+def damage_record_text(rng, sheet):
+    return damage_text(rng, sheet, record_ranges(sheet))
+
+
+def damage_rule_text(rng, sheet):
+    return damage_text(rng, sheet, rule_ranges(sheet))
+
+
 def empty_list(rng, sheet):
     """Take the entries of one list clause out, and keep all other lists in order."""
     lists = [clause for clause in sheet.clauses if clause[CODE] in FEWEST]
@@ -789,6 +838,26 @@ def aim_record_names(rng):
     return 'record 3: ' + label, *lent(sheet)
 
 
+def aim_record_texts(rng):
+    sheet = rich_record(rng)
+    labels = [damage_record_text(rng, sheet) for _ in range(rng.choice((1, 1, 2)))]
+    return 'record 13: ' + labels[0], *lent(sheet)
+
+
+def aim_overlapping(rng):
+    """Many strings of one text, most of which has characters of several bytes, with or without a byte that is none."""
+    text = b''.join(rng.choice(UTF8 + (b'a', b'bc', 'ż'.encode())) for _ in range(rng.choice((20, 100, 200))))
+    if rng.random() < 0.7:
+        at = rng.choice((rng.randrange(len(text) + 1), len(text)))
+        text = text[:at] + rng.choice(NOT_UTF8) + text[at:]
+    starts = [i for i in range(len(text) + 1) if i == len(text) or text[i] & 0xc0 != 0x80]
+    rows = []
+    for _ in range(rng.choice((3, 12))):
+        start, end = sorted(rng.choice(starts) if rng.random() < 0.95 else rng.randrange(len(text) + 1) for _ in range(2))
+        rows.append([4, start, end - start, 0, 0, 0])
+    return 'record 13: overlapping strings', *lent(RecordSheet(fixed_text(text), [root(ARRAY, 1, len(rows))] + rows))
+
+
 def aim_levels(rng):
     levels = rng.choice((31, 32, 33, 33, 34, 40))
     label = 'level up to 32' if levels < 33 else 'level 33 and more'
@@ -800,6 +869,8 @@ def aim_record_order(rng):
     sheet = deep_record(rng, rng.choice((3, 33, 36)))
     if rng.random() < 0.7:
         repeat_record_name(rng, sheet)
+    if rng.random() < 0.4:
+        damage_record_text(rng, sheet)
     if rng.random() < 0.4:
         damage(rng, sheet, ROW_DAMAGES)
     words, text = lent(sheet)
@@ -813,7 +884,7 @@ def aim_good_record(rng):
 
 
 RECORD_AIMS = (aim_record_trailer, aim_rows, aim_rows, aim_rows, aim_several_rows, aim_row_forms,
-               aim_record_names, aim_levels, aim_record_order, aim_good_record)
+               aim_record_names, aim_record_texts, aim_overlapping, aim_levels, aim_record_order, aim_good_record)
 
 
 # ---- cases aimed at the rule check; rules fit the record given ----
@@ -855,6 +926,12 @@ def aim_rule_names(rng, record):
     return 'rules 7: ' + label, *lent(sheet)
 
 
+def aim_rule_texts(rng, record):
+    sheet = named_rules(rng, record)
+    labels = [damage_rule_text(rng, sheet) for _ in range(rng.choice((1, 1, 2)))]
+    return 'rules 13: ' + labels[0], *lent(sheet)
+
+
 def aim_loops(rng, record):
     return 'rules 8: loop', *lent(loop_rules(rng, record))
 
@@ -875,7 +952,7 @@ def aim_rule_order(rng, record):
     """Faults of several refusals in one rule sheet; the first of the table is given."""
     sheet = rng.choice((lambda: chain_rules(rng, rng.choice((32, 33, 35))), lambda: loop_rules(rng, record),
                         lambda: named_rules(rng, record)))()
-    for some, change in ((0.4, retarget), (0.5, repeat_rule_name), (0.2, one_none_takes)):
+    for some, change in ((0.4, retarget), (0.5, repeat_rule_name), (0.4, damage_rule_text), (0.2, one_none_takes)):
         if rng.random() < some:
             change(rng, sheet)
     if rng.random() < 0.3 and sheet.clauses:
@@ -891,7 +968,7 @@ def aim_good_rules(rng, record):
 
 
 RULE_AIMS = (aim_rule_trailer, aim_layout, aim_layout, aim_layout, aim_several_layout, aim_layout_forms,
-             aim_rule_names, aim_loops, aim_retargeted, aim_chains, aim_rule_order, aim_good_rules)
+             aim_rule_names, aim_rule_texts, aim_loops, aim_retargeted, aim_chains, aim_rule_order, aim_good_rules)
 
 
 # ---- cases ----
@@ -1233,6 +1310,47 @@ def name_limits():
     yield with_schemas('accepted', 'equal names in two clauses', two, b'aa')
 
 
+def texts_named(expected, what, text, start, length):
+    """The range as a string, a name, a value of an enum, a required name and a property."""
+    good = expected == 'accepted'
+    yield with_rows(answer(good, 13, 0), what + ' as a string', [root(4, start, length)], text)
+    yield with_rows(answer(good, 13, 1), what + ' as a label', [root(OBJECT, 1, 1), [0, 0, 0, 0, start, length]], text)
+    for code, entry in ((3, [4, start, length]), (26, [start, length, 0]), (40, [start, length, 0])):
+        yield with_schemas(answer(good, 13, 2), what + ' in code %d' % code, [{code: [entry]}], text)
+
+
+def text_limits():
+    """UTF-8 and what is not, alone and in a text that is not UTF-8 elsewhere; ranges that end inside a character."""
+    for expected, parts in (('accepted', UTF8), ('refused', NOT_UTF8)):
+        for part in parts:
+            for text, start in ((part, 0), (b'a' + part + b'b\xff', 1), (b'\xc3\xa9' * 100 + part + b'\xf0\x90', 200)):
+                yield from texts_named(expected, '%s at %d' % (part.hex(), start), text, start, len(part))
+    letters = 'aż日🏃'.encode()
+    starts = {0, 1, 3, 6, 10}
+    for text in (letters, letters + b'\xff'):
+        for start in range(11):
+            for end in range(start, 11):
+                good = start == end or {start, end} <= starts
+                yield from texts_named('accepted' if good else 'refused', 'bytes %d to %d' % (start, end), text, start, end - start)
+
+
+def text_order():
+    """13 beside 3, 4, 7, 8 and 9, and the lowest of two."""
+    bad, twice = [0, 0, 0, 0, 0, 1], [0, 0, 0, 0, 1, 1]
+    yield with_rows('refused 3 3', '3 before 13', [root(OBJECT, 1, 3), bad, twice, twice], b'\xffa')
+    yield with_rows('refused 13 2', 'the lowest row', [root(ARRAY, 1, 3), [0] * 6, [4, 0, 1, 0, 0, 0], [4, 0, 1, 0, 0, 0]], b'\xff')
+    deep = nested(33, ARRAY)
+    deep[-1][:3] = [4, 0, 1]
+    yield with_rows('refused 13 32', '13 before 4', deep, b'\xff')
+    for code in (26, 40):
+        same = [[0, 1, 0], [1, 1, 0], [1, 1, 0]]
+        yield with_schemas('refused 7 4', '7 before 13 in code %d' % code, [{code: same}], b'\xffa')
+        yield with_schemas('refused 13 4', '13 before 8, in code %d' % code, [{code: [[1, 1, 0], [0, 1, 0]], 34: [0, 0]}]
+                           if code == 26 else [{34: [0, 0], code: [[1, 1, 0], [0, 1, 0]]}], b'\xffa')
+    chain = [{34: [s + 1, 0]} for s in range(32)] + [{3: [[4, 0, 1]]}]
+    yield with_schemas('refused 13 66', '13 before 9', chain, b'\xff')
+
+
 def every_pair(size):
     """An array and rules of that many rows and schemas, nearly all pairs of which are settled."""
     schemas = [{44: [1, 0]}, {30: [[s, 0, 0] for s in range(2, size)]}]
@@ -1277,7 +1395,7 @@ def refused_and_large():
 def limits():
     """Yield the fixed cases on both sides of each limit."""
     for part in (count_limits, trailer_limits, number_limits, range_limits, chain_limits, loop_limits, code_limits,
-                 schema_limits, taking_limits, layout_limits, name_limits, refused_and_large, large_cases):
+                 schema_limits, taking_limits, layout_limits, name_limits, text_limits, text_order, refused_and_large, large_cases):
         yield from part()
 
 

@@ -19,12 +19,6 @@ import judges
 
 SUITE = Path('/usr/share/perl5/auto/share/dist/Test-JSON-Schema-Acceptance/tests/draft2020-12')
 
-# Where we differ from the draft: lengths count bytes.
-DISAGREE = {
-    ('maxLength.json', 'maxLength validation', 'two supplementary Unicode code points is long enough'),
-    ('minLength.json', 'minLength validation', 'one supplementary Unicode code point is not long enough'),
-}
-
 # A case is left out by the first of these that the command's error matches; a keyword is told by its own name.
 REASONS = (
     (r'the judge has no (.*)', None),
@@ -77,7 +71,7 @@ def reason_for(file, found):
 
 class Results:
     def __init__(self):
-        self.passed, self.failed, self.left_out, self.disagreed = 0, 0, Counter(), set()
+        self.passed, self.failed, self.left_out = 0, 0, Counter()
 
     def note(self, good, words):
         self.passed += good
@@ -90,16 +84,12 @@ class Results:
         reason = reason_for(file, found)
         if reason is not None:
             self.left_out[reason] += 1
-        elif name in DISAGREE and found == (not case['valid']):
-            self.disagreed.add(name)
         else:
             self.note(found is case['valid'], '%s: the suite says %s, the command %s' % (
                 ' / '.join(name), case['valid'], found))
 
     def close(self):
-        """The two known disagreements, and the number of cases that each reason leaves out."""
-        for name in sorted(DISAGREE):
-            self.note(name in self.disagreed, '%s: agrees now, but stands in DISAGREE' % ' / '.join(name))
+        """The number of cases that each reason leaves out."""
         for reason in sorted(set(LEFT_OUT) | set(self.left_out)):
             print('left out: %4d  %s' % (self.left_out[reason], reason))
             self.note(self.left_out[reason] == LEFT_OUT.get(reason, 0),

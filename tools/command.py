@@ -41,8 +41,7 @@ format among them, and unknown keywords assert nothing.
 
 Limits: 128 values and 128 different schemas, 32 levels, 65536 bytes of sheets;
 numbers of at most 9 digits, at most 9 of them after the point; no arrays or
-objects in enum and const; references within the document. minLength and
-maxLength count bytes of UTF-8, where the draft counts code points.
+objects in enum and const; references within the document.
 '''
 
 Options = namedtuple('Options', 'command quiet json files')

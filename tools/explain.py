@@ -22,7 +22,7 @@ NO_CHOICE, CHOICES = (30, 34), (31, 32)     # allOf and $ref; anyOf and oneOf
 BOUNDS = {10: ('at least', lambda value, bound: value >= bound), 11: ('at most', lambda value, bound: value <= bound),
           12: ('above', lambda value, bound: value > bound), 13: ('below', lambda value, bound: value < bound),
           14: ('a multiple of', lambda value, bound: (value / bound).denominator == 1)}
-UNITS = {20: 'byte', 21: 'byte', 22: 'item', 23: 'item', 24: 'member', 25: 'member'}
+UNITS = {20: 'character', 21: 'character', 22: 'item', 23: 'item', 24: 'member', 25: 'member'}
 
 # A pair goes down at most 32 levels times a chain of 32 schemas, some calls each.
 CALLS_MAX = 20_000
@@ -202,7 +202,7 @@ def same(value, other):
 
 
 def size_words(clause, value):
-    size = len(value.encode('utf-8')) if isinstance(value, str) else len(value)
+    size = len(value)
     limit, at_least = clause.fields[0], clause.code % 2 == 0
     if size >= limit if at_least else size <= limit:
         return None

@@ -7,6 +7,7 @@ RECORD_WORDS = {
     2: 'a row breaks the layout of a record sheet',
     3: 'a second member of this name',
     4: 'more than 32 levels deep',
+    13: 'a name or a string here is not UTF-8',
 }
 RULE_WORDS = {
     5: 'more than 1024 schemas, 4096 clauses, 4096 entries or 65535 bytes of names and strings',
@@ -14,6 +15,7 @@ RULE_WORDS = {
     7: 'this name stands here a second time',
     8: 'this schema applies itself to the same value again, without end',
     9: 'more than 32 schemas, from here on, each apply the next to the same value',
+    13: 'a name or a string here is not UTF-8',
 }
 
 

@@ -1,52 +1,78 @@
 -- Sizes, as they are found and as they are limited.
 --     string-size, rows-size, no-size     what was read is the size
+--     few-bytes, no-bytes-few             a string of at most k bytes, and what is none, has at most k characters
 --     size-holds, other-holds             what is asked of a size, by the size that was found
 -- Assumes nothing.
 use mathlib.Core.Bool.{Bool, true}
-use mathlib.Core.List.{List}
+use mathlib.Core.List.{List, [], _∷_}
 use mathlib.Core.Option.{Option, none, some}
 use mathlib.Core.Path.{_≡_, refl, sym, ap, _∙_}
-use Prim.Native.Nat.{ℕ}
+use Prim.Native.Nat.{ℕ, zero, suc, _-_, _≤_}
+use native.Mathlib.Omega.{arith}
 use lib.ListN.{length}
+use borrow.Author.Tests.{le-leb}
 use Rattle.text.specs.declared.Range.{Range}
 use Rattle.text.specs.Part.{part}
 use Rattle.text.proofs.Ranges.{part-length}
+use Rattle.utf8.specs.Counting.{leadLength, countAfter, count}
 use Rattle.sheet.specs.Record.{textWord, docOf}
 use Rattle.sheet.specs.Accepted.{StringRead}
 use Rattle.meaning.specs.Lists.{range}
-use Rattle.meaning.specs.Tests.{bytes?, given}
+use Rattle.meaning.specs.Tests.{bytes?, lengthOf, given, atMost}
 use Rattle.meaning.proofs.Members.{range-length}
 use Rattle.clause.specs.declared.sizes.Measured.{Measured}
 use Rattle.clause.specs.declared.sizes.Measured.the-variants.{Size, Other}
-use Rattle.clause.specs.Read.{sizeIn, sizeOf}
+use Rattle.clause.specs.Read.{sizeIn, sizeBy, sizeOf}
 use Rattle.clause.proofs.Having.{isOf, bytes-found, string-in}
 
-pub string-size : {ws : List ℕ} {j : ℕ} {r : Range} → StringRead ws j r → (ts : List ℕ) → length ts ≡ textWord ws → isOf 4 (docOf ws ts .value j) ≡ true
-    → some (r .length) ≡ sizeOf (bytes? (docOf ws ts .value j))
-string-size {ws} {j} {r} read ts long t =
-    ap some (sym (part-length ts r (rw long (string-in read ts t))))
-    ∙ sym (ap sizeOf (bytes-found (part ts r) (docOf ws ts .value j) t (read .string-is ts)))
+pub string-size : {ws : List ℕ} {j : ℕ} {r : Range} → StringRead ws j r → (ts : List ℕ) → isOf 4 (docOf ws ts .value j) ≡ true
+    → (n : ℕ) → n ≡ lengthOf (part ts r) → some n ≡ sizeBy lengthOf (bytes? (docOf ws ts .value j))
+string-size {ws} {j} {r} read ts t n e =
+    ap some e ∙ sym (ap (sizeBy lengthOf) (bytes-found (part ts r) (docOf ws ts .value j) t (read .string-is ts)))
+
+-- a string has not more characters than bytes
+few-after : (skip : ℕ) (bs : List ℕ) → countAfter skip bs ≤ length bs
+unfolding countAfter
+few-after zero [] = omega arith
+few-after (suc skip) [] = omega arith
+few-after zero (b ∷ bs) = omega (arith, few-after (leadLength b - 1) bs)
+few-after (suc skip) (b ∷ bs) = omega (arith, few-after skip bs)
+
+few : (bs : List ℕ) → lengthOf bs ≤ length bs
+unfolding count
+few bs = few-after 0 bs
+
+pub few-bytes : {ws : List ℕ} {j : ℕ} {r : Range} → StringRead ws j r → (ts : List ℕ) → length ts ≡ textWord ws → isOf 4 (docOf ws ts .value j) ≡ true
+    → (k : ℕ) → r .length ≤ k → atMost lengthOf k (bytes? (docOf ws ts .value j)) ≡ true
+unfolding atMost given
+few-bytes {ws} {j} {r} read ts long t k h =
+    rw (bytes-found (part ts r) (docOf ws ts .value j) t (read .string-is ts))
+    (le-leb (lengthOf (part ts r)) k (omega (arith, few (part ts r), part-length ts r (rw long (string-in read ts t)))))
+
+pub no-bytes-few : (k : ℕ) (xs : Option (List ℕ)) → xs ≡ none → atMost lengthOf k xs ≡ true
+unfolding atMost given
+no-bytes-few k xs e = rw e
 
 pub rows-size : (first count n : ℕ) (xs : Option (List ℕ)) → n ≡ count → xs ≡ some (range first count) → some n ≡ sizeOf xs
-rows-size first count n xs e f = ap some (e ∙ sym (range-length first count)) ∙ sym (ap sizeOf f)
+rows-size first count n xs e f = ap some (e ∙ sym (range-length first count)) ∙ sym (ap (sizeBy length) f)
 
-pub no-size : (xs : Option (List ℕ)) → xs ≡ none → none ≡ sizeOf xs
-no-size xs f = sym (ap sizeOf f)
+pub no-size : (size : List ℕ → ℕ) (xs : Option (List ℕ)) → xs ≡ none → none ≡ sizeBy size xs
+no-size size xs f = sym (ap (sizeBy size) f)
 
 -- the limits
-module _ (p : ℕ → Bool) (m : Measured) where
-  by-size : (n : ℕ) (xs : Option (List ℕ)) → some n ≡ sizeOf xs → p n ≡ given xs (λ ys. p (length ys))
+module _ (p : ℕ → Bool) (m : Measured) (size : List ℕ → ℕ) where
+  by-size : (n : ℕ) (xs : Option (List ℕ)) → some n ≡ sizeBy size xs → p n ≡ given xs (λ ys. p (size ys))
   unfolding given
   by-size n none e = cc
-  by-size n (some ys) e = let same : n ≡ length ys = cc in rw same
+  by-size n (some ys) e = let same : n ≡ size ys = cc in rw same
 
-  by-other : (xs : Option (List ℕ)) → none ≡ sizeOf xs → true ≡ given xs (λ ys. p (length ys))
+  by-other : (xs : Option (List ℕ)) → none ≡ sizeBy size xs → true ≡ given xs (λ ys. p (size ys))
   unfolding given
   by-other none e = refl
   by-other (some ys) e = cc
 
-  pub size-holds : (n : ℕ) → m ≡ Size n → (xs : Option (List ℕ)) → sizeIn m ≡ sizeOf xs → p n ≡ given xs (λ ys. p (length ys))
+  pub size-holds : (n : ℕ) → m ≡ Size n → (xs : Option (List ℕ)) → sizeIn m ≡ sizeBy size xs → p n ≡ given xs (λ ys. p (size ys))
   size-holds n e xs f = by-size n xs (rw e at f)
 
-  pub other-holds : m ≡ Other → (xs : Option (List ℕ)) → sizeIn m ≡ sizeOf xs → true ≡ given xs (λ ys. p (length ys))
+  pub other-holds : m ≡ Other → (xs : Option (List ℕ)) → sizeIn m ≡ sizeBy size xs → true ≡ given xs (λ ys. p (size ys))
   other-holds e xs f = by-other xs (rw e at f)

@@ -103,10 +103,13 @@ abbrev pub orNone : Option ℕ → ℕ
 orNone none = 0
 orNone (some n) = n
 
--- how many there are, if there can be any
+-- how many there are by this measure, if there can be any
+abbrev pub sizeBy : (List ℕ → ℕ) → Option (List ℕ) → Option ℕ
+sizeBy size none = none
+sizeBy size (some xs) = some (size xs)
+
 abbrev pub sizeOf : Option (List ℕ) → Option ℕ
-sizeOf none = none
-sizeOf (some xs) = some (length xs)
+sizeOf xs = sizeBy length xs
 
 -- which child of row j, counted from 0, is the first that has this name; the number of children if none has it
 abbrev pub childNamed : Doc → ℕ → List ℕ → ℕ

@@ -1,13 +1,15 @@
-// The clauses that limit a size: the bytes of a string, the elements of an array, the members of an
-// object. A row that has no such size keeps them.
+// The clauses that limit a size: the characters of a string, the elements of an array, the members
+// of an object. A row that has no such size keeps them.
+ghost use mathlib.Core.Bool.{true};
 ghost use mathlib.Core.List.{List};
 ghost use mathlib.Core.Option.{Option};
 ghost use mathlib.Core.Path.{_≡_};
 ghost use Prim.Native.Nat.{ℕ, _<_};
-ghost use Rattle.sheet.specs.Record.{docOf};
+ghost use lib.ListN.{length};
+ghost use Rattle.sheet.specs.Record.{textWord, docOf};
 ghost use Rattle.sheet.specs.Accepted.{Laid};
-ghost use Rattle.meaning.specs.Tests.{bytes?, elements?, members?, atLeast, atMost};
-ghost use Rattle.clause.specs.Read.{RecordRead, sizeIn, sizeOf};
+ghost use Rattle.meaning.specs.Tests.{bytes?, elements?, members?, lengthOf, atLeast, atMost};
+ghost use Rattle.clause.specs.Read.{RecordRead, sizeIn, sizeBy, sizeOf};
 use crate::numbers::is_kind;
 use sheet::kind::RowKind;
 use sheet::record::RecordForm;
@@ -21,15 +23,15 @@ pub enum Measured {
     Other,
 }
 
-// The length of a string, in bytes.
+// The length of a string, in characters.
 pub(crate) fn length_of(record: &[u32], text: &[u8], form: RecordForm, row: RecordRow) -> Measured
     requires { ⌜ RecordRead (now «record») (now text) form × (row .0 < form .rows) ⌝ }
-    ensures { λ r. ⌜ sizeIn r ≡ sizeOf (bytes? (docOf (now («record» .entry)) (now (text .entry)) .value (row .0))) ⌝ }
+    ensures { λ r. ⌜ sizeIn r ≡ sizeBy lengthOf (bytes? (docOf (now («record» .entry)) (now (text .entry)) .value (row .0))) ⌝ }
 {
     if !is_kind(record, form, row, RowKind::STRING) {
         return Measured::Other;
     }
-    Measured::Size(string_of(record, form, row).length)
+    Measured::Size(utf8::characters(text, string_of(record, form, row)))
 }
 
 // How many elements an array has.
@@ -56,7 +58,7 @@ pub fn members_of(record: &[u32], form: RecordForm, row: RecordRow) -> Measured
 
 // Whether a size, if there is one, is at least k.
 fn at_least(found: Measured, k: u32) -> bool
-    ensures { λ r. ⌜ ((xs : Option (List ℕ)) → sizeIn found ≡ sizeOf xs → r ≡ atLeast k xs) ⌝ }
+    ensures { λ r. ⌜ ((size : List ℕ → ℕ) (xs : Option (List ℕ)) → sizeIn found ≡ sizeBy size xs → r ≡ atLeast size k xs) ⌝ }
 {
     match found {
         Measured::Size(size) => k <= size,
@@ -66,7 +68,7 @@ fn at_least(found: Measured, k: u32) -> bool
 
 // Whether a size, if there is one, is at most k.
 fn at_most(found: Measured, k: u32) -> bool
-    ensures { λ r. ⌜ ((xs : Option (List ℕ)) → sizeIn found ≡ sizeOf xs → r ≡ atMost k xs) ⌝ }
+    ensures { λ r. ⌜ ((size : List ℕ → ℕ) (xs : Option (List ℕ)) → sizeIn found ≡ sizeBy size xs → r ≡ atMost size k xs) ⌝ }
 {
     match found {
         Measured::Size(size) => size <= k,
@@ -74,7 +76,7 @@ fn at_most(found: Measured, k: u32) -> bool
     }
 }
 
-// Whether the row, if it is a string, has at least k bytes.
+// Whether the row, if it is a string, has at least k characters.
 pub(crate) fn min_length(
     record: &[u32],
     text: &[u8],
@@ -83,12 +85,23 @@ pub(crate) fn min_length(
     k: u32,
 ) -> bool
     requires { ⌜ RecordRead (now «record») (now text) form × (row .0 < form .rows) ⌝ }
-    ensures { λ r. ⌜ r ≡ atLeast k (bytes? (docOf (now («record» .entry)) (now (text .entry)) .value (row .0))) ⌝ }
+    ensures { λ r. ⌜ r ≡ atLeast lengthOf k (bytes? (docOf (now («record» .entry)) (now (text .entry)) .value (row .0))) ⌝ }
 {
     at_least(length_of(record, text, form, row), k)
 }
 
-// Whether the row, if it is a string, has at most k bytes.
+// Whether the row is no string, or one of at most k bytes: then it has at most k characters.
+fn few_bytes(record: &[u32], form: RecordForm, row: RecordRow, k: u32) -> bool
+    requires { ⌜ Laid (now «record») form × (row .0 < form .rows) ⌝ }
+    ensures { λ r. ⌜ ((ts : List ℕ) → length ts ≡ textWord (now («record» .entry)) → r ≡ true → atMost lengthOf k (bytes? (docOf (now («record» .entry)) ts .value (row .0))) ≡ true) ⌝ }
+{
+    if !is_kind(record, form, row, RowKind::STRING) {
+        return true;
+    }
+    string_of(record, form, row).length <= k
+}
+
+// Whether the row, if it is a string, has at most k characters. A short one is not counted.
 pub(crate) fn max_length(
     record: &[u32],
     text: &[u8],
@@ -97,15 +110,18 @@ pub(crate) fn max_length(
     k: u32,
 ) -> bool
     requires { ⌜ RecordRead (now «record») (now text) form × (row .0 < form .rows) ⌝ }
-    ensures { λ r. ⌜ r ≡ atMost k (bytes? (docOf (now («record» .entry)) (now (text .entry)) .value (row .0))) ⌝ }
+    ensures { λ r. ⌜ r ≡ atMost lengthOf k (bytes? (docOf (now («record» .entry)) (now (text .entry)) .value (row .0))) ⌝ }
 {
+    if few_bytes(record, form, row, k) {
+        return true;
+    }
     at_most(length_of(record, text, form, row), k)
 }
 
 // Whether the row, if it is an array, has at least k elements.
 pub(crate) fn min_items(record: &[u32], form: RecordForm, row: RecordRow, k: u32) -> bool
     requires { ⌜ Laid (now «record») form × (row .0 < form .rows) ⌝ }
-    ensures { λ r. ⌜ ((ts : List ℕ) → r ≡ atLeast k (elements? (docOf (now («record» .entry)) ts .value (row .0)))) ⌝ }
+    ensures { λ r. ⌜ ((ts : List ℕ) → r ≡ atLeast length k (elements? (docOf (now («record» .entry)) ts .value (row .0)))) ⌝ }
 {
     at_least(elements_of(record, form, row), k)
 }
@@ -113,7 +129,7 @@ pub(crate) fn min_items(record: &[u32], form: RecordForm, row: RecordRow, k: u32
 // Whether the row, if it is an array, has at most k elements.
 pub(crate) fn max_items(record: &[u32], form: RecordForm, row: RecordRow, k: u32) -> bool
     requires { ⌜ Laid (now «record») form × (row .0 < form .rows) ⌝ }
-    ensures { λ r. ⌜ ((ts : List ℕ) → r ≡ atMost k (elements? (docOf (now («record» .entry)) ts .value (row .0)))) ⌝ }
+    ensures { λ r. ⌜ ((ts : List ℕ) → r ≡ atMost length k (elements? (docOf (now («record» .entry)) ts .value (row .0)))) ⌝ }
 {
     at_most(elements_of(record, form, row), k)
 }
@@ -121,7 +137,7 @@ pub(crate) fn max_items(record: &[u32], form: RecordForm, row: RecordRow, k: u32
 // Whether the row, if it is an object, has at least k members.
 pub(crate) fn min_properties(record: &[u32], form: RecordForm, row: RecordRow, k: u32) -> bool
     requires { ⌜ Laid (now «record») form × (row .0 < form .rows) ⌝ }
-    ensures { λ r. ⌜ ((ts : List ℕ) → r ≡ atLeast k (members? (docOf (now («record» .entry)) ts .value (row .0)))) ⌝ }
+    ensures { λ r. ⌜ ((ts : List ℕ) → r ≡ atLeast length k (members? (docOf (now («record» .entry)) ts .value (row .0)))) ⌝ }
 {
     at_least(members_of(record, form, row), k)
 }
@@ -129,7 +145,7 @@ pub(crate) fn min_properties(record: &[u32], form: RecordForm, row: RecordRow, k
 // Whether the row, if it is an object, has at most k members.
 pub(crate) fn max_properties(record: &[u32], form: RecordForm, row: RecordRow, k: u32) -> bool
     requires { ⌜ Laid (now «record») form × (row .0 < form .rows) ⌝ }
-    ensures { λ r. ⌜ ((ts : List ℕ) → r ≡ atMost k (members? (docOf (now («record» .entry)) ts .value (row .0)))) ⌝ }
+    ensures { λ r. ⌜ ((ts : List ℕ) → r ≡ atMost length k (members? (docOf (now («record» .entry)) ts .value (row .0)))) ⌝ }
 {
     at_most(members_of(record, form, row), k)
 }

@@ -11,30 +11,38 @@ use lib.ListN.{length}
 use lib.Signed.{leZ, ltZ}
 use borrow.Author.Tests.{leb-true, le-leb}
 use Rattle.decimal.specs.Value.{isMultiple}
-use Rattle.sheet.specs.Doc.{Value, Doc}
+use Rattle.utf8.specs.Encoding.{Utf8, characters}
+use Rattle.utf8.proofs.Counted.{count-is}
+use Rattle.sheet.specs.Doc.{Value, string, Doc}
 use Rattle.meaning.specs.Lists.{any, range}
-use Rattle.meaning.specs.Tests.{atLeast, atMost, equal}
+use Rattle.meaning.specs.Tests.{lengthOf, atLeast, atMost, equal}
 use Rattle.meaning.specs.Rules.{called, present, passes}
-use Rattle.meaning.specs.Keywords.{Scalar, Within, Assertions}
+use Rattle.meaning.specs.Keywords.{Scalar, WellSpelled, Within, Assertions}
 use Rattle.meaning.proofs.Members.{in-range, range-length, all-pass, one-passes}
 use Rattle.meaning.proofs.Found.{number-given, string-given, Rows, array-given, object-given}
 use Rattle.meaning.proofs.Values.{multiple-is, typed-is, equal-is, called-is, and-then}
 
-sized : (k : ℕ) (n : ℕ) (xs : List ℕ) → length xs ≡ n → (leb k (length xs) ≡ true) ↔ (k ≤ n)
-sized k n xs e = (λ h. subst (λ x. k ≤ x) e (leb-true k (length xs) h), λ h. le-leb k (length xs) (subst (λ x. k ≤ x) (sym e) h))
+-- a limit, by what a size is
+sized : (k a n : ℕ) → a ≡ n → (leb k a ≡ true) ↔ (k ≤ n)
+sized k a n e = (λ h. subst (λ x. k ≤ x) e (leb-true k a h), λ h. le-leb k a (subst (λ x. k ≤ x) (sym e) h))
 
-limited : (k : ℕ) (n : ℕ) (xs : List ℕ) → length xs ≡ n → (leb (length xs) k ≡ true) ↔ (n ≤ k)
-limited k n xs e = (λ h. subst (λ x. x ≤ k) e (leb-true (length xs) k h), λ h. le-leb (length xs) k (subst (λ x. x ≤ k) (sym e) h))
+limited : (k a n : ℕ) → a ≡ n → (leb a k ≡ true) ↔ (n ≤ k)
+limited k a n e = (λ h. subst (λ x. x ≤ k) e (leb-true a k h), λ h. le-leb a k (subst (λ x. x ≤ k) (sym e) h))
 
 rows-sized : (k : ℕ) (r : Rows) → (leb k (length (range (r .0) (r .1))) ≡ true) ↔ (k ≤ r .1)
-rows-sized k r = sized k (r .1) (range (r .0) (r .1)) (range-length (r .0) (r .1))
+rows-sized k r = sized k (length (range (r .0) (r .1))) (r .1) (range-length (r .0) (r .1))
 
 rows-limited : (k : ℕ) (r : Rows) → (leb (length (range (r .0) (r .1))) k ≡ true) ↔ (r .1 ≤ k)
-rows-limited k r = limited k (r .1) (range (r .0) (r .1)) (range-length (r .0) (r .1))
+rows-limited k r = limited k (length (range (r .0) (r .1))) (r .1) (range-length (r .0) (r .1))
 
 -- what is asked of each thing may be said in other words
 each-thing : {I : Type 0} {P Q R : I → Type 0} → ((i : I) → Q i ↔ R i) → ((i : I) → P i → Q i) ↔ ((i : I) → P i → R i)
 each-thing f = (λ h i p. f i .0 (h i p), λ h i p. f i .1 (h i p))
+
+-- of a string that can be read, what is asked of its bytes may be said of its characters
+each-string : {v : Value} (P : List ℕ → Type 0) (Q : ℕ → Type 0) → ((xs : List ℕ) (u : Utf8 xs) → P xs ↔ Q (characters u)) → WellSpelled v
+    → ((xs : List ℕ) → v ≡ string xs → P xs) ↔ ((xs : List ℕ) → v ≡ string xs → (u : Utf8 xs) → Q (characters u))
+each-string P Q same r = (λ h xs e u. same xs u .0 (h xs e), λ h xs e. same xs (r xs e) .1 (h xs e (r xs e)))
 
 each-rows : {P Q : ℕ → ℕ → Type 0} → ((r : Rows) → P (r .0) (r .1) → Q (r .0) (r .1)) ↔ ((first count : ℕ) → P first count → Q first count)
 each-rows = (λ h first count p. h (first, count) p, λ h r p. h (r .0) (r .1) p)
@@ -70,8 +78,8 @@ module _ (D : Doc) where
         exclusiveMinimum-is = λ j z. number-given (D .value j) (λ y. ltZ z y);
         exclusiveMaximum-is = λ j z. number-given (D .value j) (λ y. ltZ y z);
         multipleOf-is = λ j z. and-then (number-given (D .value j) (λ y. isMultiple y z)) (each-thing (λ y. multiple-is y z));
-        minLength-is = λ j k. and-then (string-given (D .value j) (λ xs. leb k (length xs))) (each-thing (λ xs. sized k (length xs) xs refl));
-        maxLength-is = λ j k. and-then (string-given (D .value j) (λ xs. leb (length xs) k)) (each-thing (λ xs. limited k (length xs) xs refl));
+        minLength-is = λ j k r. and-then (string-given (D .value j) (λ xs. leb k (lengthOf xs))) (each-string (λ xs. leb k (lengthOf xs) ≡ true) (λ n. k ≤ n) (λ xs u. sized k (lengthOf xs) (characters u) (count-is u)) r);
+        maxLength-is = λ j k r. and-then (string-given (D .value j) (λ xs. leb (lengthOf xs) k)) (each-string (λ xs. leb (lengthOf xs) k ≡ true) (λ n. n ≤ k) (λ xs u. limited k (lengthOf xs) (characters u) (count-is u)) r);
         minItems-is = λ j k. and-then (array-given (D .value j) (λ xs. leb k (length xs))) (and-then (each-thing (rows-sized k)) each-rows);
         maxItems-is = λ j k. and-then (array-given (D .value j) (λ xs. leb (length xs) k)) (and-then (each-thing (rows-limited k)) each-rows);
         minProperties-is = λ j k. and-then (object-given (D .value j) (λ xs. leb k (length xs))) (and-then (each-thing (rows-sized k)) each-rows);

@@ -3,17 +3,20 @@
 -- Assumes nothing.
 use mathlib.Core.Bool.{Bool, true, false, _&&_, cond}
 use mathlib.Core.List.{List, [], _∷_, _++_, map, List·Memᴰ as In, Memᴰ·append-left, Memᴰ·append-right, List·Memᴰ·head as at-head, List·Memᴰ·tail as in-tail}
+use mathlib.Core.Logic.{⊎-elim}
 use mathlib.Core.Path.{_≡_, refl, sym, ap, _∙_, subst}
 use Prim.Native.Nat.{ℕ, zero, suc, _+_, _-_, _*_, _≤_, _<_}
 use native.Mathlib.Omega.{arith}
 use lib.Dec.{ltb}
 use lib.ListN.{length, getD, take, drop, length-map, length-append, length-drop, List·getD-append}
 use lib.Seq.{take-at, drop-at}
-use borrow.Author.Tests.{ltb-true, ltb-false}
+use borrow.Author.Tests.{ltb-true, ltb-false, le-ltb}
+use Rattle.laws.proofs.Tests.{le-or-lt}
 use Rattle.sheet.specs.Refusals.{accepted, refused, Line, firstLine}
-use Rattle.sheet.specs.Doc.{Doc, firstChild, childCount}
+use Rattle.sheet.specs.Doc.{null, string, Doc, firstChild, childCount}
 use Rattle.sheet.specs.Record.{rowsWord, docOf}
 use Rattle.sheet.specs.Faults.{recordLines, recordOutcome}
+use Rattle.sheet.proofs.Shape.{well-formed}
 use Rattle.rulesheet.specs.Ruleset.{Ruleset}
 use Rattle.rulesheet.specs.Sheet.{schemasWord, rulesOf}
 use Rattle.rules.specs.Check.{ruleLines, rulesOutcome}
@@ -21,6 +24,7 @@ use Rattle.meaning.specs.Lists.{range, keep, concatMap}
 use Rattle.meaning.specs.Rules.{Pair, Result, truth}
 use Rattle.meaning.specs.Derivation.{Schema}
 use Rattle.meaning.specs.Settling.{listed, root, settled, word, list, cell, cells, marked}
+use Rattle.meaning.specs.Keywords.{WellSpelled}
 use Rattle.meaning.specs.Fit.{Fit}
 use Rattle.meaning.specs.Once.{Distinct}
 use Rattle.meaning.specs.Answer.{verdict, Left, areaLines, table, judged, judge}
@@ -67,6 +71,14 @@ cell-by D R n m done t same j s =
       adds = adds-by done j up (t up) (ltb 0 j) (listed up done) (truth D R up .marks j) refl refl (ap (λ (r : Result). r .marks j) (same up));
       together = refl;
     }
+
+-- past the rows there are nulls
+past-rows : (ws ts : List ℕ) (j : ℕ) → rowsWord ws ≤ j → WellSpelled (docOf ws ts .value j)
+unfolding docOf
+past-rows ws ts j h = λ bytes e. absurd (never bytes (rw (le-ltb j (rowsWord ws) h) at e))
+  where
+    never : (bytes : List ℕ) → null ≡ string bytes → ⊥
+    never bytes f = let z : _≡_ {A = ℕ} 0 1 = cc in omega arith
 
 -- ---- a call that is not refused
 
@@ -161,6 +173,7 @@ module _ (ws ts rs us cs ls : List ℕ) where
       record {
         total = total ws ts rs us cs ls left e;
         assertions = assertions D;
+        readable = λ none j. ⊎-elim (λ (h : n ≤ j). past-rows ws ts j h) (λ (h : j < n). well-formed ws ts n (good none) .readable j h) (le-or-lt n j);
         reaches = reaches D;
         joinings = joinings;
         derived = λ none p.

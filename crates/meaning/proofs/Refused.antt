@@ -15,6 +15,7 @@ use lib.ListN.{length}
 use borrow.Author.Tests.{lt-ltb, le-ltb, ltb-true, ltb-false, not-false}
 use Rattle.laws.specs.Lowest.{lowest}
 use Rattle.laws.proofs.Tests.{decide, le-or-lt}
+use Rattle.utf8.proofs.Meaning.{utf8-is}
 use Rattle.sheet.specs.Refusals.{Outcome, accepted, refused, Line, lowestLine, firstLine}
 use Rattle.sheet.specs.Doc.{Doc}
 use Rattle.sheet.specs.Record.{rowsWord, docOf}
@@ -24,7 +25,7 @@ use Rattle.sheet.proofs.Tables.{test-passed, test-given}
 use Rattle.rulesheet.specs.declared.form.RuleForm.{RuleForm}
 use Rattle.rulesheet.specs.Ruleset.{Clause, Ruleset, unguarded, steps, next}
 use Rattle.rulesheet.specs.Sheet.{schemasWord, clausesWord, entriesWord, formOf, rulesOf}
-use Rattle.rulesheet.specs.Faults.{wordsOk, textOk, schemaFault, clauseFault, entryFault, repeated}
+use Rattle.rulesheet.specs.Faults.{wordsOk, textOk, schemaFault, clauseFault, entryFault, repeated, notUtf8}
 use Rattle.rulesheet.specs.Read.{RulesFormed, RulesLaid}
 use Rattle.rulesheet.proofs.Naming.{named-inside, steps-named}
 use Rattle.unguarded.specs.Graph.{chain-steps, OnLoop, Chain, chain, onLoop}
@@ -34,7 +35,7 @@ use Rattle.rules.proofs.Checks.{schemas-laid, clauses-laid, rules-laid, words-i
 use Rattle.meaning.specs.Rules.{truth}
 use Rattle.meaning.specs.Settling.{root, settled, marked}
 use Rattle.meaning.specs.Answer.{Answer, valid, invalid, refuses, verdict, Left, areaLines, table, judged, unless, judge}
-use Rattle.meaning.specs.Demands.{First, NoneBelow, NoneOf, LowestOf, Total}
+use Rattle.meaning.specs.Demands.{First, NoneOf, NoneBefore, LowestOf, Total}
 use Rattle.meaning.specs.Lists.{all}
 use Rattle.meaning.proofs.Members.{all-pass}
 use Rattle.meaning.proofs.Values.{and-then}
@@ -194,6 +195,7 @@ module _ (ws ts rs us cs ls : List ℕ) where
       ∷ lowestLine 6 m (clausesWord rs) (clauseFault rs)
       ∷ lowestLine 6 (m + clausesWord rs) (entriesWord rs) (entryFault rs)
       ∷ lowestLine 7 (m + clausesWord rs) (entriesWord rs) (repeated rs us)
+      ∷ lowestLine 13 (m + clausesWord rs) (entriesWord rs) (notUtf8 rs us)
       ∷ []
 
   abbrev before8 : List Line
@@ -208,10 +210,6 @@ module _ (ws ts rs us cs ls : List ℕ) where
   abbrev after8 : List Line
   after8 = lowestLine 9 0 m (chain (next R) chain-steps) ∷ areas
 
-  low8 : (l : Line) → In l before8 → l .number < 8
-  unfolding all
-  low8 l i = ltb-true (l .number) 8 (all-pass (λ k. ltb (k .number) 8) before8 .0 refl l i)
-
   high8 : (l : Line) → In l after8 → 8 < l .number
   unfolding all
   high8 l i = ltb-true 8 (l .number) (all-pass (λ k. ltb 8 (k .number)) after8 .0 refl l i)
@@ -220,9 +218,9 @@ module _ (ws ts rs us cs ls : List ℕ) where
   unfolding all
   high9 l i = ltb-true 9 (l .number) (all-pass (λ k. ltb 9 (k .number)) areas .0 refl l i)
 
-  module _ (none : NoneBelow 8 lines) where
+  module _ (none : NoneBefore 8 lines) where
     none8 : NoneOf before8
-    none8 l i = none l (Memᴰ·append-left (line8 ∷ after8) i) (low8 l i)
+    none8 = none before8 after8 line8 refl refl
 
     -- 5 and 6 do not apply
     in-order : (wordsOk rs && textOk rs (length us)) ≡ true
@@ -251,12 +249,9 @@ module _ (ws ts rs us cs ls : List ℕ) where
         lowest-refused 8 m (onLoop m (next R)) (OnLoop (next R)) (loop-at m (next R)) (loop-first m (next R) rules-inside)
         before8 after8 none8 high8
 
-  module _ (none : NoneBelow 9 lines) where
+  module _ (none : NoneBefore 9 lines) where
     none9 : NoneOf (before8 ++ line8 ∷ [])
-    none9 l i = ⊎-elim (λ j. none l (Memᴰ·append-left (line8 ∷ after8) j) (omega (arith, low8 l j))) (λ j. at8 l (List·Memᴰ·eq-of-singleton j)) (List·Memᴰ·append-cases before8 i)
-      where
-        at8 : (l : Line) → l ≡ line8 → l .applies ≡ false
-        at8 l e = subst (λ x. x .applies ≡ false) (sym e) (none line8 (Memᴰ·append-right before8 (at-head refl)) (omega arith))
+    none9 = none (before8 ++ line8 ∷ []) areas (lowestLine 9 0 m (chain (next R) chain-steps)) refl refl
 
     chain-is : (p : ℕ) → (firstLine lines 0 ≡ refused 9 p) ↔ LowestOf (Chain (next R) chain-steps) m p
     chain-is =
@@ -272,4 +267,5 @@ module _ (ws ts rs us cs ls : List ℕ) where
         only-refused = λ number place f. given-first lines 0 number place (answered number place .0 f);
         loop = λ none p. and-then (answered 8 p) (loop-is none p);
         chain = λ none p. and-then (answered 9 p) (chain-is none p);
+        text = utf8-is;
       }

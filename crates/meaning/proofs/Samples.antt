@@ -2,7 +2,8 @@
 -- where nothing else is said.
 --     samples       the twelve of 01
 --     further       not, marks of other schemas, items without and with prefixItems, marks passed on by a clause that fails, short areas,
---                   additionalProperties beside marks, the mark of a pair that was never settled, unevaluatedItems
+--                   additionalProperties beside marks, the mark of a pair that was never settled, unevaluatedItems, a length in characters,
+--                   text that is not UTF-8
 -- Assumes nothing.
 use Prim.Native.Nat.{ℕ}
 use mathlib.Core.Path.{_≡_, refl}
@@ -10,6 +11,7 @@ use mathlib.Core.List.{List, [], _∷_, map}
 use lib.ListN.{replicate}
 use Rattle.laws.specs.Lowest.{lowestFrom}
 use Rattle.text.specs.Part
+use Rattle.utf8.specs.Automaton
 use Rattle.decimal.specs.Value
 use Rattle.names.specs.Names.{repeatsBy}
 use Rattle.sheet.specs.Kinds.{kindOf}
@@ -362,11 +364,63 @@ t13 =
       leaves = record { answer = valid 3 2; cells = 1 ∷ 0 ∷ 0 ∷ 4 ∷ 1 ∷ 0 ∷ 4 ∷ 0 ∷ 1 ∷ 9 ∷ []; list = 4 ∷ 8 ∷ 0 ∷ 77 ∷ 77 ∷ 77 ∷ 77 ∷ 77 ∷ 77 ∷ 77 ∷ [] };
     }
 
+-- 0 (maxLength 1); "ż" in two bytes
+abbrev t14 : Sample
+t14 =
+    record {
+      words = 4 ∷ 0 ∷ 2 ∷ 0 ∷ 0 ∷ 0 ∷ 1 ∷ 6 ∷ 2 ∷ 1 ∷ [];
+      text = 197 ∷ 188 ∷ [];
+      ruleWords = 0 ∷ 1 ∷ 21 ∷ 1 ∷ 0 ∷ 1 ∷ 1 ∷ 0 ∷ 5 ∷ 0 ∷ 2 ∷ [];
+      ruleText = [];
+      cells = 2;
+      list = 2;
+      leaves = record { answer = valid 1 0; cells = 1 ∷ 9 ∷ []; list = 0 ∷ 77 ∷ [] };
+    }
+
+-- the same text, and a string that ends inside the character
+abbrev t15 : Sample
+t15 =
+    record {
+      words = 4 ∷ 0 ∷ 1 ∷ 0 ∷ 0 ∷ 0 ∷ 1 ∷ 6 ∷ 2 ∷ 1 ∷ [];
+      text = 197 ∷ 188 ∷ [];
+      ruleWords = 0 ∷ 1 ∷ 21 ∷ 1 ∷ 0 ∷ 1 ∷ 1 ∷ 0 ∷ 5 ∷ 0 ∷ 2 ∷ [];
+      ruleText = [];
+      cells = 2;
+      list = 2;
+      leaves = record { answer = refuses 13 0; cells = 9 ∷ 9 ∷ []; list = 77 ∷ 77 ∷ [] };
+    }
+
+-- two members of one name that is not UTF-8: 3 is asked first
+abbrev t16 : Sample
+t16 =
+    record {
+      words = 6 ∷ 1 ∷ 2 ∷ 0 ∷ 0 ∷ 0 ∷ 3 ∷ 7 ∷ 0 ∷ 0 ∷ 0 ∷ 1 ∷ 3 ∷ 8 ∷ 0 ∷ 0 ∷ 0 ∷ 1 ∷ 3 ∷ 18 ∷ 1 ∷ 1 ∷ [];
+      text = 255 ∷ [];
+      ruleWords = 0 ∷ 1 ∷ 21 ∷ 1 ∷ 0 ∷ 1 ∷ 1 ∷ 0 ∷ 5 ∷ 0 ∷ 2 ∷ [];
+      ruleText = [];
+      cells = 1;
+      list = 1;
+      leaves = record { answer = refuses 3 2; cells = 9 ∷ []; list = 77 ∷ [] };
+    }
+
+-- 0 (required, of a name that is not UTF-8; ref 0); null: 13 is asked before 8
+abbrev t17 : Sample
+t17 =
+    record {
+      words = 0 ∷ 0 ∷ 0 ∷ 0 ∷ 0 ∷ 0 ∷ 1 ∷ 6 ∷ 0 ∷ 1 ∷ [];
+      text = [];
+      ruleWords = 0 ∷ 2 ∷ 26 ∷ 0 ∷ 1 ∷ 34 ∷ 0 ∷ 0 ∷ 0 ∷ 1 ∷ 0 ∷ 1 ∷ 2 ∷ 1 ∷ 11 ∷ 1 ∷ 2 ∷ [];
+      ruleText = 128 ∷ [];
+      cells = 1;
+      list = 1;
+      leaves = record { answer = refuses 13 3; cells = 9 ∷ []; list = 77 ∷ [] };
+    }
+
 abbrev leftOf : Sample → Left
 leftOf s = judge (s .words) (s .text) (s .ruleWords) (s .ruleText) (replicate (s .cells) 9) (replicate (s .list) 77)
 
 unfoldable samples-compute : Unit {0}
-unfolding lowestFrom Part.part-computes Value.value-computes repeatsBy kindOf levels level D.formOf D.rowAt D.docOf F.wordsOk F.ownsOk F.placeOk F.rowOk F.repeated R.steps lineIn S.formOf S.schemaAt S.clauseAt S.entryAt S.run S.clauseOf S.rulesOf C.wordsOk C.schemaStart C.schemaFine C.schemaOver C.rises C.listStart C.listOk C.clauseFineIn C.clauseFine C.listOver C.entryFine C.repeated someOf chain via onLoop Lists.lists-computes Tests.tests-computes Rules.rules-computes Settling.settling-computes Answer.answer-computes
+unfolding lowestFrom Part.part-computes Value.value-computes repeatsBy kindOf levels level D.formOf D.rowAt D.docOf F.wordsOk F.ownsOk F.placeOk F.rowOk F.repeated F.notUtf8 Automaton.automaton-computes R.steps lineIn S.formOf S.schemaAt S.clauseAt S.entryAt S.run S.clauseOf S.rulesOf C.wordsOk C.schemaStart C.schemaFine C.schemaOver C.rises C.listStart C.listOk C.clauseFineIn C.clauseFine C.listOver C.entryFine C.repeated C.notUtf8 someOf chain via onLoop Lists.lists-computes Tests.tests-computes Rules.rules-computes Settling.settling-computes Answer.answer-computes
 samples-compute = tt
 
 abbrev twelve : List Sample
@@ -377,7 +431,7 @@ unfolding samples-compute
 samples = refl
 
 abbrev ours : List Sample
-ours = t1 ∷ t2 ∷ t3 ∷ t4 ∷ t5 ∷ t6 ∷ t7 ∷ t8 ∷ t9 ∷ t10 ∷ t11 ∷ t12 ∷ t13 ∷ []
+ours = t1 ∷ t2 ∷ t3 ∷ t4 ∷ t5 ∷ t6 ∷ t7 ∷ t8 ∷ t9 ∷ t10 ∷ t11 ∷ t12 ∷ t13 ∷ t14 ∷ t15 ∷ t16 ∷ t17 ∷ []
 
 pub further : map leftOf ours ≡ map (λ s. s .leaves) ours
 unfolding samples-compute

@@ -8,6 +8,8 @@ use mathlib.Core.List.{List, [], _∷_, _++_, map, List·Memᴰ as In}
 use mathlib.Core.Logic.{_↔_}
 use mathlib.Core.Path.{_≡_}
 use lib.ListN.{length, getD, take, drop}
+use Rattle.utf8.specs.Encoding.{Utf8}
+use Rattle.utf8.specs.Automaton.{isUtf8}
 use Rattle.sheet.specs.Refusals.{Line}
 use Rattle.sheet.specs.Doc.{Doc, firstChild, childCount, Child}
 use Rattle.sheet.specs.Record.{rowsWord, docOf}
@@ -17,7 +19,7 @@ use Rattle.unguarded.specs.Graph.{chain-steps, OnLoop, Chain}
 use Rattle.meaning.specs.Lists.{range, keep}
 use Rattle.meaning.specs.Rules.{Pair, Marks, Result}
 use Rattle.meaning.specs.Derivation.{Schema}
-use Rattle.meaning.specs.Keywords.{Assertions, Reaches, Joinings}
+use Rattle.meaning.specs.Keywords.{WellSpelled, Assertions, Reaches, Joinings}
 use Rattle.meaning.specs.Settling.{root}
 use Rattle.meaning.specs.Once.{Distinct, Once}
 use Rattle.meaning.specs.Answer.{refuses, verdict, Left, table}
@@ -32,13 +34,13 @@ pub record First (lines : List Line) (line : Line) : Type 0 where
   pub passed : (l : Line) → In l before → l .applies ≡ false
   pub given : line .applies ≡ true
 
--- none of the lines that have a number below k applies
-abbrev pub NoneBelow : ℕ → List Line → Type 0
-NoneBelow k lines = (l : Line) → In l lines → l .number < k → l .applies ≡ false
-
 -- none of the lines applies
 abbrev pub NoneOf : List Line → Type 0
 NoneOf lines = (l : Line) → In l lines → l .applies ≡ false
+
+-- none of the lines that stand before one of number k applies
+abbrev pub NoneBefore : ℕ → List Line → Type 0
+NoneBefore k lines = (before after : List Line) (line : Line) → lines ≡ before ++ line ∷ after → line .number ≡ k → NoneOf before
 
 -- s is the lowest of m schemas that P is true of
 abbrev pub LowestOf : (ℕ → Type 0) → ℕ → ℕ → Type 0
@@ -98,8 +100,10 @@ module _ (ws ts rs us cells₀ list₀ : List ℕ) where
     -- and no other
     pub only-refused : (number place : ℕ) → left .answer ≡ refuses number place → (line : Line) × First lines line × (line .number ≡ number) × (line .place ≡ place)
     -- 8 and 9, where no line before them applies: the lowest schema on an unguarded loop, and the lowest that starts an unguarded chain of 33 schemas
-    pub loop : NoneBelow 8 lines → (p : ℕ) → (left .answer ≡ refuses 8 p) ↔ LowestOf (OnLoop (next R)) m p
-    pub chain : NoneBelow 9 lines → (p : ℕ) → (left .answer ≡ refuses 9 p) ↔ LowestOf (Chain (next R) chain-steps) m p
+    pub loop : NoneBefore 8 lines → (p : ℕ) → (left .answer ≡ refuses 8 p) ↔ LowestOf (OnLoop (next R)) m p
+    pub chain : NoneBefore 9 lines → (p : ℕ) → (left .answer ≡ refuses 9 p) ↔ LowestOf (Chain (next R) chain-steps) m p
+    -- 13 asks of bytes whether they are those of a list of code points
+    pub text : (bytes : List ℕ) → (isUtf8 bytes ≡ true) ↔ Utf8 bytes
 
   -- 2. "Otherwise the verdict and the marked children are those that the rules derive, for the root and for every pair settled on the way." t is what the
   -- rules derive of each pair
@@ -134,6 +138,8 @@ module _ (ws ts rs us cells₀ list₀ : List ℕ) where
     pub total : Total left
     -- the rules are those of document 000: schemas and lists of keywords are the trees' constructors, and each keyword's rule in words is
     pub assertions : Assertions D
+    -- every string of a record that is judged has a length
+    pub readable : NoneOf lines → (j : ℕ) → WellSpelled (D .value j)
     pub reaches : (p : Pair) (before : List Clause) (κ : Marks) → Reaches D p before κ
     pub joinings : Joinings
     pub derived : NoneOf lines → (p : Pair) → Derived p

@@ -11,6 +11,7 @@ use lib.ListN.{length, getD}
 use lib.IntN.{ℤ, natAbs}
 use lib.Signed.{leZ, ltZ}
 use Rattle.decimal.specs.Value.{one}
+use Rattle.utf8.specs.Encoding.{Utf8, characters}
 use Rattle.sheet.specs.Doc.{Value, null, bool, number, string, array, object, Doc}
 use Rattle.rulesheet.specs.Ruleset.{never, type, enum, minimum, maximum, exclusiveMinimum, exclusiveMaximum, multipleOf}
 use Rattle.rulesheet.specs.Ruleset.{minLength, maxLength, minItems, maxItems, minProperties, maxProperties, required}
@@ -45,6 +46,10 @@ Scalar (number z) = Unit {0}
 Scalar (string bytes) = Unit {0}
 Scalar (array first count) = ⊥
 Scalar (object first count) = ⊥
+
+-- a string is UTF-8, which 13 asks of every row
+abbrev pub WellSpelled : Value → Type 0
+WellSpelled v = (bytes : List ℕ) → v ≡ string bytes → Utf8 bytes
 
 -- k is one of the `count` rows from `first` on
 abbrev pub Within : ℕ → ℕ → ℕ → Type 0
@@ -90,9 +95,9 @@ module _ (D : Doc) where
     pub exclusiveMaximum-is : (j : ℕ) (z : ℤ) → (passes D j (exclusiveMaximum z) ≡ true) ↔ ((y : ℤ) → D .value j ≡ number y → ltZ y z ≡ true)
     -- 14, (multipleOf)
     pub multipleOf-is : (j : ℕ) (z : ℤ) → (passes D j (multipleOf z) ≡ true) ↔ ((y : ℤ) → D .value j ≡ number y → Times y (natAbs z))
-    -- 20 and 21, (minLength), (maxLength)
-    pub minLength-is : (j k : ℕ) → (passes D j (minLength k) ≡ true) ↔ ((bytes : List ℕ) → D .value j ≡ string bytes → k ≤ length bytes)
-    pub maxLength-is : (j k : ℕ) → (passes D j (maxLength k) ≡ true) ↔ ((bytes : List ℕ) → D .value j ≡ string bytes → length bytes ≤ k)
+    -- 20 and 21, (minLength), (maxLength): a string's length is that of the list of code points that it encodes
+    pub minLength-is : (j k : ℕ) → WellSpelled (D .value j) → (passes D j (minLength k) ≡ true) ↔ ((bytes : List ℕ) → D .value j ≡ string bytes → (u : Utf8 bytes) → k ≤ characters u)
+    pub maxLength-is : (j k : ℕ) → WellSpelled (D .value j) → (passes D j (maxLength k) ≡ true) ↔ ((bytes : List ℕ) → D .value j ≡ string bytes → (u : Utf8 bytes) → characters u ≤ k)
     -- 22 and 23, (minItems), (maxItems)
     pub minItems-is : (j k : ℕ) → (passes D j (minItems k) ≡ true) ↔ ((first count : ℕ) → D .value j ≡ array first count → k ≤ count)
     pub maxItems-is : (j k : ℕ) → (passes D j (maxItems k) ≡ true) ↔ ((first count : ℕ) → D .value j ≡ array first count → count ≤ k)

@@ -17,7 +17,7 @@ use Rattle.rulesheet.specs.Ruleset.{minLength, maxLength, minItems, maxItems, m
 use Rattle.rulesheet.specs.Ruleset.{Mode, allOf, anyOf, oneOf, notOf, ref, Reach, properties, additionalProperties, prefixItems, items}
 use Rattle.rulesheet.specs.Ruleset.{unevaluatedProperties, unevaluatedItems, Clause, asserts, inPlace, takes, Ruleset}
 use Rattle.meaning.specs.Lists.{all, any, count, elem, keep, concatMap}
-use Rattle.meaning.specs.Tests.{number?, bytes?, elements?, members?, given, rows, atLeast, atMost, typed, equal}
+use Rattle.meaning.specs.Tests.{number?, bytes?, elements?, members?, given, rows, lengthOf, atLeast, atMost, typed, equal}
 
 pub record Pair : Type 0 where
   pub row : ℕ
@@ -152,12 +152,12 @@ module _ (D : Doc) where
   passes j (exclusiveMinimum z) = given (number? (D .value j)) (λ y. ltZ z y)  -- 12 (exclusiveMinimum)
   passes j (exclusiveMaximum z) = given (number? (D .value j)) (λ y. ltZ y z)  -- 13 (exclusiveMaximum)
   passes j (multipleOf z) = given (number? (D .value j)) (λ y. isMultiple y z)  -- 14 (multipleOf)
-  passes j (minLength k) = atLeast k (bytes? (D .value j))  -- 20 (minLength)
-  passes j (maxLength k) = atMost k (bytes? (D .value j))  -- 21 (maxLength)
-  passes j (minItems k) = atLeast k (elements? (D .value j))  -- 22 (minItems)
-  passes j (maxItems k) = atMost k (elements? (D .value j))  -- 23 (maxItems)
-  passes j (minProperties k) = atLeast k (members? (D .value j))  -- 24 (minProperties)
-  passes j (maxProperties k) = atMost k (members? (D .value j))  -- 25 (maxProperties)
+  passes j (minLength k) = atLeast lengthOf k (bytes? (D .value j))  -- 20 (minLength)
+  passes j (maxLength k) = atMost lengthOf k (bytes? (D .value j))  -- 21 (maxLength)
+  passes j (minItems k) = atLeast length k (elements? (D .value j))  -- 22 (minItems)
+  passes j (maxItems k) = atMost length k (elements? (D .value j))  -- 23 (maxItems)
+  passes j (minProperties k) = atLeast length k (members? (D .value j))  -- 24 (minProperties)
+  passes j (maxProperties k) = atMost length k (members? (D .value j))  -- 25 (maxProperties)
   passes j (required names) = given (members? (D .value j)) (present names)  -- 26 (required)
 
   -- the children that a clause takes, with their schemas, after the clauses `before` of the same schema, which mark κ

@@ -5,10 +5,10 @@ use mathlib.Core.Bool.{Bool, true, false, _&&_, _||_, not}
 use mathlib.Core.Option.{Option, none, some}
 use mathlib.Core.List.{List, [], _∷_, map}
 use lib.Dec.{eqb, leb}
-use lib.ListN.{length}
 use lib.IntN.{ℤ}
 use Rattle.decimal.specs.Value.{equalZ, isWhole}
 use Rattle.text.specs.Part.{sameBytes}
+use Rattle.utf8.specs.Counting.{leadLength, countAfter, count}
 use Rattle.sheet.specs.Doc.{Value, null, bool, number, string, array, object, valueKind}
 use Rattle.sheet.specs.Kinds.{kindNumber}
 use Rattle.meaning.specs.Lists.{any, range}
@@ -56,12 +56,16 @@ unfoldable pub rows : Option (List ℕ) → List ℕ
 rows none = []
 rows (some ks) = ks
 
--- the limits of a size: at least k and at most k of what there is
-unfoldable pub atLeast : ℕ → Option (List ℕ) → Bool
-atLeast k xs = given xs (λ ys. leb k (length ys))
+-- a string's length is how many characters it has, each counted by its lead byte: of UTF-8 how many code points it encodes (`count-is` of crate `utf8`)
+abbrev pub lengthOf : List ℕ → ℕ
+lengthOf bytes = count bytes
 
-unfoldable pub atMost : ℕ → Option (List ℕ) → Bool
-atMost k xs = given xs (λ ys. leb (length ys) k)
+-- the limits of a size: at least k and at most k of what there is
+unfoldable pub atLeast : (List ℕ → ℕ) → ℕ → Option (List ℕ) → Bool
+atLeast size k xs = given xs (λ ys. leb k (size ys))
+
+unfoldable pub atMost : (List ℕ → ℕ) → ℕ → Option (List ℕ) → Bool
+atMost size k xs = given xs (λ ys. leb (size ys) k)
 
 -- a sum of types has the type of this number
 unfoldable pub has : ℕ → ℕ → Bool
@@ -88,5 +92,5 @@ equal v w = eqb (kindNumber (valueKind v)) (kindNumber (valueKind w)) && agree e
 
 -- opens this module to a computation
 unfoldable pub tests-computes : Unit {0}
-unfolding number? bytes? elements? members? given rows agree atLeast atMost has typed equal
+unfolding leadLength countAfter count number? bytes? elements? members? given rows agree atLeast atMost has typed equal
 tests-computes = tt

@@ -1,3 +1,4 @@
 mod Schemas
 mod Passes
 mod Naming
+pub mod Readable

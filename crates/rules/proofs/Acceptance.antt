@@ -8,14 +8,17 @@ use mathlib.Core.Path.{_≡_, refl, sym, ap, _∙_}
 use Prim.Native.Nat.{ℕ, suc, _+_, _-_, _≤_, _<_}
 use native.Mathlib.Omega.{arith}
 use lib.ListN.{length}
-use borrow.Author.Tests.{ne-eqb, ltb-true}
+use borrow.Author.Tests.{ne-eqb, ltb-true, not-false}
 use Rattle.laws.specs.Lowest.{lowest}
 use Rattle.laws.proofs.Tests.{le-or-lt, decide, left, right}
+use Rattle.utf8.specs.Encoding.{Utf8}
+use Rattle.utf8.specs.Automaton.{isUtf8}
+use Rattle.utf8.proofs.Meaning.{utf8-is}
 use Rattle.sheet.specs.Refusals.{accepted, refused}
 use Rattle.sheet.proofs.Acceptance.{clash}
 use Rattle.rulesheet.specs.declared.form.RuleForm.{RuleForm}
-use Rattle.rulesheet.specs.Sheet.{schemasWord, clausesWord, entriesWord, schemaAt, clauseAt, nextOf}
-use Rattle.rulesheet.specs.Faults.{wordsOk, textOk, fieldsOk, fieldsAt, schemaStart, rises, listStart, listOk, clauseFineIn, schemaFault, clauseFault, entryFault, repeated}
+use Rattle.rulesheet.specs.Sheet.{schemasWord, clausesWord, entriesWord, schemaAt, clauseAt, entryAt, nextOf}
+use Rattle.rulesheet.specs.Faults.{wordsOk, textOk, fieldsOk, fieldsAt, schemaStart, rises, listStart, listOk, clauseFineIn, schemaFault, clauseFault, entryFault, listOver, repeated, entryText, notUtf8}
 use Rattle.rulesheet.specs.Read.{RulesFormed, RulesLaid}
 use Rattle.rulesheet.proofs.Trailers.{trailer-facts, form-m, form-c, form-e}
 use Rattle.rulesheet.proofs.Taking.{schema-first, schema-within, schemas-within, clause-taken, clause-untaken, list-facts}
@@ -25,7 +28,7 @@ use Rattle.unguarded.proofs.Grounds.{grounded}
 use Rattle.unguarded.proofs.Steps.{next-none, same-next}
 use Rattle.rules.specs.Check.{rulesOutcome}
 use Rattle.rules.specs.Accepted.{AcceptedRules, RulesFacts}
-use Rattle.rules.proofs.Checks.{nowhere, schemas-laid, clauses-laid, rules-laid, words-in-order, at-trailer, at-schema, at-clause, at-entry, at-name, at-loop, at-chain}
+use Rattle.rules.proofs.Checks.{nowhere, schemas-laid, clauses-laid, rules-laid, words-in-order, at-trailer, at-schema, at-clause, at-entry, at-name, at-text, at-loop, at-chain}
 
 module _ (ws ts : List ℕ) (n : ℕ) (ok : rulesOutcome ws ts ≡ accepted n) where
   abbrev m : ℕ
@@ -57,15 +60,24 @@ module _ (ws ts : List ℕ) (n : ℕ) (ok : rulesOutcome ws ts ≡ accepted n) w
   no-name : entriesWord ws ≤ lowest (repeated ws ts) (entriesWord ws)
   no-name = none-at (repeated ws ts) (entriesWord ws) 7 (m + clausesWord ws) (at-name ws ts good no-schema no-clause no-entry)
 
+  no-text : entriesWord ws ≤ lowest (notUtf8 ws ts) (entriesWord ws)
+  no-text = none-at (notUtf8 ws ts) (entriesWord ws) 13 (m + clausesWord ws) (at-text ws ts good no-schema no-clause no-entry no-name)
+
   no-loop : m ≤ lowest (onLoop m (nextOf ws)) m
   no-loop =
       none-at (onLoop m (nextOf ws)) m 8 0
-      (λ place e h. at-loop ws ts good no-schema no-clause no-entry no-name place e h ∙ ap (refused 8) (omega arith))
+      (λ place e h. at-loop ws ts good no-schema no-clause no-entry no-name no-text place e h ∙ ap (refused 8) (omega arith))
 
   no-chain : m ≤ lowest (chain (nextOf ws) chain-steps) m
   no-chain =
       none-at (chain (nextOf ws) chain-steps) m 9 0
-      (λ place e h. at-chain ws ts good no-schema no-clause no-entry no-name no-loop place e h ∙ ap (refused 9) (omega arith))
+      (λ place e h. at-chain ws ts good no-schema no-clause no-entry no-name no-text no-loop place e h ∙ ap (refused 9) (omega arith))
+
+text-readable : (ws ts : List ℕ) (x : ℕ) → notUtf8 ws ts x ≡ false → Utf8 (entryText (fieldsAt ws (listOver ws x)) ts (entryAt ws x))
+unfolding notUtf8
+text-readable ws ts x f =
+    let bytes = entryText (fieldsAt ws (listOver ws x)) ts (entryAt ws x) in
+    utf8-is bytes .0 (not-false (isUtf8 bytes) f)
 
 module _ (ws ts : List ℕ) (form : RuleForm) (a : AcceptedRules ws ts form) where
   whole : (wordsOk ws && textOk ws (length ts)) ≡ true
@@ -125,5 +137,6 @@ module _ (ws ts : List ℕ) (form : RuleForm) (a : AcceptedRules ws ts form) whe
         lists-end = rw (form-c ws form formed) (all-taken ws ts form accepted-laid);
         codes-rise = rising;
         names-differ = λ (x : ℕ) (h : x < form .e). nowhere (repeated ws ts) (entriesWord ws) (no-name ws ts (form .m) (a .accepts)) x (omega (arith, form-e ws form formed));
+        readable = λ (x : ℕ) (h : x < form .e). text-readable ws ts x (nowhere (notUtf8 ws ts) (entriesWord ws) (no-text ws ts (form .m) (a .accepts)) x (omega (arith, form-e ws form formed)));
         grounds = rw (same-next ws ts) (grounded (nextOf ws) (schemasWord ws) (next-none ws) (no-chain ws ts (form .m) (a .accepts)));
       }

@@ -1,6 +1,6 @@
 -- The rule check's answers, line by line of the refusal table: which line is given, once those before it are known not to apply.
 --     schemas-laid, clauses-laid, rules-laid          what the lines passed give to the next step
---     at-trailer, at-schema, at-clause, at-entry, at-name, at-loop, at-chain     the refusals
+--     at-trailer, at-schema, at-clause, at-entry, at-name, at-text, at-loop, at-chain     the refusals
 --     no-line                                         acceptance
 -- Assumes nothing.
 use mathlib.Core.Bool.{Bool, true, false, not, _&&_}
@@ -11,7 +11,7 @@ use native.Mathlib.Nat.{zero-add}
 use native.Mathlib.Omega.{arith}
 use lib.Dec.{eqb, leb}
 use lib.ListN.{length}
-use borrow.Author.Tests.{eqb-true, not-false}
+use borrow.Author.Tests.{eqb-true, leb-true, not-false}
 use Rattle.laws.specs.Lowest.{lowest}
 use Rattle.laws.proofs.Tests.{left, right}
 use Rattle.laws.proofs.Searches.{clear-below}
@@ -21,7 +21,7 @@ use Rattle.sheet.proofs.Tables.{test-passed, test-given, line-passed, line-give
 use Rattle.rulesheet.specs.declared.form.RuleForm.{RuleForm}
 use Rattle.rulesheet.specs.Ruleset.{next}
 use Rattle.rulesheet.specs.Sheet.{schemasWord, clausesWord, entriesWord, textWord, rulesOf, nextOf}
-use Rattle.rulesheet.specs.Faults.{wordsOk, textOk, schemaFine, clauseFine, entryFine, schemaFault, clauseFault, entryFault, repeated}
+use Rattle.rulesheet.specs.Faults.{wordsOk, textOk, schemaFine, clauseFine, entryFine, schemaFault, clauseFault, entryFault, repeated, notUtf8}
 use Rattle.rulesheet.specs.Read.{RulesFormed, SchemasLaid, ClausesLaid, RulesLaid}
 use Rattle.rulesheet.proofs.Trailers.{form-m, form-c, form-e}
 use Rattle.unguarded.specs.Graph.{chain-steps, chain, onLoop}
@@ -54,7 +54,7 @@ module _ (ws : List ℕ) (form : RuleForm) (formed : RulesFormed ws form) where
         entries-fine = λ (x : ℕ) (h : x < form .e). not-false (entryFine ws x) (nowhere (entryFault ws) (entriesWord ws) none x (omega (arith, form-e ws form formed)));
       }
 
--- ---- the table's lines 6 to 9, from each on
+-- ---- the table's lines after 5, from each on
 
 abbrev from9 : List ℕ → List ℕ → List Line
 from9 ws ts = lowestLine 9 0 (schemasWord ws) (chain (next (rulesOf ws ts)) chain-steps) ∷ []
@@ -62,8 +62,11 @@ from9 ws ts = lowestLine 9 0 (schemasWord ws) (chain (next (rulesOf ws ts)) chai
 abbrev from8 : List ℕ → List ℕ → List Line
 from8 ws ts = lowestLine 8 0 (schemasWord ws) (onLoop (schemasWord ws) (next (rulesOf ws ts))) ∷ from9 ws ts
 
+abbrev from13 : List ℕ → List ℕ → List Line
+from13 ws ts = lowestLine 13 (schemasWord ws + clausesWord ws) (entriesWord ws) (notUtf8 ws ts) ∷ from8 ws ts
+
 abbrev from7 : List ℕ → List ℕ → List Line
-from7 ws ts = lowestLine 7 (schemasWord ws + clausesWord ws) (entriesWord ws) (repeated ws ts) ∷ from8 ws ts
+from7 ws ts = lowestLine 7 (schemasWord ws + clausesWord ws) (entriesWord ws) (repeated ws ts) ∷ from13 ws ts
 
 abbrev fromEntries : List ℕ → List ℕ → List Line
 fromEntries ws ts = lowestLine 6 (schemasWord ws + clausesWord ws) (entriesWord ws) (entryFault ws) ∷ from7 ws ts
@@ -97,6 +100,11 @@ module _ (ws ts : List ℕ) where
         sym (eqb-true (textWord ws) (length ts)
         (left (eqb (textWord ws) (length ts)) (leb (length ts) text-max) (right (wordsOk ws) (textOk ws (length ts)) good)))
 
+    pub text-short : length ts ≤ text-max
+    text-short =
+        leb-true (length ts) text-max
+        (right (eqb (textWord ws) (length ts)) (leb (length ts) text-max) (right (wordsOk ws) (textOk ws (length ts)) good))
+
     past-trailer : rulesOutcome ws ts ≡ firstLine (fromSchemas ws ts) m
     unfolding rulesOutcome
     past-trailer = test-passed _ _ m (ap not good)
@@ -123,26 +131,33 @@ module _ (ws ts : List ℕ) where
           past-entries = past-clauses ∙ line-passed 6 (m + c) e (entryFault ws) (from7 ws ts) m no-entry
 
           pub at-name : (place : ℕ) → place ≡ lowest (repeated ws ts) e → place < e → rulesOutcome ws ts ≡ refused 7 (m + c + place)
-          at-name place is h = past-entries ∙ line-given 7 (m + c) e (repeated ws ts) (from8 ws ts) m place is h
+          at-name place is h = past-entries ∙ line-given 7 (m + c) e (repeated ws ts) (from13 ws ts) m place is h
 
           module _ (no-name : e ≤ lowest (repeated ws ts) e) where
-            -- the text does not matter for the steps
-            past-names : rulesOutcome ws ts ≡ firstLine (lowestLine 8 0 m (onLoop m (nextOf ws)) ∷ lowestLine 9 0 m (chain (nextOf ws) chain-steps) ∷ []) m
-            past-names =
-                past-entries
-                ∙ line-passed 7 (m + c) e (repeated ws ts) (from8 ws ts) m no-name
-                ∙ ap (λ (n : ℕ → List ℕ). firstLine (lowestLine 8 0 m (onLoop m n) ∷ lowestLine 9 0 m (chain n chain-steps) ∷ []) m) (same-next ws ts)
+            past-names : rulesOutcome ws ts ≡ firstLine (from13 ws ts) m
+            past-names = past-entries ∙ line-passed 7 (m + c) e (repeated ws ts) (from13 ws ts) m no-name
 
-            pub at-loop : (place : ℕ) → place ≡ lowest (onLoop m (nextOf ws)) m → place < m → rulesOutcome ws ts ≡ refused 8 place
-            at-loop place is h = past-names ∙ line-given 8 0 m (onLoop m (nextOf ws)) _ m place is h ∙ ap (refused 8) (zero-add place)
+            pub at-text : (place : ℕ) → place ≡ lowest (notUtf8 ws ts) e → place < e → rulesOutcome ws ts ≡ refused 13 (m + c + place)
+            at-text place is h = past-names ∙ line-given 13 (m + c) e (notUtf8 ws ts) (from8 ws ts) m place is h
 
-            module _ (no-loop : m ≤ lowest (onLoop m (nextOf ws)) m) where
-              past-loops : rulesOutcome ws ts ≡ firstLine (lowestLine 9 0 m (chain (nextOf ws) chain-steps) ∷ []) m
-              past-loops = past-names ∙ line-passed 8 0 m (onLoop m (nextOf ws)) _ m no-loop
+            module _ (no-text : e ≤ lowest (notUtf8 ws ts) e) where
+              -- the text does not matter for the steps
+              past-texts : rulesOutcome ws ts ≡ firstLine (lowestLine 8 0 m (onLoop m (nextOf ws)) ∷ lowestLine 9 0 m (chain (nextOf ws) chain-steps) ∷ []) m
+              past-texts =
+                  past-names
+                  ∙ line-passed 13 (m + c) e (notUtf8 ws ts) (from8 ws ts) m no-text
+                  ∙ ap (λ (n : ℕ → List ℕ). firstLine (lowestLine 8 0 m (onLoop m n) ∷ lowestLine 9 0 m (chain n chain-steps) ∷ []) m) (same-next ws ts)
 
-              pub at-chain : (place : ℕ) → place ≡ lowest (chain (nextOf ws) chain-steps) m → place < m → rulesOutcome ws ts ≡ refused 9 place
-              at-chain place is h = past-loops ∙ line-given 9 0 m (chain (nextOf ws) chain-steps) [] m place is h ∙ ap (refused 9) (zero-add place)
+              pub at-loop : (place : ℕ) → place ≡ lowest (onLoop m (nextOf ws)) m → place < m → rulesOutcome ws ts ≡ refused 8 place
+              at-loop place is h = past-texts ∙ line-given 8 0 m (onLoop m (nextOf ws)) _ m place is h ∙ ap (refused 8) (zero-add place)
 
-              pub no-line : m ≤ lowest (chain (nextOf ws) chain-steps) m → rulesOutcome ws ts ≡ accepted m
-              unfolding firstLine
-              no-line no-chain = past-loops ∙ line-passed 9 0 m (chain (nextOf ws) chain-steps) [] m no-chain
+              module _ (no-loop : m ≤ lowest (onLoop m (nextOf ws)) m) where
+                past-loops : rulesOutcome ws ts ≡ firstLine (lowestLine 9 0 m (chain (nextOf ws) chain-steps) ∷ []) m
+                past-loops = past-texts ∙ line-passed 8 0 m (onLoop m (nextOf ws)) _ m no-loop
+
+                pub at-chain : (place : ℕ) → place ≡ lowest (chain (nextOf ws) chain-steps) m → place < m → rulesOutcome ws ts ≡ refused 9 place
+                at-chain place is h = past-loops ∙ line-given 9 0 m (chain (nextOf ws) chain-steps) [] m place is h ∙ ap (refused 9) (zero-add place)
+
+                pub no-line : m ≤ lowest (chain (nextOf ws) chain-steps) m → rulesOutcome ws ts ≡ accepted m
+                unfolding firstLine
+                no-line no-chain = past-loops ∙ line-passed 9 0 m (chain (nextOf ws) chain-steps) [] m no-chain

@@ -4,11 +4,12 @@ use mathlib.Core.Bool.{true, false}
 use mathlib.Core.List.{List}
 use mathlib.Core.Path.{_≡_}
 use Prim.Native.Nat.{ℕ, suc, _+_, _≤_, _<_}
+use Rattle.utf8.specs.Encoding.{Utf8}
 use Rattle.sheet.specs.Refusals.{accepted}
 use Rattle.rulesheet.specs.declared.form.RuleForm.{RuleForm}
 use Rattle.rulesheet.specs.Ruleset.{next}
-use Rattle.rulesheet.specs.Sheet.{clausesWord, entriesWord, formOf, schemaAt, clauseAt, rulesOf}
-use Rattle.rulesheet.specs.Faults.{schemas-max, isList, fieldsAt, schemaStart, listStart, repeated}
+use Rattle.rulesheet.specs.Sheet.{clausesWord, entriesWord, formOf, schemaAt, clauseAt, entryAt, rulesOf}
+use Rattle.rulesheet.specs.Faults.{schemas-max, isList, fieldsAt, schemaStart, listStart, listOver, repeated, entryText}
 use Rattle.rulesheet.specs.Read.{RulesLaid}
 use Rattle.unguarded.specs.Graph.{Grounded}
 use Rattle.rules.specs.Check.{rulesOutcome}
@@ -33,5 +34,7 @@ pub record RulesFacts (ws ts : List ℕ) (form : RuleForm) : Type 0 where
       → clauseAt ws k .code < clauseAt ws (suc k) .code
   -- no entry of a clause has an earlier one's name
   pub names-differ : (x : ℕ) → x < form .e → repeated ws ts x ≡ false
+  -- the text that an entry names is UTF-8
+  pub readable : (x : ℕ) → x < form .e → Utf8 (entryText (fieldsAt ws (listOver ws x)) ts (entryAt ws x))
   -- no unguarded loop, no chain of 33 schemas, and a number for each schema that falls along every unguarded step
   pub grounds : Grounded (next (rulesOf ws ts))

@@ -7,12 +7,13 @@ ghost use Rattle.sheet.specs.Refusals.{outcomeOf};
 ghost use Rattle.rules.specs.Check.{rulesOutcome};
 use rulelayout::layout;
 use rulelayout::repeats;
+use rulelayout::texts;
 use rulesheet::form::RuleForm;
 use sheet::refusal::Checked;
 use sheet::refusal::Refusal;
 
 // Checks a rule sheet, whatever the words and the text: accepted with its number of schemas, or
-// refused with the first refusal of 5 to 9 that applies and its place.
+// refused with the first refusal of 5, 6, 7, 13, 8 and 9 that applies and its place.
 pub fn check_rules(words: &[u32], text: &[u8]) -> Checked
     ensures { λ r. ⌜ outcomeOf r ≡ rulesOutcome (now (words .entry)) (now (text .entry)) ⌝ }
 {
@@ -38,6 +39,10 @@ pub fn check_rules(words: &[u32], text: &[u8]) -> Checked
     let again = repeats::first_repeated_entry(words, text, form);
     if again < e {
         return Checked::Refused(Refusal::RepeatedEntry, m + c + again);
+    }
+    let bad = texts::first_not_utf8(words, text, form);
+    if bad < e {
+        return Checked::Refused(Refusal::NotUtf8, m + c + bad);
     }
     let found = unguarded::check_unguarded(words, form);
     let looped = found.looped;

@@ -1,21 +1,23 @@
--- Refusals 5, 6 and 7 of a rule sheet (paper 01, "Rule sheet" and "Refusal table"). Places count schemas, then clauses, then entries.
+-- Refusals 5, 6, 7 and 13 of a rule sheet (paper 01, "Rule sheet" and "Refusal table"; request #102 for 13, which is asked after 7). Places count schemas, then clauses, then entries.
 -- Assumes nothing.
 use mathlib.Core.Bool.{Bool, true, false, cond, not, _&&_, _||_}
-use mathlib.Core.List.{List}
+use mathlib.Core.List.{List, []}
 use Prim.Native.Nat.{ℕ, zero, suc, _+_, _-_, _*_}
 use lib.Dec.{eqb, leb, ltb}
 use lib.ListN.{length}
 use Rattle.laws.specs.Lowest.{lowest}
 use Rattle.decimal.specs.Value.{scale-max}
 use Rattle.text.specs.Part.{fits}
+use Rattle.utf8.specs.Automaton.{isUtf8}
 use Rattle.names.specs.Names.{repeatsBy}
 use Rattle.sheet.specs.Kinds.{isKind, kindOf, number-max, numberOk}
+use Rattle.sheet.specs.Doc.{stringBytes}
 use Rattle.sheet.specs.Faults.{none, inRange, scalarOk, text-max}
 use Rattle.rulesheet.specs.declared.code.Fields.{Fields}
 use Rattle.rulesheet.specs.declared.code.Fields.the-variants.{Unknown, Bare, Types, Number, Positive, Limit, Schema, Values, Names, Schemas, Members}
 use Rattle.rulesheet.specs.declared.form.EntryRow.{EntryRow}
 use Rattle.rulesheet.specs.declared.form.ClauseRow.{ClauseRow}
-use Rattle.rulesheet.specs.Codes.{shapeOf, entryRange, entryName}
+use Rattle.rulesheet.specs.Codes.{shapeOf, entryValue, entryRange, entryName}
 use Rattle.rulesheet.specs.Sheet.{trailer-words, schema-words, clause-words, entry-words, schemasWord, clausesWord, entriesWord, backWord, textWord, kindWord, schemaAt, clauseAt, entryAt}
 
 -- ---- 5: the trailer
@@ -172,3 +174,22 @@ unfoldable pub repeated : List ℕ → List ℕ → ℕ → Bool
 repeated ws ts x =
     let first = clauseAt ws (listOver ws x) .first in
     isNamed (fieldsAt ws (listOver ws x)) && repeatsBy (λ i. entryName ts (entryAt ws (first + i))) (x - first)
+
+-- ---- 13: a name, or a string of an enum, that is not UTF-8
+
+-- the bytes that an entry of a list of these fields names in the text, and none where it names none
+abbrev pub entryText : Fields → List ℕ → EntryRow → List ℕ
+entryText Unknown ts entry = []
+entryText Bare ts entry = []
+entryText Types ts entry = []
+entryText Number ts entry = []
+entryText Positive ts entry = []
+entryText Limit ts entry = []
+entryText Schema ts entry = []
+entryText Values ts entry = stringBytes (entryValue ts entry)
+entryText Names ts entry = entryName ts entry
+entryText Schemas ts entry = []
+entryText Members ts entry = entryName ts entry
+
+unfoldable pub notUtf8 : List ℕ → List ℕ → ℕ → Bool
+notUtf8 ws ts x = not (isUtf8 (entryText (fieldsAt ws (listOver ws x)) ts (entryAt ws x)))

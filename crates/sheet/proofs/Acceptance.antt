@@ -1,5 +1,5 @@
 -- What acceptance of a record sheet gives.
---     accepted-facts    the four lines of the table do not apply
+--     accepted-facts    no line of the table applies
 --     accepted-laid     the words are laid out as the readers ask
 -- Assumes nothing.
 use mathlib.Core.Bool.{true, false, _&&_}
@@ -14,9 +14,9 @@ use Rattle.sheet.specs.declared.record.RecordForm.{RecordForm}
 use Rattle.laws.specs.Lowest.{lowest}
 use Rattle.sheet.specs.Refusals.{Outcome, accepted, refused}
 use Rattle.sheet.specs.Record.{rowsWord, docOf}
-use Rattle.sheet.specs.Faults.{wordsOk, textOk, atFault, repeated, tooDeep, recordOutcome}
+use Rattle.sheet.specs.Faults.{wordsOk, textOk, atFault, repeated, notUtf8, tooDeep, recordOutcome}
 use Rattle.sheet.specs.Accepted.{Laid, AcceptedRecord}
-use Rattle.sheet.proofs.Checks.{laid-out, words-in-order, at-trailer, at-row, at-name, at-level, no-line}
+use Rattle.sheet.proofs.Checks.{laid-out, words-in-order, at-trailer, at-row, at-name, at-text, at-level, no-line}
 
 -- ---- no line of the table applies
 
@@ -24,6 +24,7 @@ pub record AcceptedFacts (ws ts : List ℕ) (n : ℕ) : Type 0 where
   pub trailer-good : (wordsOk ws && textOk ws (length ts)) ≡ true
   pub no-fault : rowsWord ws ≤ lowest (atFault ws) (rowsWord ws)
   pub no-name : rowsWord ws ≤ lowest (repeated (docOf ws ts)) (rowsWord ws)
+  pub no-text : rowsWord ws ≤ lowest (notUtf8 (docOf ws ts)) (rowsWord ws)
   pub no-level : rowsWord ws ≤ lowest (tooDeep ws) (rowsWord ws)
   pub count-is : n ≡ rowsWord ws
 
@@ -57,11 +58,18 @@ module _ (ws ts : List ℕ) (n : ℕ) (ok : recordOutcome ws ts ≡ accepted n) 
       (λ (l : place < rowsWord ws). clash (recordOutcome ws ts) n 3 place ok (at-name ws ts good rows-clear place refl l))
       (le-or-lt (rowsWord ws) place)
 
+  texts-clear : rowsWord ws ≤ lowest (notUtf8 (docOf ws ts)) (rowsWord ws)
+  texts-clear =
+      let place = lowest (notUtf8 (docOf ws ts)) (rowsWord ws) in
+      ⊎-elim (λ (l : rowsWord ws ≤ place). l)
+      (λ (l : place < rowsWord ws). clash (recordOutcome ws ts) n 13 place ok (at-text ws ts good rows-clear names-clear place refl l))
+      (le-or-lt (rowsWord ws) place)
+
   levels-clear : rowsWord ws ≤ lowest (tooDeep ws) (rowsWord ws)
   levels-clear =
       let place = lowest (tooDeep ws) (rowsWord ws) in
       ⊎-elim (λ (l : rowsWord ws ≤ place). l)
-      (λ (l : place < rowsWord ws). clash (recordOutcome ws ts) n 4 place ok (at-level ws ts good rows-clear names-clear place refl l))
+      (λ (l : place < rowsWord ws). clash (recordOutcome ws ts) n 4 place ok (at-level ws ts good rows-clear names-clear texts-clear place refl l))
       (le-or-lt (rowsWord ws) place)
 
   pub accepted-facts : AcceptedFacts ws ts n
@@ -70,8 +78,9 @@ module _ (ws ts : List ℕ) (n : ℕ) (ok : recordOutcome ws ts ≡ accepted n) 
         trailer-good = good;
         no-fault = rows-clear;
         no-name = names-clear;
+        no-text = texts-clear;
         no-level = levels-clear;
-        count-is = same-count (recordOutcome ws ts) n (rowsWord ws) ok (no-line ws ts good rows-clear names-clear levels-clear);
+        count-is = same-count (recordOutcome ws ts) n (rowsWord ws) ok (no-line ws ts good rows-clear names-clear texts-clear levels-clear);
       }
 
 -- the readers' premise

@@ -3,6 +3,7 @@ pub mod Trailers
 pub mod Strangers
 pub mod Rows
 pub mod Values
+pub mod Readable
 pub mod Owners
 pub mod Siblings
 pub mod Tables

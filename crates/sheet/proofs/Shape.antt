@@ -16,13 +16,14 @@ use Rattle.sheet.specs.Kinds.{kindOf, isObjectKind}
 use Rattle.sheet.specs.Refusals.{accepted}
 use Rattle.sheet.specs.Doc.{Child, level}
 use Rattle.sheet.specs.Record.{rowsWord, formOf, rowAt, ownerAt, docOf}
-use Rattle.sheet.specs.Faults.{rowOk, atFault, repeated, tooDeep, level-refused, recordOutcome}
+use Rattle.sheet.specs.Faults.{rowOk, atFault, repeated, notUtf8, tooDeep, level-refused, recordOutcome}
 use Rattle.sheet.specs.Accepted.{Laid, WellFormed}
 use Rattle.laws.proofs.Searches.{clear-below}
 use Rattle.sheet.proofs.Levels.{level-root, level-under}
 use Rattle.sheet.proofs.Trailers.{trailer-facts}
 use Rattle.sheet.proofs.Owners.{Under, under, child, children-of, owner-is, placed-at, before-it, object-kind}
 use Rattle.sheet.proofs.Siblings.{repeated-at}
+use Rattle.sheet.proofs.Readable.{readable, name-readable}
 use Rattle.sheet.proofs.Checks.{words-in-order}
 use Rattle.sheet.proofs.Acceptance.{AcceptedFacts, accepted-facts}
 
@@ -98,6 +99,8 @@ well-formed ws ts n ok =
       names-differ =
           λ j k l h t u v lt.
           names-apart ws ts n f j k l h (object-kind ws ts n (f .count-is) (passes ws ts n f) j h t) (under ws ts n (f .count-is) (passes ws ts n f) j k h u) (under ws ts n (f .count-is) (passes ws ts n f) j l h v) lt;
+      name-readable = λ j h. name-readable (docOf ws ts) j (nowhere ws ts n f (notUtf8 (docOf ws ts)) (f .no-text) j h);
+      readable = λ j h. readable (docOf ws ts) j (nowhere ws ts n f (notUtf8 (docOf ws ts)) (f .no-text) j h);
       root-level = level-root (ownerAt ws);
       child-level =
           λ (j k : ℕ) (h : j < n) (c : Child (docOf ws ts) j k).

@@ -11,7 +11,7 @@ use lib.Dec.{eqb}
 use borrow.Author.Tests.{lt-ltb, le-ltb}
 use Rattle.laws.specs.Lowest.{lowest}
 use Rattle.sheet.specs.declared.refusal.Refusal.{Refusal}
-use Rattle.sheet.specs.declared.refusal.Refusal.the-variants.{RecordTrailer, RecordLayout, RepeatedName, TooDeep, RuleTrailer, RuleLayout, RepeatedEntry, UnguardedLoop, LongChain, FewCells, ShortList}
+use Rattle.sheet.specs.declared.refusal.Refusal.the-variants.{RecordTrailer, RecordLayout, RepeatedName, TooDeep, RuleTrailer, RuleLayout, RepeatedEntry, UnguardedLoop, LongChain, FewCells, ShortList, NotUtf8}
 use Rattle.sheet.specs.declared.refusal.Checked.{Checked}
 use Rattle.sheet.specs.declared.refusal.Checked.the-variants.{Accepted, Refused}
 use Rattle.sheet.specs.Refusals.{refusalNumber, refused, outcomeOf, Line, lowestLine, firstLine}
@@ -50,7 +50,8 @@ refusalOf n =
     (pickRefusal (eqb n 7) RepeatedEntry
     (pickRefusal (eqb n 8) UnguardedLoop
     (pickRefusal (eqb n 9) LongChain
-    (pickRefusal (eqb n 10) FewCells ShortList)))))))))
+    (pickRefusal (eqb n 10) FewCells
+    (pickRefusal (eqb n 11) ShortList NotUtf8))))))))))
 
 number-back : (f : Refusal) → refusalOf (refusalNumber f) ≡ f
 unfolding refusalOf pickRefusal
@@ -65,6 +66,7 @@ number-back UnguardedLoop = refl
 number-back LongChain = refl
 number-back FewCells = refl
 number-back ShortList = refl
+number-back NotUtf8 = refl
 
 pub number-one : (f g : Refusal) → refusalNumber f ≡ refusalNumber g → f ≡ g
 number-one f g e = sym (number-back f) ∙ ap refusalOf e ∙ number-back g

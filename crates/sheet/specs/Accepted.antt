@@ -9,6 +9,7 @@ use Rattle.decimal.specs.declared.Decimal.{Decimal}
 use Rattle.decimal.specs.Value.{value, Plain}
 use Rattle.text.specs.declared.Range.{Range}
 use Rattle.text.specs.Part.{fits, part}
+use Rattle.utf8.specs.Encoding.{Utf8}
 use Rattle.sheet.specs.declared.record.RecordForm.{RecordForm}
 use Rattle.sheet.specs.declared.record.Children.{Children}
 use Rattle.sheet.specs.declared.layout.Pass.{Pass}
@@ -78,6 +79,9 @@ pub record WellFormed (d : Doc) (n : ℕ) : Type 0 where
   pub owner-before : (k : ℕ) → 0 < k → k < n → d .owner k < k
   -- no two children of an object share a name
   pub names-differ : (j k l : ℕ) → j < n → isObject (d .value j) ≡ true → Child d j k → Child d j l → k < l → d .name k ≡ d .name l → ⊥
+  -- names and strings are UTF-8
+  pub name-readable : (j : ℕ) → j < n → Utf8 (d .name j)
+  pub readable : (j : ℕ) → j < n → (bytes : List ℕ) → d .value j ≡ string bytes → Utf8 bytes
   -- the root is at level 1, a child one below its parent, and no row is deeper than level 32
   pub root-level : level (d .owner) 0 ≡ 1
   pub child-level : (j k : ℕ) → j < n → Child d j k → level (d .owner) k ≡ level (d .owner) j + 1

@@ -55,6 +55,15 @@ childCount (string bytes) = 0
 childCount (array first count) = count
 childCount (object first count) = count
 
+-- the bytes of a string; any other value has none
+abbrev pub stringBytes : Value → List ℕ
+stringBytes null = []
+stringBytes (bool b) = []
+stringBytes (number z) = []
+stringBytes (string bytes) = bytes
+stringBytes (array first count) = []
+stringBytes (object first count) = []
+
 -- row k is a child of row j
 pub record Child (d : Doc) (j k : ℕ) : Type 0 where
   pub after : firstChild (d .value j) ≤ k

@@ -1,4 +1,4 @@
--- Refusals 1 to 4 of a record sheet (paper 01, "Record sheet" and "Refusal table").
+-- Refusals 1 to 4 and 13 of a record sheet (paper 01, "Record sheet" and "Refusal table"; request #102 for 13, which is asked after 3 and before 4).
 -- Assumes nothing.
 use mathlib.Core.Bool.{Bool, false, cond, not, _&&_, _||_}
 use mathlib.Core.List.{List, [], _∷_}
@@ -7,6 +7,7 @@ use lib.Dec.{eqb, leb, ltb}
 use lib.ListN.{length}
 use Rattle.text.specs.declared.Range.{Range}
 use Rattle.text.specs.Part.{fits}
+use Rattle.utf8.specs.Automaton.{isUtf8}
 use Rattle.names.specs.Names.{repeatsBy}
 use Rattle.sheet.specs.declared.kind.RowKind.{RowKind}
 use Rattle.sheet.specs.declared.kind.RowKind.the-variants.{Null, False, True, Number, String, Array, Object}
@@ -14,7 +15,7 @@ use Rattle.sheet.specs.declared.record.Row.{Row}
 use Rattle.laws.specs.Lowest.{lowestFrom}
 use Rattle.sheet.specs.Kinds.{isKind, kindOf, holdsChildren, numberOk}
 use Rattle.sheet.specs.Refusals.{Outcome, Line, lowestLine, firstLine}
-use Rattle.sheet.specs.Doc.{Doc, isObject, firstChild, level}
+use Rattle.sheet.specs.Doc.{Doc, isObject, firstChild, stringBytes, level}
 use Rattle.sheet.specs.Record.{trailer-words, row-words, record-kind, rows-max, rowsWord, backWord, textWord, kindWord, rowAt, ownerAt, docOf}
 
 -- ---- 1: the trailer
@@ -115,6 +116,12 @@ repeated d j =
     let siblings = d .value (d .owner j) in
     isObject siblings && repeatsBy (λ i. d .name (firstChild siblings + i)) (j - firstChild siblings)
 
+-- ---- 13: a text range that is not UTF-8
+
+-- the row's name or, of a string, its bytes are not
+unfoldable pub notUtf8 : Doc → ℕ → Bool
+notUtf8 d j = not (isUtf8 (d .name j) && isUtf8 (stringBytes (d .value j)))
+
 -- ---- 4: a row too deep
 
 -- the first level that is refused
@@ -131,6 +138,7 @@ recordLines ws ts =
     record { number = 1; applies = not (wordsOk ws && textOk ws (length ts)); place = 0 }
     ∷ lowestLine 2 0 (rowsWord ws) (atFault ws)
     ∷ lowestLine 3 0 (rowsWord ws) (repeated (docOf ws ts))
+    ∷ lowestLine 13 0 (rowsWord ws) (notUtf8 (docOf ws ts))
     ∷ lowestLine 4 0 (rowsWord ws) (tooDeep ws)
     ∷ []
 

@@ -6,11 +6,11 @@ use Prim.Native.Nat.{ℕ, _+_}
 use lib.Dec.{ltb}
 use Rattle.laws.specs.Lowest.{lowest}
 use Rattle.sheet.specs.declared.refusal.Refusal.{Refusal}
-use Rattle.sheet.specs.declared.refusal.Refusal.the-variants.{RecordTrailer, RecordLayout, RepeatedName, TooDeep, RuleTrailer, RuleLayout, RepeatedEntry, UnguardedLoop, LongChain, FewCells, ShortList}
+use Rattle.sheet.specs.declared.refusal.Refusal.the-variants.{RecordTrailer, RecordLayout, RepeatedName, TooDeep, RuleTrailer, RuleLayout, RepeatedEntry, UnguardedLoop, LongChain, FewCells, ShortList, NotUtf8}
 use Rattle.sheet.specs.declared.refusal.Checked.{Checked}
 use Rattle.sheet.specs.declared.refusal.Checked.the-variants.{Accepted, Refused}
 
--- 01's number of each refusal
+-- the number of each refusal: 01's, and 13 of request #102
 abbrev pub refusalNumber : Refusal → ℕ
 refusalNumber RecordTrailer = 1
 refusalNumber RecordLayout = 2
@@ -23,6 +23,7 @@ refusalNumber UnguardedLoop = 8
 refusalNumber LongChain = 9
 refusalNumber FewCells = 10
 refusalNumber ShortList = 11
+refusalNumber NotUtf8 = 13
 
 -- what a check gives: the number of rows (of the record, or of the rules: the schemas), or a refusal's number and place
 pub data Outcome : Type 0 where

@@ -8,6 +8,7 @@ pub mod layout;
 pub mod record;
 pub mod refusal;
 pub mod repeats;
+pub mod texts;
 
 ghost use mathlib.Core.Path.{_≡_};
 ghost use Rattle.sheet.specs.Refusals.{outcomeOf};
@@ -17,7 +18,7 @@ use refusal::Checked;
 use refusal::Refusal;
 
 // Checks a record sheet, whatever the words and the text: accepted with its number of rows, or
-// refused with the first refusal of 1 to 4 that applies and its place.
+// refused with the first refusal of 1, 2, 3, 13 and 4 that applies and its place.
 pub fn check_record(words: &[u32], text: &[u8]) -> Checked
     ensures { λ r. ⌜ outcomeOf r ≡ recordOutcome (now (words .entry)) (now (text .entry)) ⌝ }
 {
@@ -34,6 +35,10 @@ pub fn check_record(words: &[u32], text: &[u8]) -> Checked
     let again = repeats::first_repeated(words, text, form);
     if again < rows {
         return Checked::Refused(Refusal::RepeatedName, again);
+    }
+    let bad = texts::first_not_utf8(words, text, form);
+    if bad < rows {
+        return Checked::Refused(Refusal::NotUtf8, bad);
     }
     let deep = pass.deep;
     if deep < rows {

@@ -2,7 +2,7 @@
 ghost use mathlib.Core.Path.{_≡_};
 ghost use Rattle.sheet.specs.Refusals.{refusalNumber};
 
-// Why a sheet is refused or, the last two, areas that are too small for judging.
+// Why a sheet is refused or, of `FewCells` and `ShortList`, why areas are too small for judging.
 pub enum Refusal {
     RecordTrailer,
     RecordLayout,
@@ -15,6 +15,7 @@ pub enum Refusal {
     LongChain,
     FewCells,
     ShortList,
+    NotUtf8,
 }
 
 // What a check gives: the number of rows (of rules, the schemas), or the refusal and its place.
@@ -40,6 +41,7 @@ impl Refusal {
             Refusal::LongChain => 9,
             Refusal::FewCells => 10,
             Refusal::ShortList => 11,
+            Refusal::NotUtf8 => 13,
         }
     }
 }

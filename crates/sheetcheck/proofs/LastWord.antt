@@ -9,7 +9,7 @@ use native.Mathlib.Omega.{arith}
 use lib.ListN.{length}
 use borrow.Author.Tests.{eq-eqb, ne-eqb}
 use Rattle.sheet.specs.declared.refusal.Refusal.{Refusal}
-use Rattle.sheet.specs.declared.refusal.Refusal.the-variants.{RecordTrailer, RecordLayout, RepeatedName, TooDeep, RuleTrailer, RuleLayout, RepeatedEntry, UnguardedLoop, LongChain, FewCells, ShortList}
+use Rattle.sheet.specs.declared.refusal.Refusal.the-variants.{RecordTrailer, RecordLayout, RepeatedName, TooDeep, RuleTrailer, RuleLayout, RepeatedEntry, UnguardedLoop, LongChain, FewCells, ShortList, NotUtf8}
 use Rattle.sheet.specs.declared.refusal.Checked.{Checked}
 use Rattle.sheet.specs.declared.refusal.Checked.the-variants.{Accepted, Refused}
 use Rattle.sheet.specs.Refusals.{accepted, refused, refusalNumber, outcomeOf}
@@ -55,6 +55,7 @@ another-number UnguardedLoop e = omega arith
 another-number LongChain e = omega arith
 another-number FewCells e = omega arith
 another-number ShortList e = omega arith
+another-number NotUtf8 e = omega arith
 
 known-is : (c : Checked) → outcomeOf c ≡ refused unknown-kind 0 → ⊥
 known-is (Accepted rows) e = clash (accepted rows) rows unknown-kind 0 refl e

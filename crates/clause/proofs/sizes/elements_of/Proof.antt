@@ -3,6 +3,7 @@ use mathlib.Core.Path.{sym, _∙_}
 use borrow.Author.Tests.{not-true, not-false}
 use Rattle.clause.proofs.Having.{elements-found, no-elements}
 use Rattle.clause.proofs.Measures.{rows-size, no-size}
+use lib.ListN.{length}
 use borrow.Author.Needs.{needs}
 use Rattle.clause.proofs.sizes.elements_of.Statement.{statement}
 use Rattle.clause.proofs.sizes.elements_of.Tie as tie
@@ -11,7 +12,7 @@ is-kind-requires : tie.Need-is-kind-requires
 is-kind-requires c κs = search needs
 
 returns : tie.Need-returns
-returns c = λ ts. no-size _ (no-elements _ (sym (c .before .is-kind .ensures ts) ∙ not-true _ (c .if1 .taken)))
+returns c = λ ts. no-size length _ (no-elements _ (sym (c .before .is-kind .ensures ts) ∙ not-true _ (c .if1 .taken)))
 
 children-of-requires : tie.Need-children-of-requires
 children-of-requires c κs = search needs

@@ -1,7 +1,15 @@
 -- `max_length` meets its contract. Assumes nothing.
+use mathlib.Core.Path.{sym}
+use Rattle.meaning.specs.Tests.{lengthOf}
 use borrow.Author.Needs.{needs}
 use Rattle.clause.proofs.sizes.max_length.Statement.{statement}
 use Rattle.clause.proofs.sizes.max_length.Tie as tie
+
+few-bytes-requires : tie.Need-few-bytes-requires
+few-bytes-requires c κs = (c .before .before .pre .0 .laid, c .before .before .pre .1)
+
+returns : tie.Need-returns
+returns c = sym (c .before .few-bytes .ensures (c .before .before .before .before .args .text .now) (c .before .before .before .before .pre .0 .text-length) (c .if1 .taken))
 
 length-of-requires : tie.Need-length-of-requires
 length-of-requires c κs = search needs
@@ -9,8 +17,8 @@ length-of-requires c κs = search needs
 at-most-requires : tie.Need-at-most-requires
 at-most-requires c κs = search needs
 
-returns : tie.Need-returns
-returns c = c .at-most .ensures _ (c .before .length-of .ensures)
+returns-2 : tie.Need-returns-2
+returns-2 c = c .at-most .ensures lengthOf _ (c .before .length-of .ensures)
 
 pub max-length-spec : {M : Type 1} → statement M
-max-length-spec = tie.close (tie.spec length-of-requires at-most-requires returns)
+max-length-spec = tie.close (tie.spec few-bytes-requires returns length-of-requires at-most-requires returns-2)

@@ -1,4 +1,5 @@
 -- `min_length` meets its contract. Assumes nothing.
+use Rattle.meaning.specs.Tests.{lengthOf}
 use borrow.Author.Needs.{needs}
 use Rattle.clause.proofs.sizes.min_length.Statement.{statement}
 use Rattle.clause.proofs.sizes.min_length.Tie as tie
@@ -10,7 +11,7 @@ at-least-requires : tie.Need-at-least-requires
 at-least-requires c κs = search needs
 
 returns : tie.Need-returns
-returns c = c .at-least .ensures _ (c .before .length-of .ensures)
+returns c = c .at-least .ensures lengthOf _ (c .before .length-of .ensures)
 
 pub min-length-spec : {M : Type 1} → statement M
 min-length-spec = tie.close (tie.spec length-of-requires at-least-requires returns)

@@ -1,4 +1,5 @@
 -- `min_properties` meets its contract. Assumes nothing.
+use lib.ListN.{length}
 use borrow.Author.Needs.{needs}
 use Rattle.clause.proofs.sizes.min_properties.Statement.{statement}
 use Rattle.clause.proofs.sizes.min_properties.Tie as tie
@@ -10,7 +11,7 @@ at-least-requires : tie.Need-at-least-requires
 at-least-requires c κs = search needs
 
 returns : tie.Need-returns
-returns c = λ ts. c .at-least .ensures _ (c .before .members-of .ensures ts)
+returns c = λ ts. c .at-least .ensures length _ (c .before .members-of .ensures ts)
 
 pub min-properties-spec : {M : Type 1} → statement M
 min-properties-spec = tie.close (tie.spec members-of-requires at-least-requires returns)
