@@ -1,0 +1,17 @@
+pub mod Moves
+pub mod Spaces
+pub mod Numbers
+pub mod Strings
+pub mod Values
+pub mod Finish
+pub mod Rests
+pub mod Characters
+pub mod Joined
+pub mod Back
+pub mod Sound
+pub mod Refusals
+pub mod Samples
+pub mod SameNumbers
+pub mod SameStrings
+pub mod FirstBytes
+pub mod Once

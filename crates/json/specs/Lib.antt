@@ -1,0 +1,7 @@
+-- In reading order.
+pub mod Utf8
+pub mod Text
+pub mod Datum
+pub mod Automaton
+pub mod Refusal
+pub mod Sightings
