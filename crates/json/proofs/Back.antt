@@ -9,11 +9,11 @@ use mathlib.Core.Path.{_≡_, refl, _∙_, ap}
 use Prim.Native.Nat.{ℕ}
 use native.Mathlib.Omega.{arith}
 use Rattle.json.specs.Text as T
-use Rattle.json.specs.Text.{Blank, space, tab, feed, return, blank, Space, spaces, digits, from, unsigned, plus, capital, small, Exponent, exponent, Short, quote, backslash, slash, backspace, formFeed, lineFeed, carriageReturn, tabulator, short, Piece, plain, piece, Str, pieces, Value, null, truth, falsity, num, str, emptyArray, array, emptyObject, object, Elements, last, more, Members, lastM, moreM, value, elements, members}
+use Rattle.json.specs.Text.{Blank, space, tab, feed, return, blank, spaces, digits, from, unsigned, plus, capital, small, Exponent, exponent, Short, quote, backslash, slash, backspace, formFeed, lineFeed, carriageReturn, tabulator, short, pieces, null, truth, falsity, num, str, emptyArray, array, emptyObject, object, value}
 use Rattle.json.specs.Automaton.{Bracket, square, curly, Role, asValue, asName, Char, one, two, three, afterE0, afterED, afterF0, afterF4, Word, n1, n2, n3, t1, t2, t3, f1, f2, f3, f4, Left, hex1, hex2, hex3, hex4, Place, ahead, firstElement, after, name, firstName, colon, word, minus, nought, whole, point, part, letter, sign, power, text, escape, unit, char, at, Move, innermost, changed, range, only, shuts, blanks, starts, ends, exponents, characters, moves}
 use Rattle.json.proofs.Moves.{Fits}
 use Rattle.json.proofs.Rests.{After, all, shut-square, more-square, shut-curly, more-curly, Begun, Ahead, FirstElement, Name, FirstName, Colon, WordThen, MinusThen, NoughtThen, WholeThen, PointThen, PartThen, LetterThen, SignThen, PowerThen, Inside, Escape, Unit4, Char4, Rest}
-use Rattle.json.proofs.Characters.{cons, digit-of, first-of, HexOf, hex-digit, hex-capital, hex-small, Of, char-1, char-2, char-3, char-4}
+use Rattle.json.proofs.Characters.{cons, digit-of, first-of, HexOf, hex-digit, hex-capital, hex-small, char-1, char-2, char-3, char-4}
 use Rattle.json.proofs.Joined.{elements-from, names-from, piece-more, char-more}
 
 module _ (b : ℕ) (bs : List ℕ) where

@@ -7,16 +7,15 @@ use mathlib.Core.List.{List, [], _∷_}
 use mathlib.Core.Logic.{_⊎_, inl, inr}
 use mathlib.Core.Option.{Option, none, some}
 use mathlib.Core.Path.{_≡_, refl, sym, _∙_, ap}
-use Prim.Native.Nat.{ℕ, suc, _≤_, _<_}
+use Prim.Native.Nat.{ℕ, suc, _<_}
 use native.Mathlib.Omega.{arith}
-use Rattle.json.specs.Text.{Blank, space, tab, feed, return, blank, Space, spaces, Digit, digit, digits, Digits, digits1, Whole, whole, from, Fraction, fraction, Letter, capital, small, letterE, Sign, signed, unsigned, plus, Exponent, exponent, Number, minusIf, number}
+use Rattle.json.specs.Text.{Digit, digit, digits, Digits, digits1, Whole, whole, from, Fraction, fraction, Letter, capital, small, letterE, Sign, signed, unsigned, plus, Exponent, exponent, Number, minusIf, number}
 use Rattle.json.specs.Text as T
-use Rattle.json.specs.Automaton.{Bracket, square, curly, Place, ahead, firstElement, after, name, firstName, colon, nought, point, part, letter, sign, power, State, at, Move, innermost, follow, ends, moves, pick, step, run, accepting, accepted}
+use Rattle.json.specs.Automaton.{Bracket, square, curly, Place, after, nought, point, part, letter, sign, power, at, Move, innermost, follow, ends, moves, pick, step, run, accepting}
 use Rattle.json.specs.Automaton as A
 use Rattle.json.proofs.Moves.{Fits, fits, hit, miss, Accepts, dead, Reading, quietly, loudly}
 use Rattle.json.specs.Sightings.{aValue, Sighting, sighting, sight, seen}
 use lib.ListN.{length}
-use borrow.Author.Tests.{le-ltb, ne-eqb}
 
 -- ---- the end of a number
 

@@ -2,18 +2,15 @@
 --     value-one     two values with the same bytes are the same, if what follows tells where each ends
 --     once          two texts with the same bytes are the same
 -- Assumes nothing.
-use mathlib.Core.Bool.{Bool, true, false, cond}
 use mathlib.Core.List.{List, [], _∷_}
 use mathlib.Core.Logic.{inl, inr}
 use mathlib.Core.Option.{Option, none, some}
-use mathlib.Core.Path.{_≡_, refl, sym, _∙_, ap, subst}
+use mathlib.Core.Path.{_≡_, refl, sym, _∙_, ap}
 use Prim.Native.Nat.{ℕ, _<_}
 use native.Mathlib.Omega.{arith}
-use lib.Dec.{eqb}
-use borrow.Author.Tests.{ne-eqb}
-use Rattle.json.specs.Text.{space, tab, feed, return, Space, spaces, Digit, digit, Whole, nought, from, whole, Number, Str, pieces, Value, null, truth, falsity, num, str, emptyArray, array, emptyObject, object, Elements, last, more, Members, lastM, moreM, value, elements, members, Text, bytes}
+use Rattle.json.specs.Text.{Space, spaces, Str, pieces, Value, null, truth, falsity, num, str, emptyArray, array, emptyObject, object, Elements, last, more, Members, lastM, moreM, value, elements, members, Text, bytes}
 use Rattle.json.proofs.Numbers.{Ending}
-use Rattle.json.proofs.SameNumbers.{Next, next-map, NoBlank, spaces-one, number-one}
+use Rattle.json.proofs.SameNumbers.{Next, spaces-one, number-one}
 use Rattle.json.proofs.SameStrings.{pieces-one}
 use Rattle.json.proofs.FirstBytes.{arrayOf, objectOf, alike, value-no-blank, elements-no-blank, no-element, members-no-blank, no-member, spaces-ending, spaces-byte, tail-eq}
 

@@ -1,18 +1,17 @@
 -- Two strings with the same bytes.
 --     pieces-one     they are the same
 -- Assumes nothing.
-use mathlib.Core.Bool.{Bool, true, false, cond}
+use mathlib.Core.Bool.{cond}
 use mathlib.Core.HLevel.{isProp→PathP, ⊥-prop}
 use mathlib.Core.List.{List, [], _∷_}
 use mathlib.Core.Logic.{_⊎_, inl, inr, ⊎-elim}
-use mathlib.Core.Option.{none, some}
-use mathlib.Core.Path.{_≡_, refl, sym, _∙_, ap, subst}
+use mathlib.Core.Path.{_≡_, refl, sym, _∙_, ap}
 use Prim.Native.Nat.{ℕ, _+_, _/_, _%_, _≤_, _<_}
 use native.Mathlib.Bridge.{le-prop}
 use native.Mathlib.Omega.{arith}
 use lib.Dec.{eqb}
 use Rattle.json.specs.Utf8.{Scalar, encode}
-use Rattle.json.specs.Text.{digit, capital, small, Plain, Short, quote, backslash, slash, backspace, formFeed, lineFeed, carriageReturn, tabulator, short, Hex, decimal, letter, hex, Piece, plain, escape, unit, piece, Str, pieces}
+use Rattle.json.specs.Text.{capital, small, Plain, Short, quote, backslash, slash, backspace, formFeed, lineFeed, carriageReturn, tabulator, short, Hex, decimal, letter, hex, Piece, plain, escape, unit, piece, Str, pieces}
 use Rattle.laws.proofs.Tests.{le-or-lt}
 use Rattle.json.proofs.Strings.{encode-1, encode-2, encode-3, encode-4}
 use Rattle.json.proofs.SameNumbers.{digit-one}

@@ -12,7 +12,6 @@ use borrow.Author.Tests.{lt-ltb, le-ltb, ne-eqb}
 use Rattle.json.specs.Text as T
 use Rattle.json.specs.Utf8.{encode, Scalar}
 use Rattle.json.specs.Text.{capital, small, Plain, Short, quote, backslash, slash, backspace, formFeed, lineFeed, carriageReturn, tabulator, short, Hex, decimal, hex, Piece, plain, piece, pieces}
-use Rattle.json.specs.Automaton as A
 use Rattle.json.specs.Automaton.{Bracket, Role, Char, one, two, three, afterE0, afterED, afterF0, afterF4, Left, hex1, hex2, hex3, hex4, text, escape, unit, char, Place, State, at, innermost, changed, follow, afterHex, continuation, moves, pick, step, run}
 use Rattle.laws.proofs.Tests.{le-or-lt}
 use Rattle.json.proofs.Moves.{Fits, hit, apart, clear, picked, Reading, quietly, loudly}
