@@ -15,3 +15,7 @@ pub mod SameNumbers
 pub mod SameStrings
 pub mod FirstBytes
 pub mod Once
+pub mod Trimming
+pub mod Widths
+pub mod Starting
+pub mod Decoding
