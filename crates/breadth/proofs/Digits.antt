@@ -55,7 +55,7 @@ sign-on : (z : ℤ) → withSign (below z) (natAbs z) ≡ z
 sign-on (pos n) = refl
 sign-on (negsuc n) = refl
 
-some-digits : (n : ℕ) → 0 < sizeOf (negsuc n)
+pub some-digits : (n : ℕ) → 0 < sizeOf (negsuc n)
 some-digits n =
     ⊎-elim
     (λ (l : 1 ≤ sizeOf (negsuc n)). l)

@@ -22,20 +22,20 @@ ten : (k : ℕ) → 0 < 10 ^ k
 ten k = one-le-pow k 10 (lit< tt)
 
 -- ten to a sum, before a factor
-split-ten : (k a b c : ℕ) → c ≡ a + b → k * 10 ^ c ≡ k * 10 ^ a * 10 ^ b
+pub split-ten : (k a b c : ℕ) → c ≡ a + b → k * 10 ^ c ≡ k * 10 ^ a * 10 ^ b
 split-ten k a b c e = rw (e, pow-add 10 a b) (sym (mul-assoc k (10 ^ a) (10 ^ b)))
 
 module _ (most : ℕ) (e : Exact) where
-  abbrev t : Trimmed
+  abbrev pub t : Trimmed
   t = trim (e .digits)
 
-  abbrev kept : ℕ
+  abbrev pub kept : ℕ
   kept = t .kept
 
-  abbrev up : ℕ
+  abbrev pub up : ℕ
   up = e .up + t .zeros
 
-  abbrev size : ℕ
+  abbrev pub size : ℕ
   size = movedBy kept up (e .down)
 
   whole : worth (e .digits) * 10 ^ (scale-max + e .up) ≡ kept * 10 ^ (up + scale-max)
@@ -50,24 +50,24 @@ module _ (most : ℕ) (e : Exact) where
         not-not true h = refl
         not-not false h = sym h
 
-    value-is : billionthsOf most e ≡ withSign (e .below) size
+    pub value-is : billionthsOf most e ≡ withSign (e .below) size
     unfolding billionthsOf
     value-is = rw narrow
 
-    size-is : natAbs (billionthsOf most e) ≡ size
+    pub size-is : natAbs (billionthsOf most e) ≡ size
     size-is = ap natAbs value-is ∙ sign-off (e .below) size
 
-    no-digits : kept ≡ 0 → size ≡ 0
+    pub no-digits : kept ≡ 0 → size ≡ 0
     no-digits z = rw (eq-eqb kept 0 z)
 
-    some-digits : (kept ≡ 0 → ⊥) → size ≡ kept * 10 ^ (up + scale-max - e .down)
+    pub some-digits : (kept ≡ 0 → ⊥) → size ≡ kept * 10 ^ (up + scale-max - e .down)
     some-digits z = rw (ne-eqb kept 0 z)
 
-    record Room : Type 0 where
-      low : e .down ≤ up + scale-max
-      fits : kept * 10 ^ (up - e .down) ≤ most
+    pub record Room : Type 0 where
+      pub low : e .down ≤ up + scale-max
+      pub fits : kept * 10 ^ (up - e .down) ≤ most
 
-    room-facts : (kept ≡ 0 → ⊥) → Room
+    pub room-facts : (kept ≡ 0 → ⊥) → Room
     room-facts z =
         let b1 = leb (e .down) (up + scale-max) in
         let b2 = leb up (e .down + digits-room) in
@@ -127,7 +127,7 @@ module _ (most : ℕ) (e : Exact) where
 
 -- of equal numbers with tens at their ends, the one that ends in no zero of its own has all the tens of the other
 module _ (d a k b : ℕ) (last : k % 10 ≡ 0 → ⊥) (same : d * 10 ^ a ≡ k * 10 ^ b) where
-  fewer-tens : a ≤ b
+  pub fewer-tens : a ≤ b
   fewer-tens =
       ⊎-elim
       (λ (l : a ≤ b). l)
@@ -141,7 +141,7 @@ module _ (d a k b : ℕ) (last : k % 10 ≡ 0 → ⊥) (same : d * 10 ^ a ≡ k 
       ends : (x y : ℕ) → x * 10 ≡ y → y % 10 ≡ 0
       ends x y z = omega arith
 
-  rest-of-tens : d ≡ k * 10 ^ (b - a)
+  pub rest-of-tens : d ≡ k * 10 ^ (b - a)
   rest-of-tens =
       let l = fewer-tens in
       eq-of-mul-eq-mul-right (10 ^ a) (ten a) d (k * 10 ^ (b - a)) (same ∙ split-ten k (b - a) a b (omega arith))

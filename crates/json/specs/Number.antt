@@ -91,15 +91,15 @@ pub record Trimmed : Type 0 where
   pub zeros : ℕ
 
 -- one digit more; zeros before the first other digit count nothing
-unfoldable pub trimMore : Trimmed → Digit → Trimmed
+unfoldable pub trimMore : Trimmed → ℕ → Trimmed
 trimMore t d =
-    cond (eqb (d .worth) 0)
+    cond (eqb d 0)
     (record { kept = t .kept; zeros = cond (eqb (t .kept) 0) 0 (t .zeros + 1) })
-    (record { kept = t .kept * 10 ^ (t .zeros + 1) + d .worth; zeros = 0 })
+    (record { kept = t .kept * 10 ^ (t .zeros + 1) + d; zeros = 0 })
 
 unfoldable pub trimAfter : Trimmed → List Digit → Trimmed
 trimAfter t [] = t
-trimAfter t (d ∷ ds) = trimAfter (trimMore t d) ds
+trimAfter t (d ∷ ds) = trimAfter (trimMore t (d .worth)) ds
 
 abbrev pub trim : List Digit → Trimmed
 trim ds = trimAfter (record { kept = 0; zeros = 0 }) ds
