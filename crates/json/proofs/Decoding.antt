@@ -10,14 +10,9 @@ use native.Mathlib.Omega.{arith}
 use borrow.Author.Tests.{eq-eqb, ne-eqb, leb-true, le-leb}
 use lib.Dec.{leb}
 use Rattle.laws.proofs.Tests.{le-or-lt, left, right, both}
-use Rattle.json.specs.Utf8.{Scalar, encode}
+use Rattle.json.specs.Utf8.{Scalar, encode, Encoded, nothing, then}
 use Rattle.json.specs.Text.{Short, quote, backslash, slash, backspace, formFeed, lineFeed, carriageReturn, tabulator, Hex, decimal, letter, plain, escape, unit, Str}
 use Rattle.json.specs.Value.{shortCode, hexWorth, unitCode, isHigh, isLow, lowNext, waiting, isLone, joined, decodedAfter, decoded}
-
--- the bytes of scalar values
-pub data Encoded : List ℕ → Type 0 where
-  nothing : Encoded []
-  then : {bs : List ℕ} (c : ℕ) → Scalar c → Encoded bs → Encoded (encode c bs)
 
 -- no escape of the string is of a lone surrogate, where w waits
 abbrev pub NoneLone : ℕ → Str → Type 0

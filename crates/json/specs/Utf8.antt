@@ -1,7 +1,7 @@
 -- UTF-8 (RFC 3629): the scalar values of Unicode, and the bytes of each. A function takes the bytes that follow and puts those of the scalar value before them.
 -- Assumes nothing.
 use mathlib.Core.Bool.{cond}
-use mathlib.Core.List.{List, _∷_}
+use mathlib.Core.List.{List, [], _∷_}
 use mathlib.Core.Logic.{_⊎_}
 use Prim.Native.Nat.{ℕ, _+_, _/_, _%_, _≤_, _<_}
 use lib.Dec.{ltb}
@@ -23,3 +23,8 @@ encode c rest =
     (ltb c 0x10000)
     ((0xE0 + c / 0x1000) ∷ (0x80 + c / 0x40 % 0x40) ∷ (0x80 + c % 0x40) ∷ rest)
     ((0xF0 + c / 0x40000) ∷ (0x80 + c / 0x1000 % 0x40) ∷ (0x80 + c / 0x40 % 0x40) ∷ (0x80 + c % 0x40) ∷ rest)))
+
+-- the bytes are well-formed UTF-8: those of scalar values
+pub data Encoded : List ℕ → Type 0 where
+  nothing : Encoded []
+  then : {bs : List ℕ} (c : ℕ) → Scalar c → Encoded bs → Encoded (encode c bs)

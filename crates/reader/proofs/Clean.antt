@@ -12,12 +12,13 @@ use lib.Dec.{eqb}
 use Rattle.sheet.specs.Kinds.{number-max}
 use Rattle.sheet.specs.Record.{rows-max}
 use Rattle.sheet.specs.Faults.{level-refused}
-use Rattle.json.specs.Datum.{Datum, Items, Fields}
+use Rattle.json.specs.Datum.{Datum, Items, Fields, no-field}
 use Rattle.json.specs.Text.{spaces, plain, escape, unit, Str, Value, null, truth, falsity, num, str, emptyArray, array, emptyObject, object, Elements, last, more, Members, lastM, moreM, value, elements, members, Text}
 use Rattle.json.specs.Number.{Exact, exactOf, wide, billionthsOf}
 use Rattle.json.specs.Value.{unitCode, waiting, isLone, decoded, valueOf, itemsOf, fieldsOf}
 use Rattle.json.specs.Sightings.{aValue}
 use Rattle.json.specs.Starts.{Start, starting, among, stringStarts, valueStarts, elementStarts, memberStarts, textStarts}
+use Rattle.json.proofs.Decoding.{NoneLone, decoded-utf8}
 use Rattle.json.proofs.Widths.{narrow-written}
 use Rattle.breadth.specs.Number.{Narrow}
 use Rattle.breadth.specs.Forest.{values, children, items, fields, tree}
@@ -25,6 +26,7 @@ use Rattle.breadth.specs.Breadth.{depth}
 use Rattle.breadth.specs.Meaning.{Fitting, FittingItems, FittingFields}
 use Rattle.breadth.proofs.Digits.{fewest-digits}
 use Rattle.reader.specs.Faults.{valueFault, Fault, orElse, firstFault}
+use Rattle.reader.specs.Made.{Utf8, Utf8Items, Utf8Fields}
 use Rattle.reader.proofs.Fresh.{FreshAfter, fresh-apart}
 
 -- ---- one start
@@ -61,16 +63,19 @@ fine-value before s bs later e = go (eqb before rows-max) (s .amiss) (eqb (s .se
 
 -- ---- strings
 
+-- no escape of it is lone, and nothing is at fault in what follows
 string-clean : (w : ℕ) (s : Str) (k : ℕ) (rest : List ℕ) (later : List Start) (n : ℕ)
     → firstFault n (stringStarts w s k rest later) ≡ none
-    → firstFault n later ≡ none
+    → NoneLone w s × (firstFault n later ≡ none)
 unfolding stringStarts firstFault
-string-clean w [] k rest later n e = e
+string-clean w [] k rest later n e = (tt, e)
 string-clean w (plain c p ∷ ps) k rest later n e = string-clean 0 ps k rest later n e
 string-clean w (escape m ∷ ps) k rest later n e = string-clean 0 ps k rest later n e
 string-clean w (unit h i j l ∷ ps) k rest later n e =
     let c : ℕ = unitCode h i j l in
-    string-clean (waiting c ps) ps k rest later n (fine (isLone w c ps) 26 _ (firstFault n (stringStarts (waiting c ps) ps k rest later)) e .1)
+    let f = fine (isLone w c ps) 26 _ (firstFault n (stringStarts (waiting c ps) ps k rest later)) e in
+    let r = string-clean (waiting c ps) ps k rest later n (f .1) in
+    ((f .0, r .0), r .1)
 
 -- ---- numbers
 
@@ -98,12 +103,14 @@ Fls ms = fieldsOf number-max ms
 
 record CleanValue (v : Value) (k n : ℕ) (later : List Start) : Type 0 where
   fitting : Fitting (Val v)
+  utf8 : Utf8 (Val v)
   shallow : k + depth (children (Val v)) < level-refused
   few : n + suc (values (children (Val v))) ≤ rows-max
   onward : Onward (n + suc (values (children (Val v)))) later
 
 record CleanItems (vs : Elements) (k n : ℕ) (later : List Start) : Type 0 where
   fitting : FittingItems (Its vs)
+  utf8 : Utf8Items (Its vs)
   shallow : k + depth (items (Its vs)) ≤ level-refused
   few : n + values (items (Its vs)) ≤ rows-max
   onward : Onward (n + values (items (Its vs))) later
@@ -111,6 +118,7 @@ record CleanItems (vs : Elements) (k n : ℕ) (later : List Start) : Type 0 wher
 record CleanFields (names : List (List ℕ)) (ms : Members) (k n : ℕ) (later : List Start) : Type 0 where
   fresh : FreshAfter names (Fls ms)
   fitting : FittingFields (Fls ms)
+  utf8 : Utf8Fields (Fls ms)
   shallow : k + depth (fields (Fls ms)) ≤ level-refused
   few : n + values (fields (Fls ms)) ≤ rows-max
   onward : Onward (n + values (fields (Fls ms))) later
@@ -138,18 +146,19 @@ mutual
       → CleanValue v k n later
   value-clean null k n rest later l r e =
       let b = value null rest in
-      record { fitting = tt; shallow = omega (arith, here-level k n false b later l r e); few = omega (arith, here-room k n false b later l r e); onward = alone k n false b later l r e }
+      record { fitting = tt; utf8 = tt; shallow = omega (arith, here-level k n false b later l r e); few = omega (arith, here-room k n false b later l r e); onward = alone k n false b later l r e }
   value-clean truth k n rest later l r e =
       let b = value truth rest in
-      record { fitting = tt; shallow = omega (arith, here-level k n false b later l r e); few = omega (arith, here-room k n false b later l r e); onward = alone k n false b later l r e }
+      record { fitting = tt; utf8 = tt; shallow = omega (arith, here-level k n false b later l r e); few = omega (arith, here-room k n false b later l r e); onward = alone k n false b later l r e }
   value-clean falsity k n rest later l r e =
       let b = value falsity rest in
-      record { fitting = tt; shallow = omega (arith, here-level k n false b later l r e); few = omega (arith, here-room k n false b later l r e); onward = alone k n false b later l r e }
+      record { fitting = tt; utf8 = tt; shallow = omega (arith, here-level k n false b later l r e); few = omega (arith, here-room k n false b later l r e); onward = alone k n false b later l r e }
   value-clean (num x) k n rest later l r e =
       let b = value (num x) rest in
       let a = wide number-max (exactOf x) in
       record {
         fitting = narrow (exactOf x) (here k n a b later l r e .narrow);
+        utf8 = tt;
         shallow = omega (arith, here-level k n a b later l r e);
         few = omega (arith, here-room k n a b later l r e);
         onward = alone k n a b later l r e;
@@ -157,15 +166,17 @@ mutual
   value-clean (str s) k n rest later l r e =
       let b = value (str s) rest in
       let others = stringStarts 0 s k (0x22 ∷ rest) later in
+      let c = string-clean 0 s k (0x22 ∷ rest) later (suc n) (here k n false b others l r e .on) in
       record {
         fitting = tt;
+        utf8 = decoded-utf8 s (c .0);
         shallow = omega (arith, here-level k n false b others l r e);
         few = omega (arith, here-room k n false b others l r e);
-        onward = record { count = suc n; counted = omega arith; clean = string-clean 0 s k (0x22 ∷ rest) later (suc n) (here k n false b others l r e .on) };
+        onward = record { count = suc n; counted = omega arith; clean = c .1 };
       }
   value-clean (emptyArray w) k n rest later l r e =
       let b = value (emptyArray w) rest in
-      record { fitting = tt; shallow = omega (arith, here-level k n false b later l r e); few = omega (arith, here-room k n false b later l r e); onward = alone k n false b later l r e }
+      record { fitting = tt; utf8 = tt; shallow = omega (arith, here-level k n false b later l r e); few = omega (arith, here-room k n false b later l r e); onward = alone k n false b later l r e }
   value-clean (array w vs) k n rest later l r e =
       let b = value (array w vs) rest in
       let others = elementStarts number-max vs (suc k) (0x5D ∷ rest) later in
@@ -173,13 +184,14 @@ mutual
       let o = i .onward in
       record {
         fitting = i .fitting;
+        utf8 = i .utf8;
         shallow = omega (arith, i .shallow);
         few = omega (arith, i .few);
         onward = record { count = o .count; counted = omega (arith, o .counted); clean = o .clean };
       }
   value-clean (emptyObject w) k n rest later l r e =
       let b = value (emptyObject w) rest in
-      record { fitting = (fresh-apart (Rattle.json.specs.Datum.no-field) tt, tt); shallow = omega (arith, here-level k n false b later l r e); few = omega (arith, here-room k n false b later l r e); onward = alone k n false b later l r e }
+      record { fitting = (fresh-apart no-field tt, tt); utf8 = tt; shallow = omega (arith, here-level k n false b later l r e); few = omega (arith, here-room k n false b later l r e); onward = alone k n false b later l r e }
   value-clean (object w ms) k n rest later l r e =
       let b = value (object w ms) rest in
       let others = memberStarts number-max [] ms (suc k) (0x7D ∷ rest) later in
@@ -187,6 +199,7 @@ mutual
       let o = i .onward in
       record {
         fitting = (fresh-apart (Fls ms) (i .fresh), i .fitting);
+        utf8 = i .utf8;
         shallow = omega (arith, i .shallow);
         few = omega (arith, i .few);
         onward = record { count = o .count; counted = omega (arith, o .counted); clean = o .clean };
@@ -200,6 +213,7 @@ mutual
       let o = c .onward in
       record {
         fitting = (c .fitting, tt);
+        utf8 = (c .utf8, tt);
         shallow = omega (arith, c .shallow);
         few = omega (arith, c .few);
         onward = record { count = o .count; counted = omega (arith, o .counted); clean = o .clean };
@@ -211,6 +225,7 @@ mutual
       let p = d .onward in
       record {
         fitting = (c .fitting, d .fitting);
+        utf8 = (c .utf8, d .utf8);
         shallow = omega (arith, c .shallow, d .shallow);
         few = omega (arith, d .few, o .counted);
         onward = record { count = p .count; counted = omega (arith, p .counted, o .counted); clean = p .clean };
@@ -223,11 +238,13 @@ mutual
       let bs : List ℕ = 0x22 ∷ spaces w (0x3A ∷ spaces w′ (value v (spaces w″ rest))) in
       let others = valueStarts number-max v k (spaces w″ rest) later in
       let f = fine (among names (decoded s)) 25 _ (firstFault n (stringStarts 0 s k bs others)) e in
-      let c = value-clean v k n (spaces w″ rest) later l r (string-clean 0 s k bs others n (f .1)) in
+      let g = string-clean 0 s k bs others n (f .1) in
+      let c = value-clean v k n (spaces w″ rest) later l r (g .1) in
       let o = c .onward in
       record {
         fresh = (f .0, tt);
         fitting = (c .fitting, tt);
+        utf8 = (decoded-utf8 s (g .0), c .utf8, tt);
         shallow = omega (arith, c .shallow);
         few = omega (arith, c .few);
         onward = record { count = o .count; counted = omega (arith, o .counted); clean = o .clean };
@@ -238,13 +255,15 @@ mutual
       let next = memberStarts number-max (decoded s ∷ names) ms k rest later in
       let others = valueStarts number-max v k end next in
       let f = fine (among names (decoded s)) 25 _ (firstFault n (stringStarts 0 s k bs others)) e in
-      let c = value-clean v k n end next l r (string-clean 0 s k bs others n (f .1)) in
+      let g = string-clean 0 s k bs others n (f .1) in
+      let c = value-clean v k n end next l r (g .1) in
       let o = c .onward in
       let d = fields-clean (decoded s ∷ names) ms k (o .count) rest later l (omega (arith, c .few, o .counted)) (o .clean) in
       let p = d .onward in
       record {
         fresh = (f .0, d .fresh);
         fitting = (c .fitting, d .fitting);
+        utf8 = (decoded-utf8 s (g .0), c .utf8, d .utf8);
         shallow = omega (arith, c .shallow, d .shallow);
         few = omega (arith, d .few, o .counted);
         onward = record { count = p .count; counted = omega (arith, p .counted, o .counted); clean = p .clean };
@@ -254,10 +273,11 @@ mutual
 
 pub record CleanText (t : Text) : Type 0 where
   pub fitting : Fitting (Val (t .root))
+  pub utf8 : Utf8 (Val (t .root))
   pub shallow : depth (tree (Val (t .root))) < level-refused
   pub few : values (tree (Val (t .root))) ≤ rows-max
 
 pub clean-text : (t : Text) → firstFault 0 (textStarts number-max t) ≡ none → CleanText t
 clean-text t e =
     let c = value-clean (t .root) 1 0 (spaces (t .behind) []) [] (omega arith) (omega arith) e in
-    record { fitting = c .fitting; shallow = omega (arith, c .shallow); few = omega (arith, c .few) }
+    record { fitting = c .fitting; utf8 = c .utf8; shallow = omega (arith, c .shallow); few = omega (arith, c .few) }

@@ -132,6 +132,7 @@ module _ (json words room : List ℕ) (n : ℕ) where
         text = t;
         spelled = e;
         means = means-value v (c .fitting);
+        utf8 = c .utf8;
       }
 
   pub reads-made : (r : Read) → Reads json words room r → r .outcome ≡ accepted n → Made json words room r n
