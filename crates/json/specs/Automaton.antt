@@ -129,12 +129,10 @@ shorts r =
     ∷ only 0x75 (unit hex4 r)
     ∷ []
 
-abbrev pub characters : Role → List Move
-characters r =
-    range 0x20 0x21 (text r)
-    ∷ range 0x23 0x5B (text r)
-    ∷ range 0x5D 0x7F (text r)
-    ∷ range 0xC2 0xDF (char one r)
+-- the first byte of a character of several bytes
+abbrev pub several : Role → List Move
+several r =
+    range 0xC2 0xDF (char one r)
     ∷ only 0xE0 (char afterE0 r)
     ∷ range 0xE1 0xEC (char two r)
     ∷ only 0xED (char afterED r)
@@ -143,6 +141,9 @@ characters r =
     ∷ range 0xF1 0xF3 (char three r)
     ∷ only 0xF4 (char afterF4 r)
     ∷ []
+
+abbrev pub characters : Role → List Move
+characters r = range 0x20 0x21 (text r) ∷ range 0x23 0x5B (text r) ∷ range 0x5D 0x7F (text r) ∷ several r
 
 abbrev pub continuation : Char → Role → Move
 continuation one r = range 0x80 0xBF (text r)
