@@ -12,7 +12,7 @@ use Rattle.breadth.specs.Forest.{Label, bare, named, Head, a-null, a-boo
 use Rattle.breadth.specs.Breadth.{Entry, walk, breadth, depth}
 use Rattle.sheet.specs.declared.kind.RowKind.the-variants.{String}
 use Rattle.breadth.specs.Sheet.{KindRow, labelBytes, stringBytes, headKind, firstWord, countWord, labelRange, rowFor, ownerOf, rows, text}
-use Rattle.breadth.specs.Meaning.{no-row, fieldCount, nameIn, Apart, Fitting, FittingItems, FittingFields, Labelled}
+use Rattle.breadth.specs.Meaning.{no-row, nameIn, Apart, Fitting, FittingItems, FittingFields, Labelled}
 use Rattle.breadth.specs.Counters.{one, size}
 use Rattle.breadth.proofs.Digits.{number-ok}
 use Rattle.breadth.proofs.Walks.{sum, sum-nil, high}
@@ -21,7 +21,7 @@ use Rattle.breadth.proofs.Passes.{now-is, locate, rows-high}
 use Rattle.breadth.proofs.Texts.{fits}
 use Rattle.breadth.proofs.Numbers.{every-row}
 use Rattle.breadth.proofs.Meant.{apart}
-use Rattle.breadth.proofs.Readback.{nothing-before, stands-root, splits}
+use Rattle.breadth.proofs.Readback.{fields-counted, nothing-before, stands-root, splits}
 use Rattle.breadth.proofs.Kin.{nameAt, AllBare, Differ, Good, GoodForest, Kin, label-here, all-kin}
 
 module _ (f : Forest) (root : trees f ≡ 1) where
@@ -68,10 +68,6 @@ names-in : (ms : Fields) (i : ℕ) → nameAt (fields ms) i ≡ nameIn ms i
 names-in no-field i = refl
 names-in (field n v ms) zero = refl
 names-in (field n v ms) (suc i) = names-in ms i
-
-fields-counted : (ms : Fields) → trees (fields ms) ≡ fieldCount ms
-fields-counted no-field = refl
-fields-counted (field n v ms) = ap suc (fields-counted ms)
 
 differ : (ms : Fields) → Apart ms → Differ (fields ms)
 differ ms a i j p q e = a i j p (omega (arith, fields-counted ms)) (sym (names-in ms i) ∙ e ∙ names-in ms j)

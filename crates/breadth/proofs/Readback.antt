@@ -50,6 +50,14 @@ unfolding part
 read-label bare ts start p = refl
 read-label (named bs) ts start p = p
 
+items-counted : (vs : Items) → trees (items vs) ≡ itemCount vs
+items-counted no-item = refl
+items-counted (item v vs) = ap suc (items-counted vs)
+
+pub fields-counted : (ms : Fields) → trees (fields ms) ≡ fieldCount ms
+fields-counted no-field = refl
+fields-counted (field n v ms) = ap suc (fields-counted ms)
+
 module _ (f : Forest) (root : trees f ≡ 1) where
   abbrev pub doc : Doc
   doc = rowsDoc (rows f) (text f)
@@ -104,14 +112,6 @@ module _ (f : Forest) (root : trees f ≡ 1) where
   from-first′ : (j x : ℕ) (ms : Fields) → MeansFields doc j x ms → MeansFields doc j (firstOrNone (trees (fields ms)) x) ms
   from-first′ j x no-field m = m
   from-first′ j x (field n v ms) m = m
-
-  items-counted : (vs : Items) → trees (items vs) ≡ itemCount vs
-  items-counted no-item = refl
-  items-counted (item v vs) = ap suc (items-counted vs)
-
-  fields-counted : (ms : Fields) → trees (fields ms) ≡ fieldCount ms
-  fields-counted no-field = refl
-  fields-counted (field n v ms) = ap suc (fields-counted ms)
 
   -- the values of a forest stand after `pre`, from level k on, and row j is their trees' owner
   pub record Stands (g : Forest) (k j : ℕ) (pre post : List Event) : Type 0 where
