@@ -40,7 +40,7 @@ impl Decimal {
 }
 
 // 10^n, for an `n` up to `SCALE_MAX`.
-fn power(n: u32) -> u64
+pub fn power(n: u32) -> u64
     requires { ⌜ n ≤ scale-max ⌝ }
     ensures { λ r. ⌜ r ≡ 10 ^ n ⌝ }
 {

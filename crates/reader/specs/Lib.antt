@@ -1,0 +1,4 @@
+-- In reading order.
+pub mod Faults
+pub mod Call
+pub mod Made
