@@ -3,7 +3,7 @@
 --     means-value    row 0 of the record that the words and the text stand for means the value
 -- Assumes nothing.
 use mathlib.Core.Bool.{Bool, true, false, not, _&&_}
-use mathlib.Core.List.{List}
+use mathlib.Core.List.{List, []}
 use mathlib.Core.Logic.{⊎-elim}
 use mathlib.Core.Path.{_≡_, refl, sym, ap, _∙_}
 use Prim.Native.Nat.{ℕ, _+_, _-_, _*_, _≤_, _<_}
@@ -20,16 +20,17 @@ use Rattle.sheet.specs.declared.kind.RowKind.{RowKind}
 use Rattle.sheet.specs.declared.kind.RowKind.the-variants.{Null, False, True, Number, String, Array, Object}
 use Rattle.sheet.specs.declared.record.Row.{Row}
 use Rattle.sheet.specs.Refusals.{accepted}
+use Rattle.sheet.specs.Doc as D
 use Rattle.sheet.specs.Doc.{Value, isObject, firstChild, childCount, Child, level}
 use Rattle.sheet.specs.Record.{trailer-words, row-words, record-kind, rows-max, rowsWord, backWord, textWord, kindWord, rowAt, ownerAt, docOf}
-use Rattle.sheet.specs.Faults.{text-max, wordsOk, textOk, atFault, repeated, level-refused, tooDeep, recordOutcome}
+use Rattle.sheet.specs.Faults.{text-max, wordsOk, textOk, atFault, repeated, notUtf8, level-refused, tooDeep, recordOutcome}
 use Rattle.sheet.proofs.Values.{value-in}
 use Rattle.sheet.proofs.Checks.{no-line}
 use Rattle.json.specs.Datum.{Datum}
 use Rattle.breadth.specs.Forest.{tree}
 use Rattle.breadth.specs.Breadth.{depth}
 use Rattle.breadth.specs.Sheet.{KindRow, rows, text}
-use Rattle.breadth.specs.Meaning.{no-row, rowsDoc, Shaped, Labelled, Fitting, Means}
+use Rattle.breadth.specs.Meaning.{no-row, rowsDoc, Shaped, Labelled, Fitting, Means, Utf8}
 use Rattle.breadth.specs.Words.{worded, sheetWords}
 use Rattle.breadth.proofs.Meant.{apart}
 use Rattle.breadth.proofs.Shape.{well-formed, row-on, row-level}
@@ -38,6 +39,7 @@ use Rattle.breadth.proofs.Readback.{means-root}
 use Rattle.breadth.proofs.Readwords.{Trailed, sheet-long, trailed, row-in-is}
 use Rattle.breadth.proofs.Passing.{kind-back, rows-pass}
 use Rattle.breadth.proofs.Agreeing.{Agrees, means-same, level-same}
+use Rattle.breadth.proofs.Spelled.{spelled}
 
 -- a test that holds nowhere below n is found nowhere
 none-found : (test : ℕ → Bool) (n : ℕ) → ((j : ℕ) → j < n → test j ≡ false) → n ≤ lowest test n
@@ -109,7 +111,7 @@ module _ (v : Datum) (u : Fitting v) where
         le-leb (length ts) text-max short,
       )
 
-  -- ---- lines 2 to 4
+  -- ---- lines 2, 3 and 4
 
   row-passes : (j : ℕ) → j < rowsWord ws → atFault ws j ≡ false
   row-passes j h = ap not (rows-pass v u j (omega (arith, sizes .rows-word)))
@@ -183,10 +185,36 @@ module _ (v : Datum) (u : Fitting v) where
       owners : (i : ℕ) → i < length rs → rowsDoc rs ts .owner i ≡ ownerAt ws i
       owners i q = agrees .same-owner i q ∙ owner-word i
 
-  pub accepts : length rs ≤ rows-max → length ts ≤ text-max → depth (tree v) < level-refused → recordOutcome ws ts ≡ accepted (length rs)
-  accepts few short shallow =
+  -- ---- line 13
+
+  array-row : (o first count : ℕ) (kind : RowKind) → at o .kind ≡ kind → rowsDoc rs ts .value o ≡ D.array first count → at o .kind ≡ Array
+  unfolding rowsDoc
+  array-row o first count Array e t = e
+  array-row o first count Null e t = let c = rw e at t in no-test (cc)
+  array-row o first count False e t = let c = rw e at t in no-test (cc)
+  array-row o first count True e t = let c = rw e at t in no-test (cc)
+  array-row o first count Number e t = let c = rw e at t in no-test (cc)
+  array-row o first count String e t = let c = rw e at t in no-test (cc)
+  array-row o first count Object e t = let c = rw e at t in no-test (cc)
+
+  no-name : (k : ℕ) → at k .label ≡ record { start = 0; length = 0 } → rowsDoc rs ts .name k ≡ []
+  unfolding rowsDoc part
+  no-name k e = rw e
+
+  bare : (o k first count : ℕ) → o < length rs → rowsDoc rs ts .value o ≡ D.array first count → Child (rowsDoc rs ts) o k → rowsDoc rs ts .name k ≡ []
+  bare o k first count l e c = no-name k (labels .items-bare o k l (array-row o first count (at o .kind) refl e) c)
+
+  text-passes : Utf8 v → (j : ℕ) → j < length rs → notUtf8 (docOf ws ts) j ≡ false
+  unfolding notUtf8
+  text-passes well j h =
+      let s = spelled (rowsDoc rs ts) (length rs) bare shape v (means-root v u) well (no-name 0 (labels .root-bare)) j h in
+      rw (← agrees .same-name j h, ← agrees .same-value j h, s .0, s .1)
+
+  pub accepts : Utf8 v → length rs ≤ rows-max → length ts ≤ text-max → depth (tree v) < level-refused → recordOutcome ws ts ≡ accepted (length rs)
+  accepts well few short shallow =
       no-line ws ts (trailer-fits few short)
       (none-found (atFault ws) (rowsWord ws) row-passes)
       (none-found (repeated (docOf ws ts)) (rowsWord ws) (λ (j : ℕ) (h : j < rowsWord ws). name-passes j (omega (arith, sizes .rows-word))))
+      (none-found (notUtf8 (docOf ws ts)) (rowsWord ws) (λ (j : ℕ) (h : j < rowsWord ws). text-passes well j (omega (arith, sizes .rows-word))))
       (none-found (tooDeep ws) (rowsWord ws) (λ (j : ℕ) (h : j < rowsWord ws). level-passes shallow j (omega (arith, sizes .rows-word))))
       ∙ ap accepted (sizes .rows-word)

@@ -19,6 +19,7 @@ pub mod Tables
 pub mod Readwords
 pub mod Passing
 pub mod Agreeing
+pub mod Spelled
 pub mod Acceptance
 pub mod Theorems
 pub mod Sample

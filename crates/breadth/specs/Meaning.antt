@@ -5,6 +5,7 @@ use mathlib.Core.List.{List, []}
 use mathlib.Core.Path.{_≡_}
 use Prim.Native.Nat.{ℕ, zero, suc, _+_, _≤_, _<_}
 use lib.ListN.{length, getD}
+use Rattle.json.specs.Utf8.{Encoded}
 use Rattle.json.specs.Datum.{Datum, null, bool, number, string, array, object, Items, no-item, item, Fields, no-field, field}
 use Rattle.sheet.specs.declared.kind.RowKind.the-variants.{Null, Number, String, Array, Object}
 use Rattle.sheet.specs.Doc as D
@@ -102,6 +103,24 @@ abbrev mutual
   pub FittingFields : Fields → Type 0
   FittingFields no-field = Unit {0}
   FittingFields (field n v ms) = Fitting v × FittingFields ms
+
+-- every string and every name of a value is well-formed UTF-8
+abbrev mutual
+  pub Utf8 : Datum → Type 0
+  Utf8 null = Unit {0}
+  Utf8 (bool b) = Unit {0}
+  Utf8 (number z) = Unit {0}
+  Utf8 (string bs) = Encoded bs
+  Utf8 (array vs) = Utf8Items vs
+  Utf8 (object fs) = Utf8Fields fs
+
+  pub Utf8Items : Items → Type 0
+  Utf8Items no-item = Unit {0}
+  Utf8Items (item v vs) = Utf8 v × Utf8Items vs
+
+  pub Utf8Fields : Fields → Type 0
+  Utf8Fields no-field = Unit {0}
+  Utf8Fields (field n v fs) = Encoded n × Utf8 v × Utf8Fields fs
 
 -- the labels, strings and numbers of a sheet as the record check asks for
 pub record Labelled (rs : List KindRow) (ts : List ℕ) : Type 0 where

@@ -26,7 +26,7 @@ use Rattle.breadth.specs.Breadth.{depth}
 use Rattle.breadth.specs.Meaning.{Fitting, FittingItems, FittingFields}
 use Rattle.breadth.proofs.Digits.{fewest-digits}
 use Rattle.reader.specs.Faults.{valueFault, Fault, orElse, firstFault}
-use Rattle.reader.specs.Made.{Utf8, Utf8Items, Utf8Fields}
+use Rattle.breadth.specs.Meaning.{Utf8, Utf8Items, Utf8Fields}
 use Rattle.reader.proofs.Fresh.{FreshAfter, fresh-apart}
 
 -- ---- one start

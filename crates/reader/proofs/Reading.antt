@@ -128,7 +128,7 @@ module _ (json words room : List ℕ) (n : ℕ) where
         fits-room = p .fits-room;
         words-are = ap (λ (o : Outcome). areaAfter o (wordsMade t) words) h;
         room-are = ap (λ (o : Outcome). areaAfter o (textMade t) room) h;
-        passes = accepts v (c .fitting) few short (c .shallow) ∙ ap accepted (p .counted);
+        passes = accepts v (c .fitting) (c .utf8) few short (c .shallow) ∙ ap accepted (p .counted);
         text = t;
         spelled = e;
         means = means-value v (c .fitting);

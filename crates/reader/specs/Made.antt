@@ -7,29 +7,9 @@ use lib.ListN.{length, drop}
 use Rattle.sheet.specs.Refusals.{accepted}
 use Rattle.sheet.specs.Record.{docOf}
 use Rattle.sheet.specs.Faults.{recordOutcome}
-use Rattle.json.specs.Utf8.{Encoded}
-use Rattle.json.specs.Datum.{Datum, null, bool, number, string, array, object, Items, no-item, item, Fields, no-field, field}
 use Rattle.json.specs.Text.{Text, bytes}
-use Rattle.breadth.specs.Meaning.{Means}
+use Rattle.breadth.specs.Meaning.{Means, Utf8}
 use Rattle.reader.specs.Call.{Read, datumOf}
-
--- every string and every name of a value is well-formed UTF-8
-abbrev mutual
-  pub Utf8 : Datum → Type 0
-  Utf8 null = Unit {0}
-  Utf8 (bool b) = Unit {0}
-  Utf8 (number z) = Unit {0}
-  Utf8 (string bs) = Encoded bs
-  Utf8 (array vs) = Utf8Items vs
-  Utf8 (object fs) = Utf8Fields fs
-
-  pub Utf8Items : Items → Type 0
-  Utf8Items no-item = Unit {0}
-  Utf8Items (item v vs) = Utf8 v × Utf8Items vs
-
-  pub Utf8Fields : Fields → Type 0
-  Utf8Fields no-field = Unit {0}
-  Utf8Fields (field n v fs) = Encoded n × Utf8 v × Utf8Fields fs
 
 pub record Made (json words room : List ℕ) (r : Read) (n : ℕ) : Type 0 where
   -- a sheet and its text stand at the starts of the areas, and what lies behind them is as it was
