@@ -226,15 +226,28 @@ def overlapping_rules(n, clauses):
     return sheets.rule_sheet([(0, len(clauses)), (len(clauses), 0)], listed, entries, overlapping())
 
 
+STRING_BYTES = 60_000
+
+
+def overlapping_strings(n, end):
+    """An array of n strings of STRING_BYTES, each a character on in a text of two-byte characters that ends with `end`."""
+    one = sheets.Text()
+    one.bytes += 'ż'.encode() * (TEXT_BYTES // 2) + end
+    rows = [(sheets.ARRAY, 1, n, 0, 0, 0)] + [(sheets.STRING, 2 * i, STRING_BYTES, 0, 0, 0) for i in range(n)]
+    return sheets.record_sheet(rows, one)
+
+
 def no_rules():
     return sheets.rule_sheet([(0, 0)], [], [], sheets.Text())
 
 
 def hostile():
-    """(what has such names, cases of OVERLAPS)."""
+    """(what has such names or strings, cases of OVERLAPS)."""
     ways = [('the record alone', None), ('both: required', (schemas.REQUIRED,)),
             ('both: properties', (schemas.PROPERTIES,)),
             ('both: and additionalProperties', (schemas.PROPERTIES, schemas.SCHEMAS['additionalProperties']))]
     for name, clauses in ways:
         yield name, [Case('%s, %d' % (name, n), overlapping_record(n),
                           overlapping_rules(n, clauses) if clauses else no_rules(), None, None) for n in OVERLAPS]
+    for name, end in (('strings, UTF-8', b''), ('strings, and a byte that is none', b'\xff')):
+        yield name, [Case('%s, %d' % (name, n), overlapping_strings(n, end), no_rules(), None, None) for n in OVERLAPS]
