@@ -131,7 +131,7 @@ def print_families(families):
 
 
 def print_hostile(folder):
-    print(sizes_line('overlapping names', cases.OVERLAPS))
+    print(sizes_line('overlapping', cases.OVERLAPS))
     for name, found in cases.hostile():
         times = [measured_alone(folder, case) for case in found]
         cells = ['> %d s' % LIMIT if one is None else duration(one.ours) for one in times]
