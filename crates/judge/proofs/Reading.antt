@@ -1,6 +1,5 @@
 -- What the proof of the cycle asks besides: the sheets that were read and the case that they are, cell numbers, and a clause and a step as they were read.
 -- Assumes nothing.
-use mathlib.Core.Bool.{true}
 use mathlib.Core.List.{List, [], List·Memᴰ as Has, List·Memᴰ·head as at-head, List·Memᴰ·tail as in-tail, _∷_}
 use mathlib.Core.Logic.{⊎-elim}
 use mathlib.Core.Path.{_≡_, refl, sym, _∙_}
@@ -20,7 +19,6 @@ use Rattle.rulesheet.specs.Ruleset as R
 use Rattle.rulesheet.specs.Ruleset.{never, asserts}
 use Rattle.rulesheet.specs.Sheet as RS
 use Rattle.rulesheet.specs.Sheet.{schemasWord, schemaAt}
-use Rattle.rulesheet.specs.Faults.{wordsOk}
 use Rattle.rulesheet.specs.Read.{RulesFormed}
 use Rattle.rulesheet.proofs.Trailers.{facts, form-m, form-c, form-e}
 use Rattle.rulesheet.proofs.Items.{clauses-long}
@@ -28,14 +26,6 @@ use Rattle.meaning.specs.Rules.{Pair}
 use Rattle.areas.specs.Cells.{cellOf, cellAt}
 use Rattle.judge.specs.State.{Case, caseOf, Sheets, lent, formsOf, recordFormIn, ruleFormIn, FormsFit, Lent, lentCase, Fits, InCase, firstKid, kidCount, clausesOf, clauseAt, rankOf, Reads, ReadsClause}
 use Rattle.judge.proofs.Going.{Aim, pairs-few}
-
--- the rules' trailer is in order, and the form is its
-pub formed-by : {rs : List ℕ} {rform : RuleForm} → wordsOk rs ≡ true → rform ≡ RS.formOf rs → RulesFormed rs rform
-formed-by a e = record { trailer = a; same-form = e }
-
--- how many schemas the rules have
-pub schemas-by : {rs : List ℕ} {rform : RuleForm} {m : ℕ} → RulesFormed rs rform → m ≡ rform .m → m ≡ schemasWord rs
-schemas-by {rs} {rform} F e = e ∙ form-m rs rform F
 
 -- a cell by its numbers
 pub cell-by : {m k row rule : ℕ} {p : Pair} → m ≡ k → row ≡ p .row → rule ≡ p .rule → cellOf m row rule ≡ cellAt k p
@@ -47,9 +37,6 @@ module _ {ws ts rs us : List ℕ} {form : RecordForm} {rform : RuleForm} (S : Sh
 
   formed : RulesFormed rs rform
   formed = S .rules-read .laid .clauses-laid .schemas-laid .formed
-
-  pub rules-ok : wordsOk rs ≡ true
-  rules-ok = formed .trailer
 
   pub rows-are : form .rows ≡ rowsWord ws
   rows-are = form-rows ws form (S .record-read .laid .formed)
