@@ -1,4 +1,6 @@
--- What the number of a check tells: its answer.
+-- What the number of a call tells that goes by a table: its outcome.
+--     small-first     no line's number is larger than a byte can tell
+--     tells           the number of an outcome of such a table tells it
 --     check-tells     the lowest byte is the case, what stands above it the rows or the place
 -- Assumes nothing.
 use mathlib.Core.Bool.{Bool, true, false, cond}
@@ -18,11 +20,12 @@ use Rattle.rules.specs.Check.{ruleLines, rulesOutcome}
 use Rattle.sheetcheck.specs.LastWord.{unknown-kind, noKind, checkOutcome}
 use Rattle.meaning.specs.Answer.{numberForC}
 use Rattle.meaning.specs.Lists.{all}
-use Rattle.hub.specs.Entry.{checkAnswer, Tells, tells-valid, tells-refused}
+use Rattle.number.specs.Called.{outcomeAnswer}
+use Rattle.hub.specs.Entry.{Tells, tells-valid, tells-refused}
 use Rattle.hub.proofs.Numbers.{low, high}
 
 -- the number of a refusal leaves room for ten more in a byte
-abbrev Small : Outcome → Type 0
+abbrev pub Small : Outcome → Type 0
 Small o = (number place : ℕ) → o ≡ refused number place → number < 246
 
 small-cond : (b : Bool) (o p : Outcome) → Small o → Small p → Small (cond b o p)
@@ -32,10 +35,10 @@ small-cond false o p s t = t
 small-refused : (number place : ℕ) → number < 246 → Small (refused number place)
 small-refused number place h n p e = let same : number ≡ n = cc in omega arith
 
-abbrev small-line : Line → Bool
+abbrev pub small-line : Line → Bool
 small-line line = ltb (line .number) 246
 
-small-first : (lines : List Line) (rows : ℕ) → all (map small-line lines) ≡ true → Small (firstLine lines rows)
+pub small-first : (lines : List Line) (rows : ℕ) → all (map small-line lines) ≡ true → Small (firstLine lines rows)
 unfolding firstLine all
 small-first [] rows h = λ number place e. clash (accepted rows) rows number place refl e
 small-first (line ∷ lines) rows h =
@@ -44,6 +47,13 @@ small-first (line ∷ lines) rows h =
     small-cond (line .applies) (refused (line .number) (line .place)) (firstLine lines rows)
     (small-refused (line .number) (line .place) (ltb-true (line .number) 246 (left one others h)))
     (small-first lines rows (right one others h))
+
+-- so its number tells it
+pub tells : (o : Outcome) → Small o → (r : ℕ) → r ≡ numberForC (outcomeAnswer o) → Tells r (outcomeAnswer o)
+tells (accepted rows) s r e = tells-valid (low rows 0 (omega (arith, e)) (omega arith)) (high rows 0 (omega (arith, e)) (omega arith))
+tells (refused number place) s r e =
+    let fits : 10 + number < 256 = omega (arith, s number place refl) in
+    tells-refused (low place (10 + number) e fits) (high place (10 + number) e fits)
 
 module _ (ws ts : List ℕ) where
   small-record : Small (recordOutcome ws ts)
@@ -61,11 +71,5 @@ module _ (ws ts : List ℕ) where
       (small-refused unknown-kind 0 (omega arith))
       (small-cond (eqb (kindWord ws) record-kind) (recordOutcome ws ts) (rulesOutcome ws ts) small-record small-rules)
 
-  tells : (o : Outcome) → Small o → (r : ℕ) → r ≡ numberForC (checkAnswer o) → Tells r (checkAnswer o)
-  tells (accepted rows) s r e = tells-valid (low rows 0 (omega (arith, e)) (omega arith)) (high rows 0 (omega (arith, e)) (omega arith))
-  tells (refused number place) s r e =
-      let fits : 10 + number < 256 = omega (arith, s number place refl) in
-      tells-refused (low place (10 + number) e fits) (high place (10 + number) e fits)
-
-  pub check-tells : (r : ℕ) → r ≡ numberForC (checkAnswer (checkOutcome ws ts)) → Tells r (checkAnswer (checkOutcome ws ts))
+  pub check-tells : (r : ℕ) → r ≡ numberForC (outcomeAnswer (checkOutcome ws ts)) → Tells r (outcomeAnswer (checkOutcome ws ts))
   check-tells r e = tells (checkOutcome ws ts) small-check r e

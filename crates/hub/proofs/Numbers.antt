@@ -17,7 +17,8 @@ use Rattle.meaning.specs.Demands.{First, Demands}
 use Rattle.meaning.proofs.Members.{all-pass}
 use Rattle.meaning.proofs.Words.{row-of, rule-of}
 use Rattle.meaning.proofs.Demands.{demands}
-use Rattle.hub.specs.Entry.{Called, Tells, tells-valid, tells-invalid, tells-refused, NumberDemands}
+use Rattle.number.specs.Called.{Called}
+use Rattle.hub.specs.Entry.{Tells, tells-valid, tells-invalid, tells-refused, NumberDemands}
 
 -- a byte, and what stands above it
 pub low : {r : ℕ} (above byte : ℕ) → r ≡ above * 256 + byte → byte < 256 → r % 256 ≡ byte

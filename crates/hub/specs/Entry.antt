@@ -1,35 +1,27 @@
--- The promises to C (paper 01, "What the judge does"; paper 02, #103): one 64-bit number for the specification's answer, by one definition for every call
--- (`numberForC`), and of judging the specification's areas.
---
--- Of judging any two outcomes that it allows are equal (`outcome-one` in `proofs/Calls.antt`): the number, the cells and the list are each said to be one value, of
--- the words, texts and areas at entry.
+-- The promises to C (paper 01, "What the judge does"; paper 02, #103 and #107): one 64-bit number for the specification's answer, by one definition for every call
+-- (`numberForC`), and of judging the specification's areas (`Called` in crate `number`, and here of a queue); and what they come to.
 -- Assumes nothing.
-use mathlib.Core.List.{List}
+use mathlib.Core.List.{List, [], _∷_, _++_}
 use mathlib.Core.Path.{_≡_}
 use Prim.Native.Nat.{ℕ, _+_, _/_, _%_}
+use lib.ListN.{length, drop}
+use Rattle.text.specs.Part.{part}
 use Rattle.sheet.specs.Refusals.{Outcome, accepted, refused}
-use Rattle.meaning.specs.Answer.{Answer, valid, invalid, refuses, numberForC, judge}
+use Rattle.meaning.specs.Lists.{range}
+use Rattle.meaning.specs.Answer.{Answer, valid, invalid, refuses, numberForC}
 use Rattle.meaning.specs.Demands.{Demands}
+use Rattle.number.specs.Called.{outcomeAnswer}
+use Rattle.queue.specs.Listing.{recordsIn, wordsAt, textAt, queueOutcome}
+use Rattle.queue.specs.Queue.{judgeQueue}
 
--- ---- checking a sheet
+-- ---- a queue
 
--- what the check gives, as an answer: in order is told as valid is, with the rows where the count stands
-abbrev pub checkAnswer : Outcome → Answer
-checkAnswer (accepted rows) = valid rows 0
-checkAnswer (refused number place) = refuses number place
-
--- ---- judging
-
--- the settled pairs that an answer counts; a refusal counts none
-abbrev pub counted : Answer → ℕ
-counted (valid count marks) = count
-counted (invalid count marks) = count
-counted (refuses number place) = 0
-
-pub record Called (ws ts rs us cells₀ list₀ cells list : List ℕ) (r : ℕ) : Type 0 where
-  pub number-is : r ≡ numberForC (judge ws ts rs us cells₀ list₀ .answer)
-  pub cells-are : cells ≡ judge ws ts rs us cells₀ list₀ .cells
-  pub list-is : list ≡ judge ws ts rs us cells₀ list₀ .list
+-- the number, the areas and the answers are each said to be one value, of the words, texts, listing and areas at entry
+pub record QueueCalled (ws bs listing rs us cells₀ list₀ answers₀ cells list answers : List ℕ) (r : ℕ) : Type 0 where
+  pub number-is : r ≡ numberForC (outcomeAnswer (judgeQueue ws bs listing rs us cells₀ list₀ answers₀ .outcome))
+  pub cells-are : cells ≡ judgeQueue ws bs listing rs us cells₀ list₀ answers₀ .cells
+  pub list-is : list ≡ judgeQueue ws bs listing rs us cells₀ list₀ answers₀ .list
+  pub answers-are : answers ≡ judgeQueue ws bs listing rs us cells₀ list₀ answers₀ .answers
 
 -- ---- what the number tells
 
@@ -44,3 +36,20 @@ pub record NumberDemands (ws ts rs us cells₀ list₀ cells list : List ℕ) (r
   pub answer : Answer
   pub tells : Tells r answer
   pub demands : Demands ws ts rs us cells₀ list₀ (record { answer = answer; cells = cells; list = list })
+
+-- each record's number tells an answer that meets the demands, with the areas as the record before left them
+pub data EachMeets (ws bs listing rs us : List ℕ) : (records cells₀ list₀ numbers cells list : List ℕ) → Type 0 where
+  no-more : {cs ls : List ℕ} → EachMeets ws bs listing rs us [] cs ls [] cs ls
+  one-more : {k r : ℕ} {ks ns cs ls cs′ ls′ cells list : List ℕ} → NumberDemands (part ws (wordsAt listing k)) (part bs (textAt listing k)) rs us cs ls cs′ ls′ r
+      → EachMeets ws bs listing rs us ks cs′ ls′ ns cells list → EachMeets ws bs listing rs us (k ∷ ks) cs ls (r ∷ ns) cells list
+
+-- the number tells what the table of the queue gives; a refused queue leaves all as it was; otherwise the first numbers of the answers are the records'
+pub record QueueDemands (ws bs listing rs us cells₀ list₀ answers₀ cells list answers : List ℕ) (r : ℕ) : Type 0 where
+  pub tells : Tells r (outcomeAnswer (queueOutcome (length ws) (length bs) (length answers₀) listing))
+  pub refused-same : (number place : ℕ) → queueOutcome (length ws) (length bs) (length answers₀) listing ≡ refused number place
+      → (cells ≡ cells₀) × (list ≡ list₀) × (answers ≡ answers₀)
+  pub numbers : List ℕ
+  pub numbers-first : queueOutcome (length ws) (length bs) (length answers₀) listing ≡ accepted (recordsIn listing)
+      → (length numbers ≡ recordsIn listing) × (answers ≡ numbers ++ drop (recordsIn listing) answers₀)
+  pub each : queueOutcome (length ws) (length bs) (length answers₀) listing ≡ accepted (recordsIn listing)
+      → EachMeets ws bs listing rs us (range 0 (recordsIn listing)) cells₀ list₀ numbers cells list

@@ -1,15 +1,18 @@
-// The entries for the hub's host program, which is written in C: checking a sheet and judging, each
-// answer as one number.
+// The entries for the hub's host program, which is written in C: checking a sheet, judging a record
+// and judging a queue, each answer as one number.
 //
 // `include/amphorust.h` says the same to a C programmer. The contracts cite `specs/Entry.antt`.
 ghost use mathlib.Core.Path.{_≡_};
-ghost use Prim.Native.Nat.{_<_, _^_};
 ghost use Rattle.sheet.specs.Refusals.{outcomeOf};
 ghost use Rattle.sheetcheck.specs.LastWord.{checkOutcome};
-ghost use Rattle.meaning.specs.Answer.{refuses, numberForC};
-ghost use Rattle.judge.specs.Call.{answerOf};
-ghost use Rattle.hub.specs.Entry.{Called, counted, checkAnswer};
-use judge::answer::Answer;
+ghost use Rattle.meaning.specs.Answer.{numberForC};
+ghost use Rattle.number.specs.Called.{Called, outcomeAnswer};
+ghost use Rattle.queue.specs.Listing.{queuedOutcome};
+ghost use Rattle.hub.specs.Entry.{QueueCalled};
+use number::number_of;
+use number::number_of_count;
+use number::number_of_refusal;
+use queue::Queued;
 use sheet::refusal::Checked;
 use sheetcheck::ByKind;
 
@@ -18,7 +21,7 @@ use sheetcheck::ByKind;
 // rows (of rules, the schemas) or, of a refusal, the place.
 #[no_mangle]
 pub extern "C" fn amphorust_check(words: &[u32], text: &[u8]) -> u64
-    ensures { λ r. ⌜ r ≡ numberForC (checkAnswer (checkOutcome (now (words .entry)) (now (text .entry)))) ⌝ }
+    ensures { λ r. ⌜ r ≡ numberForC (outcomeAnswer (checkOutcome (now (words .entry)) (now (text .entry)))) ⌝ }
 {
     match sheetcheck::check(words, text) {
         ByKind::Known(checked) => number_of_checked(checked),
@@ -44,31 +47,53 @@ pub extern "C" fn amphorust_judge<'a>(
     number_of(answer)
 }
 
+// Judges a queue of records, each listed by four words: where its words start and how many they are,
+// and the same of its text. The number's lowest byte is 0, and 10 more than the refusal's number for
+// refused; what stands above it is the number of records answered or, of a refusal, the place.
+#[no_mangle]
+pub extern "C" fn amphorust_judge_queue<'a>(
+    words: &'a [u32],
+    bytes: &'a [u8],
+    listing: &'a [u32],
+    rules: &'a [u32],
+    rule_text: &'a [u8],
+    cells: &mut [u8],
+    list: &mut [u32],
+    answers: &mut [u64],
+) -> u64
+    ensures { λ r. ⌜ QueueCalled (now (words .entry)) (now (bytes .entry)) (now (listing .entry)) (now (rules .entry)) (now («rule_text» .entry)) (now (cells .entry)) (now (list .entry)) (now (answers .entry)) (now (cells .exit)) (now (list .exit)) (now (answers .exit)) r ⌝ }
+{
+    let queued = queue::judge_queue(
+        words,
+        bytes,
+        listing,
+        rules,
+        rule_text,
+        cells,
+        list,
+        answers,
+    );
+    number_of_queued(queued)
+}
+
 // The number of what the check of a known kind gives.
 fn number_of_checked(checked: Checked) -> u64
-    ensures { λ r. ⌜ r ≡ numberForC (checkAnswer (outcomeOf checked)) ⌝ }
+    ensures { λ r. ⌜ r ≡ numberForC (outcomeAnswer (outcomeOf checked)) ⌝ }
 {
     match checked {
-        Checked::Accepted(rows) => (rows as u64) * 256,
+        Checked::Accepted(rows) => number_of_count(rows),
         Checked::Refused(refusal, place) => number_of_refusal(refusal.number(), place),
     }
 }
 
-// The number of an answer whose count fits a word, as that of every call does.
-fn number_of(answer: Answer) -> u64
-    requires { ⌜ counted (answerOf answer) < 2 ^ 32 ⌝ }
-    ensures { λ r. ⌜ r ≡ numberForC (answerOf answer) ⌝ }
+// The number of what a queue gives.
+fn number_of_queued(queued: Queued) -> u64
+    ensures { λ r. ⌜ r ≡ numberForC (outcomeAnswer (queuedOutcome queued)) ⌝ }
 {
-    match answer {
-        Answer::Valid(count, _) => (count as u64) * 256,
-        Answer::Invalid(count, _) => (count as u64) * 256 + 1,
-        Answer::Refused(refusal, place) => number_of_refusal(refusal.number(), place),
+    match queued {
+        Queued::Answered(many) => number_of_count(many),
+        Queued::BadListing => number_of_refusal(30, 0),
+        Queued::Outside(place) => number_of_refusal(31, place),
+        Queued::FewAnswers(many) => number_of_refusal(32, many),
     }
-}
-
-// The number of a refusal.
-fn number_of_refusal(number: u32, place: u32) -> u64
-    ensures { λ r. ⌜ r ≡ numberForC (refuses number place) ⌝ }
-{
-    (place as u64) * 256 + (10 + number as u64)
 }

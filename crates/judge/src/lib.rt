@@ -59,8 +59,8 @@ fn judge_by_rules<'a>(
     }
 }
 
-// The rules are in order too, with m schemas.
-fn judge_in_areas<'a>(
+// The rules are in order too, with m schemas: for a caller that has checked both sheets.
+pub fn judge_in_areas<'a>(
     record: &'a [u32],
     text: &'a [u8],
     rules: &'a [u32],

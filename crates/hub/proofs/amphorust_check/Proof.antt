@@ -3,7 +3,7 @@ use mathlib.Core.Path.{sym, ap, _∙_}
 use Rattle.sheet.specs.Refusals.{Outcome}
 use Rattle.sheetcheck.specs.LastWord.{outcomeByKind}
 use Rattle.meaning.specs.Answer.{numberForC}
-use Rattle.hub.specs.Entry.{checkAnswer}
+use Rattle.number.specs.Called.{outcomeAnswer}
 use borrow.Author.Needs.{needs}
 use Rattle.hub.proofs.amphorust_check.Statement.{statement}
 use Rattle.hub.proofs.amphorust_check.Tie as tie
@@ -26,12 +26,12 @@ number-of-refusal-requires c κs = search needs
 returns : tie.Need-returns
 returns c =
     c .number-of-checked .ensures
-    ∙ ap (λ (o : Outcome). numberForC (checkAnswer o)) (sym (ap outcomeByKind (c .before .before .checked .given .1)) ∙ c .before .before .before .before .check .ensures)
+    ∙ ap (λ (o : Outcome). numberForC (outcomeAnswer o)) (sym (ap outcomeByKind (c .before .before .checked .given .1)) ∙ c .before .before .before .before .check .ensures)
 
 returns-2 : tie.Need-returns-2
 returns-2 c =
     c .number-of-refusal .ensures
-    ∙ ap (λ (o : Outcome). numberForC (checkAnswer o)) (sym (ap outcomeByKind (c .before .enum-told .given .1)) ∙ c .before .before .before .check .ensures)
+    ∙ ap (λ (o : Outcome). numberForC (outcomeAnswer o)) (sym (ap outcomeByKind (c .before .enum-told .given .1)) ∙ c .before .before .before .check .ensures)
 
 pub amphorust-check-spec : {M : Type 1} → statement M
 amphorust-check-spec =

@@ -1,10 +1,10 @@
 use borrow.Author.Needs.{needs}
-use Rattle.hub.proofs.Calls.{count-fits, call-told}
+use Rattle.number.proofs.Calls.{count-fits, call-told}
 use Rattle.hub.proofs.amphorust_judge.Statement.{statement}
 use Rattle.hub.proofs.amphorust_judge.Tie as tie
 use Rattle.hub.proofs.amphorust_judge.Reads as reads
 use Rattle.hub.proofs.amphorust_judge.Lts as lts
-use Rattle.hub.proofs.number_of.Reads as number-of-reads
+use Rattle.number.proofs.number_of.Reads as number-of-reads
 use Rattle.judge.proofs.judge.Reads as judge-reads
 
 judge-requires : tie.Need-judge-requires

@@ -1,9 +1,9 @@
 use native.Mathlib.Omega.{arith}
 use borrow.Author.Needs.{needs}
-use Rattle.hub.proofs.number_of.Statement.{statement}
-use Rattle.hub.proofs.number_of.Tie as tie
-use Rattle.hub.proofs.number_of.Reads as reads
-use Rattle.hub.proofs.number_of.Lts as lts
+use Rattle.number.proofs.number_of.Statement.{statement}
+use Rattle.number.proofs.number_of.Tie as tie
+use Rattle.number.proofs.number_of.Reads as reads
+use Rattle.number.proofs.number_of.Lts as lts
 use Rattle.sheet.proofs.refusal.Refusal.number.Reads as number-reads
 
 enum-known-answer : tie.Need-enum-known-answer

@@ -1,4 +1,4 @@
--- What the entry's proof asks besides.
+-- What a call's number asks and tells.
 --     count-fits      the count of every call fits a word
 --     call-told       the number and the areas, from what the call leaves
 --     outcome-one     any two outcomes that the promise allows are equal
@@ -22,7 +22,7 @@ use Rattle.meaning.proofs.Trees.{once}
 use Rattle.judge.proofs.Calls.{size-small}
 use Rattle.judge.specs.declared.answer.Answer as J
 use Rattle.judge.specs.Call.{answerOf, callLeaves}
-use Rattle.hub.specs.Entry.{counted, Called}
+use Rattle.number.specs.Called.{counted, Called}
 
 counts : (ok : Bool) (count marks : ℕ) → counted (verdict ok count marks) ≡ count
 counts true count marks = refl
