@@ -1,2 +1,4 @@
 pub mod Told
 pub mod Repeated
+pub mod Saying
+pub mod Gathered
