@@ -2,3 +2,5 @@ pub mod Told
 pub mod Repeated
 pub mod Saying
 pub mod Gathered
+pub mod Order
+pub mod Earlier

@@ -88,7 +88,7 @@ unfoldable pub firstAmiss : List Told → Option (List ℕ)
 firstAmiss [] = none
 firstAmiss (t ∷ ts) = let later = firstAmiss ts in cond (t .amiss) (some (t .behind)) later
 
-abbrev foundIn : List Named → ℕ → ℕ → Option (List ℕ)
+abbrev pub foundIn : List Named → ℕ → ℕ → Option (List ℕ)
 foundIn ms r end = cond (ltb r end) (some (getD ms r no-name .behind)) none
 
 module _ (ms : List Named) where
