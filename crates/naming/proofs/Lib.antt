@@ -4,3 +4,4 @@ pub mod Saying
 pub mod Gathered
 pub mod Order
 pub mod Earlier
+pub mod Levels
