@@ -5,3 +5,4 @@ pub mod Gathered
 pub mod Order
 pub mod Earlier
 pub mod Levels
+pub mod Fewness
