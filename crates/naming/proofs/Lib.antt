@@ -6,3 +6,4 @@ pub mod Order
 pub mod Earlier
 pub mod Levels
 pub mod Fewness
+pub mod Lying
