@@ -1,5 +1,6 @@
 -- The text that is made is shorter than the JSON text: every string is at least as long where it is written, and stands between quotes.
 --     made-short    the theorem
+--     value-short, elements-short, members-short    of each part
 -- Assumes nothing.
 use mathlib.Core.Bool.{Bool, true, false, cond, _&&_}
 use mathlib.Core.List.{List, [], _∷_}
