@@ -17,23 +17,14 @@ use Rattle.json.specs.Text.{Text}
 use Rattle.json.specs.Sightings.{What, aValue, aName, anEscape}
 use Rattle.json.specs.Starts.{Start, textStarts}
 use Rattle.reader.specs.Faults.{valueFault, faultBy, countBy, Fault, orElse, firstFault}
+use Rattle.survey.specs.Told.{unnamed}
 use Rattle.naming.specs.Members.{Named, textNames, has}
 use Rattle.naming.specs.Gathering.{before}
 use Rattle.naming.proofs.Told.{Told, namesTold, told, told-text}
 use Rattle.naming.proofs.Repeated.{firstAmiss, foundIn, taggedAt, amiss-first}
 use Rattle.naming.proofs.Order.{Falling, f-none, f-more, starts-fall}
 
--- ---- faults but for repeated names
-
-abbrev quietBy : What → Start → Start
-quietBy aValue s = s
-quietBy aName s = record { seen = s .seen; amiss = false }
-quietBy anEscape s = s
-
--- the same starts, no name of which is amiss
-unfoldable pub unnamed : List Start → List Start
-unnamed [] = []
-unnamed (s ∷ ss) = quietBy (s .seen .what) s ∷ unnamed ss
+-- ---- faults but for repeated names (`unnamed`)
 
 -- how many bytes are left at a fault
 abbrev pub leftAt : Option Fault → ℕ

@@ -23,8 +23,9 @@ use Rattle.reader.specs.Faults.{valueFault, countBy, Fault, orElse, firstFault}
 use Rattle.naming.specs.Members.{valuesIn, elementsIn, membersIn, Named, valueNames, textNames}
 use Rattle.naming.specs.Gathering.{before}
 use Rattle.naming.proofs.Told.{Told, namesTold, told, told-text}
+use Rattle.survey.specs.Told.{unnamed}
 use Rattle.naming.proofs.Order.{Falling, f-none, f-more, starts-fall}
-use Rattle.naming.proofs.Earlier.{unnamed, leftAt, otherFault, namesBefore}
+use Rattle.naming.proofs.Earlier.{leftAt, otherFault, namesBefore}
 
 -- after c names and v values each name finds more values than names before it
 data Balanced : ℕ → ℕ → List Start → Type 0 where

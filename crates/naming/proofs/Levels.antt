@@ -23,8 +23,9 @@ use Rattle.json.specs.Starts.{Start, stringStarts, valueStarts, elementStarts, 
 use Rattle.reader.specs.Faults.{valueFault, Fault, orElse, firstFault}
 use Rattle.reader.proofs.Lengths.{decoded-short, spaces-long, value-short}
 use Rattle.naming.proofs.Gathered.{Held, HeldItems, HeldFields}
+use Rattle.survey.specs.Told.{unnamed}
 use Rattle.naming.proofs.Order.{Falling, f-none, f-more, starts-fall}
-use Rattle.naming.proofs.Earlier.{unnamed, leftAt, otherFault}
+use Rattle.naming.proofs.Earlier.{leftAt, otherFault}
 
 -- no value that starts before the limit is on level 33
 abbrev Low : What → ℕ → Start → Type 0
