@@ -3,6 +3,9 @@ pub mod Spaces
 pub mod Numbers
 pub mod Strings
 pub mod Values
+pub mod Doing
+pub mod AlongParts
+pub mod AlongValues
 pub mod Finish
 pub mod Rests
 pub mod Characters

@@ -23,7 +23,7 @@ use lib.ListN.{length}
 abbrev pub Ending : ℕ → Type 0
 Ending b = (b < 0x2E) ⊎ ((b ≡ 0x5D) ⊎ (b ≡ 0x7D))
 
-ending : (k : Option Bracket) (b : ℕ) → Fits (ends k) b (λ m. Unit {0}) → Ending b
+pub ending : (k : Option Bracket) (b : ℕ) → Fits (ends k) b (λ m. Unit {0}) → Ending b
 ending none b (inl f) = inl (omega arith)
 ending none b (inr (inl f)) = inl (omega arith)
 ending none b (inr (inr (inl f))) = inl (omega arith)
@@ -42,7 +42,7 @@ ending (some curly) b (inr (inr (inr (inr (inl f))))) = inl (omega arith)
 ending (some curly) b (inr (inr (inr (inr (inr (inl f)))))) = inr (inr (omega arith))
 
 -- the place has the moves of the end of a value
-abbrev Continued : Place → List Bracket → Type 0
+abbrev pub Continued : Place → List Bracket → Type 0
 Continued p ks = (b : ℕ) → Ending b → pick (moves p (innermost ks)) b ≡ pick (ends (innermost ks)) b
 
 -- accepted as after a value, and nothing else is seen
@@ -89,32 +89,37 @@ skip-small s ms b (inr (inr e)) = miss (A.only 0x65 s) ms b (inr (omega arith))
 skip-letters : (ms : List Move) (b : ℕ) → Ending b → pick (A.exponents ms) b ≡ pick ms b
 skip-letters ms b e = skip-capital letter (A.only 0x65 letter ∷ ms) b e ∙ skip-small letter ms b e
 
+-- a number may end at this place
+pub data Stops : Place → Type 0 where
+  at-nought : Stops nought
+  at-whole : Stops A.whole
+  at-part : Stops part
+  at-power : Stops power
+
 module _ (ks : List Bracket) where
+  pub continued : (p : Place) → Stops p → Continued p ks
+  continued nought at-nought b e = skip-point point (A.exponents (ends (innermost ks))) b e ∙ skip-letters (ends (innermost ks)) b e
+  continued A.whole at-whole b e =
+      skip-digit A.whole (A.only 0x2E point ∷ A.exponents (ends (innermost ks))) b e
+      ∙ skip-point point (A.exponents (ends (innermost ks))) b e
+      ∙ skip-letters (ends (innermost ks)) b e
+  continued part at-part b e = skip-digit part (A.exponents (ends (innermost ks))) b e ∙ skip-letters (ends (innermost ks)) b e
+  continued power at-power b e = skip-digit power (ends (innermost ks)) b e
+
   abbrev Passes : Place → Type 0
   Passes p = (bs : List ℕ) → Accepts (at after ks) bs → Through p ks bs
 
   pub through-nought : Passes nought
-  through-nought =
-      through nought ks (λ b e. skip-point point (A.exponents (ends (innermost ks))) b e ∙ skip-letters (ends (innermost ks)) b e) refl (λ b. refl)
+  through-nought = through nought ks (continued nought at-nought) refl (λ b. refl)
 
   pub through-whole : Passes A.whole
-  through-whole =
-      through
-      A.whole
-      ks
-      (λ b e.
-      skip-digit A.whole (A.only 0x2E point ∷ A.exponents (ends (innermost ks))) b e
-      ∙ skip-point point (A.exponents (ends (innermost ks))) b e
-      ∙ skip-letters (ends (innermost ks)) b e)
-      refl
-      (λ b. refl)
+  through-whole = through A.whole ks (continued A.whole at-whole) refl (λ b. refl)
 
   pub through-part : Passes part
-  through-part =
-      through part ks (λ b e. skip-digit part (A.exponents (ends (innermost ks))) b e ∙ skip-letters (ends (innermost ks)) b e) refl (λ b. refl)
+  through-part = through part ks (continued part at-part) refl (λ b. refl)
 
   pub through-power : Passes power
-  through-power = through power ks (λ b e. skip-digit power (ends (innermost ks)) b e) refl (λ b. refl)
+  through-power = through power ks (continued power at-power) refl (λ b. refl)
 
 module _ (L : List Sighting) (ks : List Bracket) where
   -- the number may end here
@@ -126,7 +131,7 @@ module _ (L : List Sighting) (ks : List Bracket) where
 
   -- ---- digits
 
-  abbrev Counts : Place → Place → Type 0
+  abbrev pub Counts : Place → Place → Type 0
   Counts p q = (d : Digit) → (sight p (digit d) ≡ none) × (step (at p ks) (digit d) ≡ some (at q ks))
 
   digits-on : (p : Place) → Counts p p → (ds : List Digit) (bs : List ℕ) → Reading L (at p ks) bs → Reading L (at p ks) (digits ds bs)
@@ -139,27 +144,27 @@ module _ (L : List Sighting) (ks : List Bracket) where
   a-digit q ms d =
       let l : d .worth < 10 = d .small in ap (follow ks) (hit (A.range 0x30 0x39 q) ms (digit d) (omega arith) (omega arith))
 
-  whole-counts : Counts A.whole A.whole
+  pub whole-counts : Counts A.whole A.whole
   unfolding step
   whole-counts d = (refl, a-digit A.whole (A.only 0x2E point ∷ A.exponents (ends (innermost ks))) d)
 
-  part-counts : Counts part part
+  pub part-counts : Counts part part
   unfolding step
   part-counts d = (refl, a-digit part (A.exponents (ends (innermost ks))) d)
 
-  power-counts : Counts power power
+  pub power-counts : Counts power power
   unfolding step
   power-counts d = (refl, a-digit power (ends (innermost ks)) d)
 
-  point-counts : Counts point part
+  pub point-counts : Counts point part
   unfolding step
   point-counts d = (refl, a-digit part [] d)
 
-  sign-counts : Counts sign power
+  pub sign-counts : Counts sign power
   unfolding step
   sign-counts d = (refl, a-digit power [] d)
 
-  letter-counts : Counts letter power
+  pub letter-counts : Counts letter power
   unfolding step
   letter-counts d =
       let l : d .worth < 10 = d .small in (
@@ -187,7 +192,7 @@ module _ (L : List Sighting) (ks : List Bracket) where
   signed-on plus ds bs a = power-on ds bs a
   signed-on T.minus ds bs a = power-on ds bs a
 
-  abbrev Letters : Place → Type 0
+  abbrev pub Letters : Place → Type 0
   Letters p = (l : Letter) → (sight p (letterE l) ≡ none) × (step (at p ks) (letterE l) ≡ some (at letter ks))
 
   exponent-on : (p : Place) → Ends p → Letters p → (x : Exponent) (bs : List ℕ) → Reading L (at after ks) bs → Reading L (at p ks) (exponent x bs)
@@ -195,22 +200,22 @@ module _ (L : List Sighting) (ks : List Bracket) where
   exponent-on p t l (some e) bs a =
       quietly L p ks (at letter ks) (letterE (e .letter)) (signed (e .sign) (digits1 (e .places) bs)) (l (e .letter) .0) (l (e .letter) .1) (signed-on (e .sign) (e .places) bs a)
 
-  nought-letter : Letters nought
+  pub nought-letter : Letters nought
   unfolding step pick
   nought-letter capital = (refl, refl)
   nought-letter small = (refl, refl)
 
-  whole-letter : Letters A.whole
+  pub whole-letter : Letters A.whole
   unfolding step pick
   whole-letter capital = (refl, refl)
   whole-letter small = (refl, refl)
 
-  part-letter : Letters part
+  pub part-letter : Letters part
   unfolding step pick
   part-letter capital = (refl, refl)
   part-letter small = (refl, refl)
 
-  abbrev Point : Place → Type 0
+  abbrev pub Point : Place → Type 0
   Point p = (sight p 0x2E ≡ none) × (step (at p ks) 0x2E ≡ some (at point ks))
 
   fraction-on : (p : Place) → Ends p → Letters p → Point p
@@ -221,11 +226,11 @@ module _ (L : List Sighting) (ks : List Bracket) where
   fraction-on p t l e (some ds) x bs a =
       quietly L p ks (at point ks) 0x2E (digits1 ds (exponent x bs)) (e .0) (e .1) (digits1-on point part point-counts part-counts ds (exponent x bs) (exponent-on part (through-part ks) part-letter x bs a))
 
-  nought-point : Point nought
+  pub nought-point : Point nought
   unfolding step pick
   nought-point = (refl, refl)
 
-  whole-point : Point A.whole
+  pub whole-point : Point A.whole
   unfolding step pick
   whole-point = (refl, refl)
 
@@ -241,7 +246,7 @@ module _ (L : List Sighting) (ks : List Bracket) where
       → Reading L (at nought ks) (fraction f (exponent x bs))
   nought-on f x bs a = fraction-on nought (through-nought ks) nought-letter nought-point f x bs a
 
-  minus-first : (d : Digit) → 0 < d .worth → step (at A.minus ks) (digit d) ≡ some (at A.whole ks)
+  pub minus-first : (d : Digit) → 0 < d .worth → step (at A.minus ks) (digit d) ≡ some (at A.whole ks)
   unfolding step
   minus-first d p =
       let l : d .worth < 10 = d .small in

@@ -1,9 +1,10 @@
 -- Strings are read by the automaton.
 --     encode-1 to -4     the bytes of a scalar value, by its size
+--     spelled            where the bytes of a character lead
 --     pieces-on          what stands in a string, and then the rest of it
 -- Assumes nothing.
-use mathlib.Core.List.{List, [], _∷_}
-use mathlib.Core.Logic.{inl, inr, ⊎-elim}
+use mathlib.Core.List.{List, [], _∷_, _++_}
+use mathlib.Core.Logic.{_≢_, inl, inr, ⊎-elim}
 use mathlib.Core.Option.{some}
 use mathlib.Core.Path.{_≡_, refl, ap}
 use Prim.Native.Nat.{ℕ, suc, _+_, _/_, _%_, _≤_, _<_}
@@ -37,10 +38,9 @@ pub encode-4 : (c : ℕ) (bs : List ℕ) → 0x10000 ≤ c
 unfolding encode
 encode-4 c bs l = rw (le-ltb c 0x80 (omega arith), le-ltb c 0x800 (omega arith), le-ltb c 0x10000 l)
 
-module _ (L : List Sighting) (r : Role) (ks : List Bracket) where
-  abbrev Inside : List ℕ → Type 0
-  Inside bs = Reading L (at (text r) ks) bs
+-- ---- a character that stands as it is
 
+module _ (r : Role) (ks : List Bracket) where
   -- the byte leads from this place to u
   abbrev Leads : Place → ℕ → State → Type 0
   Leads p b u = Fits (moves p (innermost ks)) b (λ m. follow ks (some m) ≡ some u)
@@ -48,6 +48,22 @@ module _ (L : List Sighting) (r : Role) (ks : List Bracket) where
   goes : (b : ℕ) (u : State) → Leads (text r) b u → step (at (text r) ks) b ≡ some u
   unfolding step apart clear
   goes b u f = picked (λ o. follow ks o ≡ some u) (moves (text r) (innermost ks)) b refl f
+
+  -- the bytes lead from a place within a character to the rest of the string
+  pub data Within : Place → List ℕ → Type 0 where
+    whole-char : Within (text r) []
+    further : {q : Place} {c : Char} {b : ℕ} {bs : List ℕ} → step (at (char c r) ks) b ≡ some (at q ks) → Within q bs → Within (char c r) (b ∷ bs)
+
+  -- its first byte and the others, and where the first leads
+  pub record Spelled (c : ℕ) : Type 0 where
+    pub first : ℕ
+    pub others : List ℕ
+    pub same : (rest : List ℕ) → encode c rest ≡ first ∷ (others ++ rest)
+    pub no-quote : first ≢ 0x22
+    pub no-backslash : first ≢ 0x5C
+    pub place : Place
+    pub lead : step (at (text r) ks) first ≡ some (at place ks)
+    pub tail : Within place others
 
   ascii : (c : ℕ) → Plain c → c < 0x80 → step (at (text r) ks) c ≡ some (at (text r) ks)
   ascii c p h =
@@ -63,115 +79,122 @@ module _ (L : List Sighting) (r : Role) (ks : List Bracket) where
       (le-or-lt c 0x21))
 
   -- a byte that goes on with a character
-  next : (c : Char) (b : ℕ) (bs : List ℕ)
-      → continuation c r .low ≤ b
-      → b ≤ continuation c r .high
-      → Reading L (at (continuation c r .place) (changed (continuation c r .change) ks)) bs
-      → Reading L (at (char c r) ks) (b ∷ bs)
+  next : (c : Char) (b : ℕ) → continuation c r .low ≤ b → b ≤ continuation c r .high
+      → step (at (char c r) ks) b ≡ some (at (continuation c r .place) (changed (continuation c r .change) ks))
   unfolding step
-  next c b bs l h a =
-      quietly L (char c r) ks (at (continuation c r .place) (changed (continuation c r .change) ks)) b bs refl (ap (follow ks) (hit (continuation c r) [] b l h)) a
+  next c b l h = ap (follow ks) (hit (continuation c r) [] b l h)
 
-  next-1 : (c : ℕ) (bs : List ℕ) → Inside bs → Reading L (at (char one r) ks) ((0x80 + c % 0x40) ∷ bs)
-  next-1 c bs a = next one (0x80 + c % 0x40) bs (omega arith) (omega arith) a
+  -- the last byte; the last two
+  last-1 : (c : ℕ) → Within (char one r) ((0x80 + c % 0x40) ∷ [])
+  last-1 c = further (next one (0x80 + c % 0x40) (omega arith) (omega arith)) whole-char
 
-  next-2 : (c : ℕ) (bs : List ℕ) → Inside bs → Reading L (at (char two r) ks) ((0x80 + c / 0x40 % 0x40) ∷ (0x80 + c % 0x40) ∷ bs)
-  next-2 c bs a = next two (0x80 + c / 0x40 % 0x40) ((0x80 + c % 0x40) ∷ bs) (omega arith) (omega arith) (next-1 c bs a)
+  last-2 : (c : ℕ) → Within (char two r) ((0x80 + c / 0x40 % 0x40) ∷ (0x80 + c % 0x40) ∷ [])
+  last-2 c = further (next two (0x80 + c / 0x40 % 0x40) (omega arith) (omega arith)) (last-1 c)
 
-  -- the first byte of a character, and the others
-  leads : (b : ℕ) (u : State) (bs : List ℕ) → 0x5C < b → Leads (text r) b u → Reading L u bs → Inside (b ∷ bs)
-  leads b u bs h f a = quietly L (text r) ks u b bs (rw (ne-eqb b 0x5C (λ e. omega arith))) (goes b u f) a
+  -- a character of several bytes
+  leads : (c b : ℕ) (q : Place) (bs : List ℕ) → ((rest : List ℕ) → encode c rest ≡ b ∷ (bs ++ rest)) → 0x5C < b → Leads (text r) b (at q ks) → Within q bs → Spelled c
+  leads c b q bs e h f w =
+      record { first = b; others = bs; same = e; no-quote = λ x. omega arith; no-backslash = λ x. omega arith; place = q; lead = goes b (at q ks) f; tail = w }
 
-  two-on : (c : ℕ) (bs : List ℕ) → 0x80 ≤ c → c < 0x800 → Inside bs → Inside ((0xC0 + c / 0x40) ∷ (0x80 + c % 0x40) ∷ bs)
-  two-on c bs l h a =
-      leads (0xC0 + c / 0x40) (at (char one r) ks) ((0x80 + c % 0x40) ∷ bs) (omega arith) (inr (inr (inr (inr (inr (inl (omega arith, omega arith, refl))))))) (next-1 c bs a)
+  two-bytes : (c : ℕ) → 0x80 ≤ c → c < 0x800 → Spelled c
+  two-bytes c l h =
+      leads c (0xC0 + c / 0x40) (char one r) ((0x80 + c % 0x40) ∷ []) (λ rest. encode-2 c rest l h) (omega arith) (inr (inr (inr (inr (inr (inl (omega arith, omega arith, refl))))))) (last-1 c)
 
-  three-on : (c : ℕ) (bs : List ℕ) → 0x800 ≤ c → c < 0x10000 → Scalar c → Inside bs
-      → Inside ((0xE0 + c / 0x1000) ∷ (0x80 + c / 0x40 % 0x40) ∷ (0x80 + c % 0x40) ∷ bs)
-  three-on c bs l h (inr s) a =
-      leads (0xE0 + c / 0x1000) (at (char two r) ks) _ (omega arith) (inr (inr (inr (inr (inr (inr (inr (inr (inr (inl (omega arith, omega arith, refl))))))))))) (next-2 c bs a)
-  three-on c bs l h (inl s) a = ⊎-elim (λ m. ⊎-elim (λ n. high n) (λ n. middle m n) (le-or-lt 0xD000 c)) (λ m. low m) (le-or-lt 0x1000 c)
+  three-bytes : (c : ℕ) → 0x800 ≤ c → c < 0x10000 → Scalar c → Spelled c
+  three-bytes c l h (inr s) =
+      leads c (0xE0 + c / 0x1000) (char two r) ((0x80 + c / 0x40 % 0x40) ∷ (0x80 + c % 0x40) ∷ []) (λ rest. encode-3 c rest l h) (omega arith) (inr (inr (inr (inr (inr (inr (inr (inr (inr (inl (omega arith, omega arith, refl))))))))))) (last-2 c)
+  three-bytes c l h (inl s) = ⊎-elim (λ m. ⊎-elim (λ n. high n) (λ n. middle m n) (le-or-lt 0xD000 c)) (λ m. low m) (le-or-lt 0x1000 c)
     where
-      low : c < 0x1000 → Inside ((0xE0 + c / 0x1000) ∷ (0x80 + c / 0x40 % 0x40) ∷ (0x80 + c % 0x40) ∷ bs)
+      low : c < 0x1000 → Spelled c
       low m =
-          leads
-          (0xE0 + c / 0x1000)
-          (at (char afterE0 r) ks)
-          ((0x80 + c / 0x40 % 0x40) ∷ (0x80 + c % 0x40) ∷ bs)
+          leads c (0xE0 + c / 0x1000) (char afterE0 r) ((0x80 + c / 0x40 % 0x40) ∷ (0x80 + c % 0x40) ∷ []) (λ rest. encode-3 c rest l h)
           (omega arith) (inr (inr (inr (inr (inr (inr (inl (omega arith, omega arith, refl))))))))
-          (next afterE0 (0x80 + c / 0x40 % 0x40) ((0x80 + c % 0x40) ∷ bs) (omega arith) (omega arith) (next-1 c bs a))
+          (further (next afterE0 (0x80 + c / 0x40 % 0x40) (omega arith) (omega arith)) (last-1 c))
 
-      middle : 0x1000 ≤ c → c < 0xD000 → Inside ((0xE0 + c / 0x1000) ∷ (0x80 + c / 0x40 % 0x40) ∷ (0x80 + c % 0x40) ∷ bs)
+      middle : 0x1000 ≤ c → c < 0xD000 → Spelled c
       middle m n =
-          leads
-          (0xE0 + c / 0x1000)
-          (at (char two r) ks)
-          ((0x80 + c / 0x40 % 0x40) ∷ (0x80 + c % 0x40) ∷ bs)
+          leads c (0xE0 + c / 0x1000) (char two r) ((0x80 + c / 0x40 % 0x40) ∷ (0x80 + c % 0x40) ∷ []) (λ rest. encode-3 c rest l h)
           (omega arith) (inr (inr (inr (inr (inr (inr (inr (inl (omega arith, omega arith, refl)))))))))
-          (next-2 c bs a)
+          (last-2 c)
 
-      high : 0xD000 ≤ c → Inside ((0xE0 + c / 0x1000) ∷ (0x80 + c / 0x40 % 0x40) ∷ (0x80 + c % 0x40) ∷ bs)
+      high : 0xD000 ≤ c → Spelled c
       high m =
-          leads
-          (0xE0 + c / 0x1000)
-          (at (char afterED r) ks)
-          ((0x80 + c / 0x40 % 0x40) ∷ (0x80 + c % 0x40) ∷ bs)
+          leads c (0xE0 + c / 0x1000) (char afterED r) ((0x80 + c / 0x40 % 0x40) ∷ (0x80 + c % 0x40) ∷ []) (λ rest. encode-3 c rest l h)
           (omega arith) (inr (inr (inr (inr (inr (inr (inr (inr (inl (omega arith, omega arith, refl))))))))))
-          (next afterED (0x80 + c / 0x40 % 0x40) ((0x80 + c % 0x40) ∷ bs) (omega arith) (omega arith) (next-1 c bs a))
+          (further (next afterED (0x80 + c / 0x40 % 0x40) (omega arith) (omega arith)) (last-1 c))
 
-  four-on : (c : ℕ) (bs : List ℕ) → 0x10000 ≤ c → c < 0x110000 → Inside bs
-      → Inside ((0xF0 + c / 0x40000) ∷ (0x80 + c / 0x1000 % 0x40) ∷ (0x80 + c / 0x40 % 0x40) ∷ (0x80 + c % 0x40) ∷ bs)
-  four-on c bs l h a =
+  four-bytes : (c : ℕ) → 0x10000 ≤ c → c < 0x110000 → Spelled c
+  four-bytes c l h =
       ⊎-elim (λ m. ⊎-elim (λ n. high n) (λ n. middle m n) (le-or-lt 0x100000 c)) (λ m. low m) (le-or-lt 0x40000 c)
     where
-      low : c < 0x40000
-          → Inside ((0xF0 + c / 0x40000) ∷ (0x80 + c / 0x1000 % 0x40) ∷ (0x80 + c / 0x40 % 0x40) ∷ (0x80 + c % 0x40) ∷ bs)
+      low : c < 0x40000 → Spelled c
       low m =
-          leads
-          (0xF0 + c / 0x40000)
-          (at (char afterF0 r) ks)
-          ((0x80 + c / 0x1000 % 0x40) ∷ (0x80 + c / 0x40 % 0x40) ∷ (0x80 + c % 0x40) ∷ bs)
+          leads c (0xF0 + c / 0x40000) (char afterF0 r) ((0x80 + c / 0x1000 % 0x40) ∷ (0x80 + c / 0x40 % 0x40) ∷ (0x80 + c % 0x40) ∷ []) (λ rest. encode-4 c rest l)
           (omega arith) (inr (inr (inr (inr (inr (inr (inr (inr (inr (inr (inl (omega arith, omega arith, refl))))))))))))
-          (next afterF0 (0x80 + c / 0x1000 % 0x40) ((0x80 + c / 0x40 % 0x40) ∷ (0x80 + c % 0x40) ∷ bs) (omega arith) (omega arith) (next-2 c bs a))
+          (further (next afterF0 (0x80 + c / 0x1000 % 0x40) (omega arith) (omega arith)) (last-2 c))
 
-      middle : 0x40000 ≤ c → c < 0x100000
-          → Inside ((0xF0 + c / 0x40000) ∷ (0x80 + c / 0x1000 % 0x40) ∷ (0x80 + c / 0x40 % 0x40) ∷ (0x80 + c % 0x40) ∷ bs)
+      middle : 0x40000 ≤ c → c < 0x100000 → Spelled c
       middle m n =
-          leads
-          (0xF0 + c / 0x40000)
-          (at (char three r) ks)
-          ((0x80 + c / 0x1000 % 0x40) ∷ (0x80 + c / 0x40 % 0x40) ∷ (0x80 + c % 0x40) ∷ bs)
+          leads c (0xF0 + c / 0x40000) (char three r) ((0x80 + c / 0x1000 % 0x40) ∷ (0x80 + c / 0x40 % 0x40) ∷ (0x80 + c % 0x40) ∷ []) (λ rest. encode-4 c rest l)
           (omega arith) (inr (inr (inr (inr (inr (inr (inr (inr (inr (inr (inr (inl (omega arith, omega arith, refl)))))))))))))
-          (next three (0x80 + c / 0x1000 % 0x40) ((0x80 + c / 0x40 % 0x40) ∷ (0x80 + c % 0x40) ∷ bs) (omega arith) (omega arith) (next-2 c bs a))
+          (further (next three (0x80 + c / 0x1000 % 0x40) (omega arith) (omega arith)) (last-2 c))
 
-      high : 0x100000 ≤ c
-          → Inside ((0xF0 + c / 0x40000) ∷ (0x80 + c / 0x1000 % 0x40) ∷ (0x80 + c / 0x40 % 0x40) ∷ (0x80 + c % 0x40) ∷ bs)
+      high : 0x100000 ≤ c → Spelled c
       high m =
-          leads
-          (0xF0 + c / 0x40000)
-          (at (char afterF4 r) ks)
-          ((0x80 + c / 0x1000 % 0x40) ∷ (0x80 + c / 0x40 % 0x40) ∷ (0x80 + c % 0x40) ∷ bs)
+          leads c (0xF0 + c / 0x40000) (char afterF4 r) ((0x80 + c / 0x1000 % 0x40) ∷ (0x80 + c / 0x40 % 0x40) ∷ (0x80 + c % 0x40) ∷ []) (λ rest. encode-4 c rest l)
           (omega arith) (inr (inr (inr (inr (inr (inr (inr (inr (inr (inr (inr (inr (inl (omega arith, omega arith, refl))))))))))))))
-          (next afterF4 (0x80 + c / 0x1000 % 0x40) ((0x80 + c / 0x40 % 0x40) ∷ (0x80 + c % 0x40) ∷ bs) (omega arith) (omega arith) (next-2 c bs a))
+          (further (next afterF4 (0x80 + c / 0x1000 % 0x40) (omega arith) (omega arith)) (last-2 c))
 
   below : {c : ℕ} → Scalar c → c < 0x110000
   below (inl s) = omega arith
   below (inr s) = s .1
 
-  plain-on : (c : ℕ) (bs : List ℕ) → Plain c → Inside bs → Inside (encode c bs)
-  plain-on c bs p a =
+  pub spelled : (c : ℕ) → Plain c → Spelled c
+  spelled c p =
       ⊎-elim
       (λ l.
       ⊎-elim
-      (λ m.
-      ⊎-elim
-      (λ n. rw (encode-4 c bs n) (four-on c bs n (below (p .scalar)) a))
-      (λ n. rw (encode-3 c bs m n) (three-on c bs m n (p .scalar) a))
-      (le-or-lt 0x10000 c))
-      (λ m. rw (encode-2 c bs l m) (two-on c bs l m a))
+      (λ m. ⊎-elim (λ n. four-bytes c n (below (p .scalar))) (λ n. three-bytes c m n (p .scalar)) (le-or-lt 0x10000 c))
+      (λ m. two-bytes c l m)
       (le-or-lt 0x800 c))
-      (λ l. rw (encode-1 c bs l) (quietly L (text r) ks (at (text r) ks) c bs (rw (ne-eqb c 0x5C (p .no-backslash))) (ascii c p l) a))
+      (λ l.
+      record {
+        first = c;
+        others = [];
+        same = λ rest. encode-1 c rest l;
+        no-quote = p .no-quote;
+        no-backslash = p .no-backslash;
+        place = text r;
+        lead = ascii c p l;
+        tail = whole-char;
+      })
       (le-or-lt 0x80 c)
+
+  -- ---- the digits of an escape
+
+  hex-goes : (l : Left) (b : ℕ) (u : State) → Leads (unit l r) b u → step (at (unit l r) ks) b ≡ some u
+  unfolding step apart clear
+  hex-goes l b u f = picked (λ o. follow ks o ≡ some u) (moves (unit l r) (innermost ks)) b refl f
+
+  pub hex-step : (l : Left) (h : Hex) → step (at (unit l r) ks) (hex h) ≡ some (at (afterHex l r) ks)
+  hex-step l (decimal d) = let s : d .worth < 10 = d .small in hex-goes l (T.digit d) (at (afterHex l r) ks) (inl (omega arith, omega arith, refl))
+  hex-step l (T.letter capital k p) = hex-goes l (0x41 + k) (at (afterHex l r) ks) (inr (inl (omega arith, omega arith, refl)))
+  hex-step l (T.letter small k p) = hex-goes l (0x61 + k) (at (afterHex l r) ks) (inr (inr (inl (omega arith, omega arith, refl))))
+
+-- ---- strings
+
+module _ (L : List Sighting) (r : Role) (ks : List Bracket) where
+  abbrev Inside : List ℕ → Type 0
+  Inside bs = Reading L (at (text r) ks) bs
+
+  plain-on : (c : ℕ) (bs : List ℕ) → Plain c → Inside bs → Inside (encode c bs)
+  plain-on c bs p a =
+      let f = spelled r ks c p in
+      rw (f .same bs) (quietly L (text r) ks (at (f .place) ks) (f .first) (f .others ++ bs) (rw (ne-eqb (f .first) 0x5C (f .no-backslash))) (f .lead) (within (f .tail)))
+    where
+      within : {q : Place} {xs : List ℕ} → Within r ks q xs → Reading L (at q ks) (xs ++ bs)
+      within whole-char = a
+      within (further {q} {c = d} {b = x} {bs = xs} e w) = quietly L (char d r) ks (at q ks) x (xs ++ bs) refl e (within w)
 
   -- ---- escapes
 
@@ -186,18 +209,8 @@ module _ (L : List Sighting) (r : Role) (ks : List Bracket) where
   short-on carriageReturn bs a = a
   short-on tabulator bs a = a
 
-  hex-goes : (l : Left) (b : ℕ) (u : State) → Leads (unit l r) b u → step (at (unit l r) ks) b ≡ some u
-  unfolding step apart clear
-  hex-goes l b u f = picked (λ o. follow ks o ≡ some u) (moves (unit l r) (innermost ks)) b refl f
-
   hex-on : (l : Left) (h : Hex) (bs : List ℕ) → Reading L (at (afterHex l r) ks) bs → Reading L (at (unit l r) ks) (hex h ∷ bs)
-  hex-on l (decimal d) bs a =
-      let s : d .worth < 10 = d .small in
-      quietly L (unit l r) ks (at (afterHex l r) ks) (T.digit d) bs refl (hex-goes l (T.digit d) (at (afterHex l r) ks) (inl (omega arith, omega arith, refl))) a
-  hex-on l (T.letter capital k p) bs a =
-      quietly L (unit l r) ks (at (afterHex l r) ks) (0x41 + k) bs refl (hex-goes l (0x41 + k) (at (afterHex l r) ks) (inr (inl (omega arith, omega arith, refl)))) a
-  hex-on l (T.letter small k p) bs a =
-      quietly L (unit l r) ks (at (afterHex l r) ks) (0x61 + k) bs refl (hex-goes l (0x61 + k) (at (afterHex l r) ks) (inr (inr (inl (omega arith, omega arith, refl))))) a
+  hex-on l h bs a = quietly L (unit l r) ks (at (afterHex l r) ks) (hex h) bs refl (hex-step r ks l h) a
 
   escaped : (bs : List ℕ) → Reading L (at (escape r) ks) bs → Reading (sighting anEscape (suc (length ks)) (0x5C ∷ bs) ∷ L) (at (text r) ks) (0x5C ∷ bs)
   unfolding step pick

@@ -29,18 +29,18 @@ unfolding run step pick seen
 string-on L r ks s bs a = pieces-on L r ks s (0x22 ∷ bs) a
 
 -- with this byte starts a w at place p, which goes on in state t
-abbrev Begins : What → Place → List Bracket → ℕ → State → Type 0
+abbrev pub Begins : What → Place → List Bracket → ℕ → State → Type 0
 Begins w p ks b t = (sight p b ≡ some w) × (step (at p ks) b ≡ some t)
 
 -- every value may start at place p
-record Starter (p : Place) (ks : List Bracket) : Type 0 where
-  numbers : Starts [] ks p
-  quote : Begins aValue p ks 0x22 (at (text asValue) ks)
-  left-square : Begins aValue p ks 0x5B (at firstElement (square ∷ ks))
-  left-curly : Begins aValue p ks 0x7B (at firstName (curly ∷ ks))
-  n : Begins aValue p ks 0x6E (at (word n1) ks)
-  t : Begins aValue p ks 0x74 (at (word t1) ks)
-  f : Begins aValue p ks 0x66 (at (word f1) ks)
+pub record Starter (p : Place) (ks : List Bracket) : Type 0 where
+  pub numbers : Starts [] ks p
+  pub quote : Begins aValue p ks 0x22 (at (text asValue) ks)
+  pub left-square : Begins aValue p ks 0x5B (at firstElement (square ∷ ks))
+  pub left-curly : Begins aValue p ks 0x7B (at firstName (curly ∷ ks))
+  pub n : Begins aValue p ks 0x6E (at (word n1) ks)
+  pub t : Begins aValue p ks 0x74 (at (word t1) ks)
+  pub f : Begins aValue p ks 0x66 (at (word f1) ks)
 
 first-digit : (ks : List Bracket) (d : Digit) → 0 < d .worth → Begins aValue ahead ks (digit d) (at A.whole ks)
 unfolding step apart clear
@@ -54,25 +54,25 @@ first-element-digit ks d p =
     let l : d .worth < 10 = d .small in
     (rw (lt-ltb 0x20 (digit d) (omega arith), ne-eqb (digit d) 0x5D (λ e. omega arith)), picked (λ o. follow ks o ≡ some (at A.whole ks)) (moves firstElement (innermost ks)) (digit d) refl (inr (inr (inr (inr (inr (inr (inr (inr (inr (inr (inl (omega arith, omega arith, refl)))))))))))))
 
-at-ahead : (ks : List Bracket) → Starter ahead ks
+pub at-ahead : (ks : List Bracket) → Starter ahead ks
 unfolding step pick
 at-ahead ks =
     record { numbers = ((refl, refl), (refl, refl), first-digit ks); quote = (refl, refl); left-square = (refl, refl); left-curly = (refl, refl); n = (refl, refl); t = (refl, refl); f = (refl, refl) }
 
-at-first : (ks : List Bracket) → Starter firstElement ks
+pub at-first : (ks : List Bracket) → Starter firstElement ks
 unfolding step pick
 at-first ks =
     record { numbers = ((refl, refl), (refl, refl), first-element-digit ks); quote = (refl, refl); left-square = (refl, refl); left-curly = (refl, refl); n = (refl, refl); t = (refl, refl); f = (refl, refl) }
 
 -- a name may start at place p
-abbrev Namer : Place → List Bracket → Type 0
+abbrev pub Namer : Place → List Bracket → Type 0
 Namer p ks = Begins aName p ks 0x22 (at (text asName) ks)
 
-at-name : (ks : List Bracket) → Namer name ks
+pub at-name : (ks : List Bracket) → Namer name ks
 unfolding step pick
 at-name ks = (refl, refl)
 
-at-first-name : (ks : List Bracket) → Namer firstName ks
+pub at-first-name : (ks : List Bracket) → Namer firstName ks
 unfolding step pick
 at-first-name ks = (refl, refl)
 

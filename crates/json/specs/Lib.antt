@@ -8,3 +8,4 @@ pub mod Automaton
 pub mod Refusal
 pub mod Sightings
 pub mod Starts
+pub mod Along

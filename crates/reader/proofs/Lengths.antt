@@ -1,5 +1,6 @@
 -- The text that is made is shorter than the JSON text: every string is at least as long where it is written, and stands between quotes.
 --     made-short    the theorem
+--     value-short, elements-short, members-short    of each part
 -- Assumes nothing.
 use mathlib.Core.Bool.{Bool, true, false, cond, _&&_}
 use mathlib.Core.List.{List, [], _∷_}
@@ -59,7 +60,7 @@ short-ascii lineFeed = omega arith
 short-ascii carriageReturn = omega arith
 short-ascii tabulator = omega arith
 
-decoded-short : (w : ℕ) (s : Str) (rest : List ℕ) → length (decodedAfter w s) + length rest ≤ length (pieces s rest)
+pub decoded-short : (w : ℕ) (s : Str) (rest : List ℕ) → length (decodedAfter w s) + length rest ≤ length (pieces s rest)
 unfolding decodedAfter pieces
 decoded-short w [] rest = omega arith
 decoded-short w (plain c p ∷ ps) rest = encode-rise c (decodedAfter 0 ps) (pieces ps rest) (length rest) (decoded-short 0 ps rest)
@@ -79,7 +80,7 @@ decoded-short w (unit h i j k ∷ ps) rest =
 
 -- ---- white space and numbers take no less than nothing
 
-spaces-long : (w : Space) (bs : List ℕ) → length bs ≤ length (spaces w bs)
+pub spaces-long : (w : Space) (bs : List ℕ) → length bs ≤ length (spaces w bs)
 unfolding spaces
 spaces-long [] bs = omega arith
 spaces-long (c ∷ w) bs = omega (arith, spaces-long w bs)
@@ -126,7 +127,7 @@ makes v = length (stringBytes (headOf v)) + total size (children v)
 mutual
   unfolding value valueOf
 
-  value-short : (v : Value) (rest : List ℕ) → makes (valueOf number-max v) + length rest < length (value v rest)
+  pub value-short : (v : Value) (rest : List ℕ) → makes (valueOf number-max v) + length rest < length (value v rest)
   value-short null rest = omega arith
   value-short truth rest = omega arith
   value-short falsity rest = omega arith
@@ -137,13 +138,13 @@ mutual
   value-short (emptyObject w) rest = omega (arith, spaces-long w (0x7D ∷ rest))
   value-short (object w ms) rest = omega (arith, spaces-long w (members ms (0x7D ∷ rest)), members-short ms (0x7D ∷ rest))
 
-  elements-short : (vs : Elements) (rest : List ℕ) → total size (items (itemsOf number-max vs)) + length rest ≤ length (elements vs rest)
+  pub elements-short : (vs : Elements) (rest : List ℕ) → total size (items (itemsOf number-max vs)) + length rest ≤ length (elements vs rest)
   elements-short (last v w) rest = omega (arith, value-short v (spaces w rest), spaces-long w rest)
   elements-short (more v w w′ vs) rest =
       let others = elements vs rest in
       omega (arith, value-short v (spaces w (0x2C ∷ spaces w′ others)), spaces-long w (0x2C ∷ spaces w′ others), spaces-long w′ others, elements-short vs rest)
 
-  members-short : (ms : Members) (rest : List ℕ) → total size (fields (fieldsOf number-max ms)) + length rest ≤ length (members ms rest)
+  pub members-short : (ms : Members) (rest : List ℕ) → total size (fields (fieldsOf number-max ms)) + length rest ≤ length (members ms rest)
   members-short (lastM s w w′ v w″) rest =
       let end = spaces w″ rest in
       let val = value v end in

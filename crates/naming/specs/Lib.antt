@@ -1,0 +1,3 @@
+-- In reading order.
+pub mod Members
+pub mod Gathering

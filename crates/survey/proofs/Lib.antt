@@ -1,0 +1,5 @@
+pub mod Still
+pub mod Orders
+pub mod Strung
+pub mod Numbered
+pub mod Watched
