@@ -97,8 +97,13 @@ fn first_named<'a>(
     i
 }
 
-// The same of an object. The child at `hint` is tried first: members mostly stand in the order of the
-// rules.
+// The place as far from the last of `count` places as `hint` is from the first.
+fn mirrored(count: u32, hint: u32) -> u32 {
+    if hint < count { count - 1 - hint } else { 0 }
+}
+
+// The same of an object. The child at `hint` is tried first, then the one as far from the end: members
+// mostly stand in the order of the rules, or in the reverse one.
 pub fn child_named<'a>(
     record: &[u32],
     text: &'a [u8],
@@ -114,6 +119,10 @@ pub fn child_named<'a>(
 {
     if named_at(record, text, form, row, rule_text, name, hint) {
         return hint;
+    }
+    let other = mirrored(children_of(record, form, row).count, hint);
+    if named_at(record, text, form, row, rule_text, name, other) {
+        return other;
     }
     first_named(record, text, form, row, rule_text, name)
 }
@@ -134,6 +143,10 @@ fn has_member<'a>(
     ensures { λ r. ⌜ r ≡ not (eqb (childNamed (docOf (now («record» .entry)) (now (text .entry))) (row .0) (part (now («rule_text» .entry)) name)) members) ⌝ }
 {
     if named_at(record, text, form, row, rule_text, name, hint) {
+        return true;
+    }
+    let other = mirrored(members, hint);
+    if named_at(record, text, form, row, rule_text, name, other) {
         return true;
     }
     first_named(record, text, form, row, rule_text, name) != members

@@ -1,5 +1,5 @@
 -- `has_member` meets its contract. Assumes nothing.
-use mathlib.Core.Path.{sym, ap, _∙_}
+use mathlib.Core.Path.{sym, ap}
 use mathlib.Core.Bool.{not}
 use lib.Dec.{eqb}
 use borrow.Author.Tests.{ne-eqb}
@@ -9,18 +9,29 @@ use Rattle.clause.proofs.members.has_member.Statement.{statement}
 use Rattle.clause.proofs.members.has_member.Tie as tie
 
 named-at-requires : tie.Need-named-at-requires
-named-at-requires c κs = (c .before .before .before .pre .0, c .before .before .before .pre .1 .0)
+named-at-requires c κs = search needs
 
 returns : tie.Need-returns
 returns c =
     let found = c .before .named-at .ensures (c .if1 .taken) in
     sym (ap not (ne-eqb _ _ (not-end (found .0) (found .1) (c .before .before .before .before .before .pre .1 .1))))
 
-first-named-requires : tie.Need-first-named-requires
-first-named-requires c κs = ((c .before .before .before .before .before .pre .0 .0, c .before .before .before .before .before .pre .0 .1), c .before .before .before .before .before .pre .1 .0)
+mirrored-requires : tie.Need-mirrored-requires
+mirrored-requires c κs = search needs
+
+named-at-requires-2 : tie.Need-named-at-requires-2
+named-at-requires-2 c κs = search needs
 
 returns-2 : tie.Need-returns-2
-returns-2 c = ap (λ x. not (eqb x (c .before .before .before .before .before .before .args .members))) (c .first-named .ensures)
+returns-2 c =
+    let found = c .before .named-at2 .ensures (c .if2 .taken) in
+    sym (ap not (ne-eqb _ _ (not-end (found .0) (found .1) (c .before .before .before .before .before .before .before .before .pre .1 .1))))
+
+first-named-requires : tie.Need-first-named-requires
+first-named-requires c κs = search needs
+
+returns-3 : tie.Need-returns-3
+returns-3 c = ap (λ x. not (eqb x (c .before .before .before .before .before .before .before .before .before .args .members))) (c .first-named .ensures)
 
 pub has-member-spec : {M : Type 1} → statement M
 has-member-spec =
@@ -28,5 +39,8 @@ has-member-spec =
     (tie.spec
     named-at-requires
     returns
+    mirrored-requires
+    named-at-requires-2
+    returns-2
     first-named-requires
-    returns-2)
+    returns-3)
