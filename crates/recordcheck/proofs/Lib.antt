@@ -1,0 +1,4 @@
+pub mod Strangers
+pub mod Children
+pub mod Ordering
+pub mod Beginning
