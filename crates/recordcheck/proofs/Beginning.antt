@@ -17,7 +17,7 @@ use Rattle.sheet.specs.Accepted.{Formed, Laid}
 use Rattle.sheet.proofs.Trailers.{form-rows}
 use Rattle.sheet.proofs.Checks.{words-in-order, text-length, text-short, no-line}
 use Rattle.sheet.proofs.Readable.{all-fine}
-use Rattle.recordcheck.specs.Passes.{Begun}
+use Rattle.recordcheck.specs.Order.{Begun}
 
 module _ {ws ts : List ℕ} {form : RecordForm} (b : Begun ws ts form) where
   pub formed : Formed ws form

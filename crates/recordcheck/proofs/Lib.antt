@@ -1,4 +1,3 @@
-pub mod Strangers
 pub mod Children
 pub mod Ordering
 pub mod Beginning

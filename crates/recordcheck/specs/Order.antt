@@ -1,4 +1,4 @@
--- What the pass that only says yes keeps of the rows, and what its yes tells.
+-- What the pass that only says yes begins with and keeps of the rows, and what its yes tells.
 -- Assumes nothing.
 use mathlib.Core.Bool.{Bool, true, false, _&&_}
 use mathlib.Core.List.{List}
@@ -11,9 +11,14 @@ use Rattle.sheet.specs.declared.kind.RowKind.{RowKind}
 use Rattle.sheet.specs.declared.record.RecordForm.{RecordForm}
 use Rattle.sheet.specs.Kinds.{kindOf, holdsChildren, isObjectKind}
 use Rattle.sheet.specs.Doc.{level}
-use Rattle.sheet.specs.Record.{textWord, rowAt, ownerAt, docOf}
-use Rattle.sheet.specs.Faults.{labelOk, placeOk, rowOk, level-refused}
+use Rattle.sheet.specs.Record.{textWord, formOf, rowAt, ownerAt, docOf}
+use Rattle.sheet.specs.Faults.{wordsOk, textOk, labelOk, placeOk, rowOk, level-refused}
 use Rattle.sheet.specs.Accepted.{Formed}
+
+-- the trailer is in order, over a text of this length, and the form is that of these words
+pub record Begun (ws ts : List ℕ) (form : RecordForm) : Type 0 where
+  pub good : (wordsOk ws && textOk ws (length ts)) ≡ true
+  pub same-form : form ≡ formOf ws
 
 -- row k lies in the range of the owner it names, and l is its level
 pub record Placed (ws : List ℕ) (k l : ℕ) : Type 0 where

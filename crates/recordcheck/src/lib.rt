@@ -1,18 +1,17 @@
 // The check of a record sheet: refusals 1, 2, 3, 13 and 4. One pass tells of most sheets that they are
 // in order; only of one that is not are the lines of the table asked one by one.
 //
-// Contracts cite `sheet`'s specs/Faults.antt, and specs/: `Passes`, `Order`.
-pub mod layout;
+// Contracts cite `sheet`'s specs/Faults.antt, and specs/Order.antt.
 pub mod order;
-pub mod repeats;
-pub mod texts;
 
 ghost use mathlib.Core.Path.{_≡_};
 ghost use Prim.Native.Nat.{ℕ, _<_};
 ghost use Rattle.sheet.specs.Refusals.{outcomeOf};
 ghost use Rattle.sheet.specs.Faults.{recordOutcome};
-ghost use Rattle.recordcheck.specs.Passes.{Begun};
-ghost use Rattle.recordcheck.specs.Order.{Ordered};
+ghost use Rattle.recordcheck.specs.Order.{Begun, Ordered};
+use recordlayout::layout;
+use recordlayout::repeats;
+use recordlayout::texts;
 use sheet::record::RecordForm;
 use sheet::refusal::Checked;
 use sheet::refusal::Refusal;

@@ -5,7 +5,7 @@ use borrow.Author.Tests.{not-true, not-false}
 use borrow.Author.Needs.{needs}
 use Rattle.sheet.proofs.Checks.{words-in-order, at-trailer}
 use Rattle.recordcheck.proofs.Beginning.{formed, text-is}
-use Rattle.recordcheck.specs.Passes.{Begun}
+use Rattle.recordcheck.specs.Order.{Begun}
 use Rattle.recordcheck.proofs.check_record.Statement.{statement}
 use Rattle.recordcheck.proofs.check_record.Tie as tie
 
