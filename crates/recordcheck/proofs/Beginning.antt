@@ -1,6 +1,5 @@
 -- What a trailer in order gives to the passes after it, and what no line of the table gives in the end.
 -- Assumes nothing.
-use mathlib.Core.Bool.{true}
 use mathlib.Core.List.{List}
 use mathlib.Core.Path.{_≡_, refl, sym, ap, _∙_}
 use Prim.Native.Nat.{ℕ, _≤_, _<_}

@@ -8,10 +8,10 @@ use mathlib.Core.Bool.{true, false, not, _&&_}
 use mathlib.Core.List.{List}
 use mathlib.Core.Logic.{⊎-elim}
 use mathlib.Core.Path.{_≡_, sym, ap, _∙_}
-use Prim.Native.Nat.{ℕ, _+_, _-_, _≤_, _<_}
+use Prim.Native.Nat.{ℕ, _+_, _-_, _<_}
 use native.Mathlib.Omega.{arith}
 use lib.Dec.{eqb}
-use lib.ListN.{length, getD, set, length-set}
+use lib.ListN.{getD, set, length-set}
 use lib.Seq.{getD-set-same, getD-set-other}
 use borrow.Author.Tests.{eqb-true, eqb-false, eq-eqb, ne-eqb, le-leb, lt-ltb}
 use Rattle.laws.proofs.Tests.{decide, left, right}
@@ -21,13 +21,18 @@ use Rattle.sheet.specs.declared.kind.RowKind.{RowKind}
 use Rattle.sheet.specs.declared.kind.RowKind.the-variants.{Object}
 use Rattle.sheet.specs.declared.record.Row.{Row}
 use Rattle.sheet.specs.declared.record.RecordForm.{RecordForm}
-use Rattle.sheet.specs.Kinds.{kindOf, holdsChildren}
 use Rattle.sheet.specs.Doc.{level}
 use Rattle.sheet.specs.Record.{rowsWord, textWord, rowAt, ownerAt, docOf}
 use Rattle.sheet.specs.Faults.{labelOk, placeOk, stranger, ownsOk}
 use Rattle.sheet.proofs.Levels.{level-under}
 use Rattle.sheet.proofs.Trailers.{form-rows}
 use Rattle.recordcheck.specs.Order.{Placed, Levelled, childOk, Holding, Held}
+
+pub nothing : {A : Type 0} (k : ℕ) → k < 0 → A
+nothing k h = absurd (none h)
+  where
+    none : k < 0 → ⊥
+    none z = omega arith
 
 -- whether row c is a child of row j, as the row that was read tells it
 module _ (ws : List ℕ) (kind : RowKind) (j c : ℕ) (row : Row) (read : row ≡ rowAt ws c) where

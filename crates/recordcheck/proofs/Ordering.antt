@@ -4,7 +4,7 @@
 --     root-told                        the table at the start
 --     no-fault, no-name, no-level      where every row is in order, no line of the table but 13 applies
 -- Assumes nothing.
-use mathlib.Core.Bool.{true, false, not, _&&_, _||_, or-true}
+use mathlib.Core.Bool.{true, false, not, _&&_, or-true}
 use mathlib.Core.List.{List}
 use mathlib.Core.Logic.{⊎-elim}
 use mathlib.Core.Path.{_≡_, refl, sym, ap, _∙_}
@@ -18,6 +18,7 @@ use borrow.Author.Tests.{eqb-true, eqb-false, eq-eqb, ne-eqb}
 use Rattle.laws.specs.Lowest.{lowest, lowestFrom}
 use Rattle.laws.proofs.Tests.{decide, both}
 use Rattle.laws.proofs.Searches.{none-found}
+use Rattle.utf8.proofs.Tests.{clash}
 use Rattle.sheet.specs.declared.kind.RowKind.{RowKind}
 use Rattle.sheet.specs.declared.kind.RowKind.the-variants.{Null, False, True, Number, String, Array, Object}
 use Rattle.sheet.specs.declared.record.Row.{Row}
@@ -33,19 +34,7 @@ use Rattle.sheet.proofs.Levels.{level-root}
 use Rattle.sheet.proofs.Owners.{under}
 use Rattle.sheet.proofs.Siblings.{Least, object-holds, repeated-at, lowered-none, least-none, least-more, least-end}
 use Rattle.recordcheck.specs.Order.{Placed, Levelled, Holding, Held, Apart, Ordered}
-use Rattle.recordcheck.proofs.Children.{owns}
-
-pub nothing : {A : Type 0} (k : ℕ) → k < 0 → A
-nothing k h = absurd (none h)
-  where
-    none : k < 0 → ⊥
-    none z = omega arith
-
-pub never : {A : Type 0} {b : _} → b ≡ true → b ≡ false → A
-never {A} {b} t f = absurd (apart t f)
-  where
-    apart : b ≡ true → b ≡ false → ⊥
-    apart x y = let z : _≡_ {A = ℕ} 0 1 = cc in omega arith
+use Rattle.recordcheck.proofs.Children.{nothing, owns}
 
 pub object-is : (kind : RowKind) → isObjectKind kind ≡ true → kind ≡ Object
 object-is Null t = cc
@@ -99,7 +88,7 @@ module _ (ws ts : List ℕ) (form : RecordForm) (formed : Formed ws form) (j : �
         record {
           row-good = good (childless ws j here);
           above = above;
-          apart = λ t. never (object-holds (kindOf (rowAt ws j .kind)) t) here;
+          apart = λ t. absurd (clash (object-holds (kindOf (rowAt ws j .kind)) t) here);
         }
 
     pub empty : row .count ≡ 0 → Ordered ws ts j

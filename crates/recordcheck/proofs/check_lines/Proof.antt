@@ -1,5 +1,5 @@
 -- `check_lines` meets its contract: each answer is the line of the table that it names, since those before it do not apply. Assumes nothing.
-use mathlib.Core.Path.{sym, _∙_}
+use mathlib.Core.Path.{sym}
 use native.Mathlib.Omega.{arith}
 use Rattle.sheet.proofs.Checks.{laid-out, at-row, at-name, at-text, at-level}
 use Rattle.recordcheck.proofs.Beginning.{formed, rows-are, text-is, text-fits, all-passed}

@@ -1,5 +1,5 @@
 -- `check_texts` meets its contract: where all rows are in order, no line of the table but 13 can apply. Assumes nothing.
-use mathlib.Core.Path.{sym, _∙_}
+use mathlib.Core.Path.{sym}
 use native.Mathlib.Omega.{arith}
 use Rattle.sheet.proofs.Checks.{at-text}
 use Rattle.recordcheck.proofs.Beginning.{formed, rows-are, text-is, text-fits, ascii-fine, all-passed}

@@ -1,15 +1,15 @@
 -- `children_ok` meets its contract. The loop's invariant: the children passed are row j's, and the table has their level. Assumes nothing.
-use mathlib.Core.Bool.{true, false}
+use mathlib.Core.Bool.{true}
 use mathlib.Core.Path.{_≡_, refl, sym, _∙_}
 use Prim.Native.Nat.{ℕ, _+_, _-_, _≤_, _<_}
 use native.Mathlib.Omega.{arith}
 use lib.ListN.{length, length-set}
 use borrow.Author.Count.{below-more}
 use borrow.Author.Tests.{not-false}
-use borrow.Author.Needs.{needs}
+use Rattle.utf8.proofs.Tests.{clash}
 use Rattle.sheet.proofs.Trailers.{form-few}
 use Rattle.recordcheck.specs.Order.{Levelled, childOk}
-use Rattle.recordcheck.proofs.Children.{told}
+use Rattle.recordcheck.proofs.Children.{nothing, told}
 use Rattle.recordcheck.proofs.order.children_ok.Statement.{statement}
 use Rattle.recordcheck.proofs.order.children_ok.Tie as tie
 
@@ -22,12 +22,6 @@ Inv-loop words form size levels₀ kind j level first count i₀ levels i =
 
 abbrev μ-loop : tie.MeasureT-loop
 μ-loop words form size levels₀ kind j level first count i₀ levels i = count - i
-
-nothing : {A : Type 0} (k : ℕ) → k < 0 → A
-nothing k h = absurd (none h)
-  where
-    none : k < 0 → ⊥
-    none z = omega arith
 
 loop-holds : tie.Need-loop-holds Inv-loop μ-loop
 loop-holds c = (omega arith, λ k h. nothing k h, c .before .before .pre .2, refl)
@@ -44,10 +38,7 @@ same-length : tie.Need-same-length Inv-loop μ-loop
 same-length c = c .before .before .before .loop .inv .3
 
 returns : tie.Need-returns Inv-loop μ-loop
-returns c t = absurd (never t)
-  where
-    never : false ≡ true → ⊥
-    never e = let z : _≡_ {A = ℕ} 0 1 = cc in omega arith
+returns c t = absurd (clash t refl)
 
 wide-requires : tie.Need-wide-requires Inv-loop μ-loop
 wide-requires c κs = tt

@@ -1,23 +1,22 @@
 -- `few_ok` meets its contract. The loop's invariant: the children passed are row j's, the table has their level, their signs are marked, and no
 -- two of their names are the same. Assumes nothing.
 use mathlib.Core.Bool.{true, false}
-use mathlib.Core.Path.{_≡_, refl, sym, ap, _∙_}
+use mathlib.Core.Path.{_≡_, refl, sym, _∙_}
 use Prim.Native.Nat.{ℕ, _+_, _-_, _≤_, _<_}
 use native.Mathlib.Omega.{arith}
 use lib.ListN.{length, length-set}
 use borrow.Author.Count.{below-more}
 use borrow.Author.Tests.{not-false}
 use borrow.Author.Needs.{needs}
-use Rattle.text.specs.Part.{part}
 use Rattle.names.specs.Names.{repeatsBy}
 use Rattle.names.proofs.Repeats.{repeats-not}
 use Rattle.names.proofs.Signs.{Marked, marked-none, marked-more, unseen}
-use Rattle.sheet.specs.declared.record.Row.{Row}
+use Rattle.utf8.proofs.Tests.{clash}
 use Rattle.sheet.specs.declared.kind.RowKind.the-variants.{Object}
 use Rattle.sheet.specs.Record.{docOf}
 use Rattle.sheet.proofs.Trailers.{form-few}
 use Rattle.recordcheck.specs.Order.{Levelled, childOk}
-use Rattle.recordcheck.proofs.Children.{told, named, label-fits}
+use Rattle.recordcheck.proofs.Children.{nothing, told, named, label-fits}
 use Rattle.recordcheck.proofs.order.few_ok.Statement.{statement}
 use Rattle.recordcheck.proofs.order.few_ok.Tie as tie
 
@@ -32,12 +31,6 @@ Inv-loop words text form levels₀ j level first count size seen₀ i₀ levels 
 
 abbrev μ-loop : tie.MeasureT-loop
 μ-loop words text form levels₀ j level first count size seen₀ i₀ levels seen i = count - i
-
-nothing : {A : Type 0} (k : ℕ) → k < 0 → A
-nothing k h = absurd (none h)
-  where
-    none : k < 0 → ⊥
-    none z = omega arith
 
 loop-holds : tie.Need-loop-holds Inv-loop μ-loop
 loop-holds c = (omega arith, λ k h. nothing k h, c .before .before .before .pre .2, refl, marked-none _ _ refl, λ k h. nothing k h)
@@ -54,10 +47,7 @@ same-length : tie.Need-same-length Inv-loop μ-loop
 same-length c = c .before .before .before .loop .inv .3
 
 returns : tie.Need-returns Inv-loop μ-loop
-returns c t = absurd (never t)
-  where
-    never : false ≡ true → ⊥
-    never e = let z : _≡_ {A = ℕ} 0 1 = cc in omega arith
+returns c t = absurd (clash t refl)
 
 row-at-requires : tie.Need-row-at-requires Inv-loop μ-loop
 row-at-requires c κs = let s = c .before .before .before .before .before .before .before in (s .pre .0 .formed, omega (arith, s .pre .0 .within))

@@ -1,10 +1,8 @@
 -- `members_ok` meets its contract, by those of its two calls. Assumes nothing.
-use mathlib.Core.Bool.{true, false}
-use mathlib.Core.Path.{_≡_}
-use Prim.Native.Nat.{ℕ}
-use native.Mathlib.Omega.{arith}
+use mathlib.Core.Path.{refl}
 use borrow.Author.Tests.{not-false}
 use borrow.Author.Needs.{needs}
+use Rattle.utf8.proofs.Tests.{clash}
 use Rattle.recordcheck.proofs.Children.{labels-fit}
 use Rattle.recordcheck.proofs.order.members_ok.Statement.{statement}
 use Rattle.recordcheck.proofs.order.members_ok.Tie as tie
@@ -16,10 +14,7 @@ same-length : tie.Need-same-length
 same-length c = search needs
 
 returns : tie.Need-returns
-returns c t = absurd (never t)
-  where
-    never : false ≡ true → ⊥
-    never e = let z : _≡_ {A = ℕ} 0 1 = cc in omega arith
+returns c t = absurd (clash t refl)
 
 apart-requires : tie.Need-apart-requires
 apart-requires c κs =

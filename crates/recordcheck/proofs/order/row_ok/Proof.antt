@@ -1,14 +1,11 @@
 -- `row_ok` meets its contract: of a row without children at once, of the others by what their children tell. Assumes nothing.
-use mathlib.Core.Bool.{true, false}
-use mathlib.Core.Path.{_≡_, refl, sym, ap, _∙_}
-use Prim.Native.Nat.{ℕ, _+_, _<_}
+use mathlib.Core.Path.{refl, sym, _∙_}
 use native.Mathlib.Omega.{arith}
 use borrow.Author.Tests.{not-true, not-false}
 use borrow.Author.Needs.{needs}
+use Rattle.utf8.proofs.Tests.{clash}
 use Rattle.sheet.specs.declared.kind.RowKind.the-variants.{Object}
-use Rattle.sheet.specs.Kinds.{holdsChildren, isObjectKind}
-use Rattle.recordcheck.specs.Order.{Placed}
-use Rattle.recordcheck.proofs.Ordering.{never, object-is, met-at, leaf, empty, holding, full}
+use Rattle.recordcheck.proofs.Ordering.{object-is, met-at, leaf, empty, holding, full}
 use Rattle.recordcheck.proofs.order.row_ok.Statement.{statement}
 use Rattle.recordcheck.proofs.order.row_ok.Tie as tie
 
@@ -19,7 +16,7 @@ slice-read-level : tie.Need-slice-read-level
 slice-read-level c = omega (arith, c .before .wide .ensures, c .before .before .before .before .before .pre .2, c .before .before .before .before .before .pre .3 .room)
 
 returns : tie.Need-returns
-returns c t = never t refl
+returns c t = absurd (clash t refl)
 
 row-at-requires : tie.Need-row-at-requires
 row-at-requires c κs = search needs
@@ -28,7 +25,7 @@ fields-ok-requires : tie.Need-fields-ok-requires
 fields-ok-requires c κs = search needs
 
 returns-2 : tie.Need-returns-2
-returns-2 c t = never t refl
+returns-2 c t = absurd (clash t refl)
 
 of-requires : tie.Need-of-requires
 of-requires c κs = search needs
@@ -51,7 +48,7 @@ returns-4 c t =
     (empty (s .args .words .now) (s .args .text .now) (s .args .form) (s .pre .0) (s .args .j) (s .pre .2) (c .before .before .before .before .before .before .row-at .result) (c .before .before .before .before .before .before .row-at .ensures) _ (s .pre .1) fields _ met (c .if4 .taken), s .pre .3)
 
 returns-5 : tie.Need-returns-5
-returns-5 c t = never t refl
+returns-5 c t = absurd (clash t refl)
 
 is-object-requires : tie.Need-is-object-requires
 is-object-requires c κs = search needs
@@ -78,7 +75,7 @@ returns-6 c t =
     let kind-holds = sym (c .before .before .before .before .before .before .before .before .before .holds-children .ensures) ∙ not-false _ (c .before .before .before .before .before .before .before .before .if3 .left) in
     let held = holding (s .args .words .now) (s .args .text .now) (s .args .form) (s .pre .0) (s .args .j) (s .pre .2) (c .before .before .before .before .before .before .before .before .before .before .before .before .before .row-at .result) (c .before .before .before .before .before .before .before .before .before .before .before .before .before .row-at .ensures) _ (s .pre .1) fields _ met (c .before .before .before .before .before .before .before .before .before .before .of .result) (sym (c .before .before .before .before .before .before .before .before .before .before .of .ensures)) kind-holds (c .before .before .before .before .before .before .before .if4 .left) (omega (arith, c .before .before .before .before .before .before .if5 .left)) in
     let done = c .before .before .children-ok .ensures t in
-    (full (s .args .words .now) (s .args .text .now) (s .args .form) (s .pre .0) (s .args .j) (s .pre .2) (c .before .before .before .before .before .before .before .before .before .before .before .before .before .row-at .result) (c .before .before .before .before .before .before .before .before .before .before .before .before .before .row-at .ensures) _ (s .pre .1) fields _ met (c .before .before .before .before .before .before .before .before .before .before .of .result) held (done .0) (λ o. never o (sym (c .before .before .before .before .before .is-object .ensures) ∙ not-true _ (c .before .before .before .before .if6 .taken))), done .1)
+    (full (s .args .words .now) (s .args .text .now) (s .args .form) (s .pre .0) (s .args .j) (s .pre .2) (c .before .before .before .before .before .before .before .before .before .before .before .before .before .row-at .result) (c .before .before .before .before .before .before .before .before .before .before .before .before .before .row-at .ensures) _ (s .pre .1) fields _ met (c .before .before .before .before .before .before .before .before .before .before .of .result) held (done .0) (λ o. absurd (clash o (sym (c .before .before .before .before .before .is-object .ensures) ∙ not-true _ (c .before .before .before .before .if6 .taken)))), done .1)
 
 add-few-ok : tie.Need-add-few-ok
 add-few-ok c = search needs

@@ -1,18 +1,17 @@
 -- `rows_ok` meets its contract. The loop's invariant: the rows passed are in order, and the table has the levels of those that were met.
 -- Assumes nothing.
-use mathlib.Core.Bool.{true, false}
 use mathlib.Core.Path.{_≡_, refl, sym, ap, _∙_}
-use Prim.Native.Nat.{ℕ, _+_, _-_, _≤_, _<_}
+use Prim.Native.Nat.{ℕ, _-_, _≤_, _<_}
 use native.Mathlib.Omega.{arith}
 use lib.ListN.{length, length-set}
 use borrow.Author.Count.{below-more}
 use borrow.Author.Tests.{not-false}
-use borrow.Author.Needs.{needs}
-use Rattle.sheet.specs.declared.record.Row.{Row}
+use Rattle.utf8.proofs.Tests.{clash}
 use Rattle.sheet.specs.Faults.{rootOk}
-use Rattle.sheet.proofs.Trailers.{trailer-facts, form-rows, form-few}
+use Rattle.sheet.proofs.Trailers.{trailer-facts, form-rows}
 use Rattle.recordcheck.specs.Order.{Levelled, Ordered}
-use Rattle.recordcheck.proofs.Ordering.{nothing, never, root-told}
+use Rattle.recordcheck.proofs.Children.{nothing}
+use Rattle.recordcheck.proofs.Ordering.{root-told}
 use Rattle.recordcheck.proofs.order.rows_ok.Statement.{statement}
 use Rattle.recordcheck.proofs.order.rows_ok.Tie as tie
 
@@ -33,7 +32,7 @@ root-ok-requires : tie.Need-root-ok-requires Inv-loop μ-loop
 root-ok-requires c κs = tt
 
 returns : tie.Need-returns Inv-loop μ-loop
-returns c t = never t refl
+returns c t = absurd (clash t refl)
 
 slice-write-levels : tie.Need-slice-write-levels Inv-loop μ-loop
 slice-write-levels c =
@@ -61,7 +60,7 @@ same-length : tie.Need-same-length Inv-loop μ-loop
 same-length c = c .before .before .levels .given ∙ c .before .before .before .before .before .before .loop .inv .3 ∙ length-set (c .before .before .before .before .before .before .before .before .before .before .before .before .before .args .levels .now) 0 1
 
 returns-2 : tie.Need-returns-2 Inv-loop μ-loop
-returns-2 c t = never t refl
+returns-2 c t = absurd (clash t refl)
 
 add-j : tie.Need-add-j Inv-loop μ-loop
 add-j c = omega arith
