@@ -85,7 +85,7 @@ fn reply_to_sheets<'a>(
     requires { ⌜ Roomy (now cells) (now list) ⌝ }
     ensures { λ r. ⌜ Replies (toldSheets (now («record» .entry)) (now (text .entry)) (now (rules .entry)) (now («rule_text» .entry)) (now (cells .entry)) (now (list .entry))) r (now (cells .exit)) (now (list .exit)) ⌝ }
 {
-    match sheet::check_record(record, text) {
+    match recordcheck::check_record(record, text) {
         Checked::Refused(refusal, place) => Reply::Refused(refusal, place),
         Checked::Accepted(n) => match rules::check_rules(rules, rule_text) {
             Checked::Refused(refusal, place) => Reply::Refused(refusal, place),

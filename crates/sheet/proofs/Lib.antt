@@ -1,10 +1,10 @@
 pub mod Levels
 pub mod Trailers
-pub mod Strangers
 pub mod Rows
 pub mod Values
 pub mod Readable
 pub mod Owners
+pub mod Labels
 pub mod Siblings
 pub mod Tables
 pub mod Checks

@@ -1,5 +1,5 @@
 -- The names of an object's children, as names that lie among the words, and the lowest of all that is repeated.
---     names-lie, range-is        they lie as the search for a repeated name asks
+--     names-lie                  they lie as the search for a repeated name asks
 --     repeated-at                a child's name is repeated if it is among those of its siblings
 --     root-not, other-not        the root's is not, nor that of a child of anything but an object
 --     lowered-none, lowered-object      the lower of a row and the lowest such child
@@ -17,19 +17,19 @@ use borrow.Author.Tests.{le-ltb}
 use Rattle.laws.specs.Lowest.{lowest}
 use Rattle.laws.proofs.Tests.{le-or-lt}
 use Rattle.laws.proofs.Searches.{clear-below, holds-at, lowest-is}
-use Rattle.text.specs.Part.{part}
 use Rattle.names.specs.declared.Names.{Names}
-use Rattle.names.specs.Names.{rangeAt, nameAt, firstSame, repeatsBy, repeatsAt, Lying}
+use Rattle.names.specs.Names.{nameAt, firstSame, repeatsBy, repeatsAt, Lying}
 use Rattle.names.proofs.Repeats.{repeats-is, repeats-agree}
 use Rattle.sheet.specs.declared.kind.RowKind.{RowKind}
 use Rattle.sheet.specs.declared.kind.RowKind.the-variants.{Null, False, True, Number, String, Array, Object}
 use Rattle.sheet.specs.declared.record.RecordForm.{RecordForm}
 use Rattle.sheet.specs.Kinds.{kindOf, holdsChildren, isObjectKind}
 use Rattle.sheet.specs.Doc.{Child, isObject, firstChild, valueKind}
-use Rattle.sheet.specs.Record.{row-words, rowsWord, textWord, formOf, rowAt, ownerAt, docOf}
+use Rattle.sheet.specs.Record.{row-words, rowsWord, textWord, rowAt, ownerAt, docOf}
 use Rattle.sheet.specs.Faults.{rowOk, repeated}
 use Rattle.sheet.specs.Accepted.{Laid, Lowered}
-use Rattle.sheet.proofs.Trailers.{form-rows, form-few, row-inside}
+use Rattle.sheet.proofs.Trailers.{form-rows}
+use Rattle.sheet.proofs.Labels.{labels-lie, label-name}
 use Rattle.sheet.proofs.Rows.{row-facts, children-facts, label-fits, owner-inside}
 use Rattle.sheet.proofs.Values.{kind-by}
 use Rattle.sheet.proofs.Owners.{Under, value-here, first-here, under, child, children-of, owner-is, placed-at}
@@ -38,7 +38,7 @@ use Rattle.sheet.proofs.Owners.{Under, value-here, first-here, under, c
 first-not : (name : ℕ → List ℕ) → repeatsBy name 0 ≡ false
 first-not name = repeats-is name 0 ∙ le-ltb (firstSame name 0) 0 (omega arith)
 
-object-holds : (kind : RowKind) → isObjectKind kind ≡ true → holdsChildren kind ≡ true
+pub object-holds : (kind : RowKind) → isObjectKind kind ≡ true → holdsChildren kind ≡ true
 object-holds Null h = h
 object-holds False h = h
 object-holds True h = h
@@ -100,34 +100,14 @@ module _ (ws ts : List ℕ) (form : RecordForm) (laid : Laid ws form) where
       child-below : (i : ℕ) → i < names .count → rowAt ws o .first + i < rowsWord ws
       child-below i l = children-of ws ts (rowsWord ws) refl passes o (rowAt ws o .first + i) h (in-range i (omega arith)) .1
 
-      range-is : (i : ℕ) → rangeAt ws names i ≡ rowAt ws (rowAt ws o .first + i) .label
-      unfolding rowAt
-      range-is i =
-          let s = ap (λ (f : RecordForm). f .start) (laid .formed .same-form) in
-          let first = rowAt ws o .first in
-          let e : form .start + row-words * first + 4 + row-words * i ≡ formOf ws .start + row-words * (first + i) + 4 = omega arith in
-          let g : form .start + row-words * first + 4 + row-words * i + 1 ≡ formOf ws .start + row-words * (first + i) + 5 = omega arith in
-          rw (at-base, by, g, e)
-
-      name-is : (i : ℕ) → nameAt ws ts names i ≡ docOf ws ts .name (rowAt ws o .first + i)
-      unfolding docOf
-      name-is i = ap (part ts) (range-is i)
-
       pub names-lie : length ts ≡ textWord ws → Lying ws ts names
       names-lie text =
-          record {
-            inside =
-                λ (i : ℕ) (l : i < names .count).
-                rw (at-base, by)
-                (omega (arith, row-inside ws form (laid .formed) (rowAt ws o .first + i) (omega (arith, child-below i l, form-rows ws form (laid .formed)))));
-            fitting =
-                λ (i : ℕ) (l : i < names .count).
-                rw (text, range-is i) (label-fits ws (rowAt ws o .first + i) (passes (rowAt ws o .first + i) (child-below i l)));
-            few = omega (arith, all, form-few ws form (laid .formed), form-rows ws form (laid .formed), children-end);
-          }
+          labels-lie ws ts form (laid .formed) (rowAt ws o .first) names at-base by text
+          (omega (arith, form-rows ws form (laid .formed), children-end, all))
+          (λ i l. label-fits ws (rowAt ws o .first + i) (passes (rowAt ws o .first + i) (child-below i l)))
 
       agree : (i : ℕ) → i < rowAt ws o .count → repeatsAt ws ts names i ≡ repeated (docOf ws ts) (rowAt ws o .first + i)
-      agree i l = repeats-agree (nameAt ws ts names) (λ k. docOf ws ts .name (rowAt ws o .first + k)) i (λ k g. name-is k) ∙ sym (repeated-at i l)
+      agree i l = repeats-agree (nameAt ws ts names) (λ k. docOf ws ts .name (rowAt ws o .first + k)) i (λ k g. label-name ws ts form (laid .formed) (rowAt ws o .first) names at-base by k) ∙ sym (repeated-at i l)
 
       module _ (at : ℕ) (e : at ≡ lowest (repeatsAt ws ts names) (names .count)) where
         -- a child before the one that was found

@@ -12,7 +12,6 @@ use Rattle.text.specs.Part.{fits, part}
 use Rattle.utf8.specs.Encoding.{Utf8}
 use Rattle.sheet.specs.declared.record.RecordForm.{RecordForm}
 use Rattle.sheet.specs.declared.record.Children.{Children}
-use Rattle.sheet.specs.declared.layout.Pass.{Pass}
 use Rattle.laws.specs.Lowest.{lowest}
 use Rattle.sheet.specs.Refusals.{accepted}
 use Rattle.sheet.specs.Doc.{Doc, number, string, firstChild, childCount, Child, isObject, level}
@@ -33,11 +32,6 @@ pub record Laid (ws : List ℕ) (form : RecordForm) : Type 0 where
 pub record AcceptedRecord (ws ts : List ℕ) (form : RecordForm) : Type 0 where
   pub same-form : form ≡ formOf ws
   pub accepts : recordOutcome ws ts ≡ accepted (form .rows)
-
--- what one pass over the rows finds: the lowest row at fault and, where none is, the lowest row too deep
-pub record Passed (ws : List ℕ) (pass : Pass) : Type 0 where
-  pub fault-is : pass .fault ≡ lowest (atFault ws) (rowsWord ws)
-  pub deep-is : rowsWord ws ≤ pass .fault → pass .deep ≡ lowest (tooDeep ws) (rowsWord ws)
 
 -- r is the lower of `least` and the lowest child of row o whose name an earlier one has
 pub record Lowered (d : Doc) (o least r : ℕ) : Type 0 where

@@ -32,6 +32,9 @@ impl RowKind {
     // The most digits of a number, on either side of zero.
     pub const NUMBER_MAX: u64 = 999_999_999;
 
+    // The least number in two's complement.
+    const NUMBER_MIN: u64 = 4_294_967_296 - RowKind::NUMBER_MAX;
+
     // Whether the number is a kind's.
     pub fn known(code: u32) -> bool
         ensures { λ r. ⌜ r ≡ isKind code ⌝ }
@@ -70,7 +73,7 @@ impl RowKind {
     }
 
     // Whether a row of this kind can have children.
-    pub(crate) fn holds_children(self) -> bool
+    pub fn holds_children(self) -> bool
         ensures { λ r. ⌜ r ≡ holdsChildren self ⌝ }
     {
         match self {
@@ -85,7 +88,7 @@ impl RowKind {
     }
 
     // Whether a row of this kind is an object, whose children have names.
-    pub(crate) fn is_object(self) -> bool
+    pub fn is_object(self) -> bool
         ensures { λ r. ⌜ r ≡ isObjectKind self ⌝ }
     {
         match self {
@@ -103,7 +106,8 @@ impl RowKind {
     pub fn number_ok(first: u32, count: u32) -> bool
         ensures { λ r. ⌜ r ≡ numberOk first count ⌝ }
     {
-        let number = Decimal::of_word(first, count);
-        (number.digits <= RowKind::NUMBER_MAX) & (count <= Decimal::SCALE_MAX)
+        let digits = first as u64;
+        let near = (digits <= RowKind::NUMBER_MAX) | (RowKind::NUMBER_MIN <= digits);
+        near & (count <= Decimal::SCALE_MAX)
     }
 }

@@ -76,7 +76,7 @@ impl RecordForm {
 }
 
 // The row's words.
-pub(crate) fn row_at(words: &[u32], form: RecordForm, row: RecordRow) -> Row
+pub fn row_at(words: &[u32], form: RecordForm, row: RecordRow) -> Row
     requires { ⌜ Formed (now words) form × (row .0 < form .rows) ⌝ }
     ensures { λ r. ⌜ r ≡ rowAt (now (words .entry)) (row .0) ⌝ }
 {

@@ -3,9 +3,9 @@
 // Its contract cites `specs/LastWord.antt`.
 ghost use mathlib.Core.Path.{_≡_};
 ghost use Rattle.sheetcheck.specs.LastWord.{outcomeByKind, checkOutcome};
+use recordcheck::check_record;
 use rules::check_rules;
 use rulesheet::form::RuleForm;
-use sheet::check_record;
 use sheet::record::RecordForm;
 use sheet::refusal::Checked;
 

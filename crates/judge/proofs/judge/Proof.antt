@@ -8,7 +8,7 @@ use Rattle.judge.proofs.judge.Tie as tie
 use Rattle.judge.proofs.judge.Reads as reads
 use Rattle.judge.proofs.judge.Lts as lts
 use Rattle.judge.proofs.judge_by_rules.Reads as judge-by-rules-reads
-use Rattle.sheet.proofs.check_record.Reads as check-record-reads
+use Rattle.recordcheck.proofs.check_record.Reads as check-record-reads
 
 check-record-requires : tie.Need-check-record-requires
 check-record-requires c κs = search needs
