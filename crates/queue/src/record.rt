@@ -15,7 +15,7 @@ use crate::listing::words_at;
 use judge::answer::Answer;
 use judge::judge_in_areas;
 use number::number_of;
-use sheet::check_record;
+use recordcheck::check_record;
 use sheet::refusal::Checked;
 use text::Range;
 use text::bytes_of;

@@ -7,7 +7,7 @@ use Rattle.queue.proofs.record.judge_record.Tie as tie
 use Rattle.queue.proofs.record.judge_record.Reads as reads
 use Rattle.queue.proofs.record.judge_record.Lts as lts
 use Rattle.queue.proofs.record.judge_checked.Reads as judge-checked-reads
-use Rattle.sheet.proofs.check_record.Reads as check-record-reads
+use Rattle.recordcheck.proofs.check_record.Reads as check-record-reads
 
 check-record-requires : tie.Need-check-record-requires
 check-record-requires c κs = search needs
