@@ -17,6 +17,7 @@ use lib.ListN.{length, getD, set, length-set, length-append}
 use lib.Seq.{sets}
 use Rattle.text.specs.declared.Range.{Range}
 use Rattle.sheet.specs.declared.kind.RowKind.{RowKind}
+use Rattle.strings.proofs.Steps.{sets-append}
 use Rattle.breadth.specs.Forest.{Label, bare, named, Head, a-string}
 use Rattle.breadth.specs.Breadth.{event}
 use Rattle.breadth.specs.Sheet.{KindRow, no-entry, labelBytes, stringBytes, headKind, countWord, labelRange}
@@ -28,11 +29,6 @@ use Rattle.breadth.proofs.Tables.{Holds, table-bump}
 use Rattle.placing.specs.Desk as D
 use Rattle.placing.specs.Desk.{Desk, levels, no-label, rowPut, rowShut, ownerAt, rowed, written, opened, shut}
 use Rattle.placing.proofs.Words.{put-row, shut-row}
-
--- a list in two parts
-pub sets-append : (l a b : List ℕ) (i : ℕ) → sets l i (a ++ b) ≡ sets (sets l i a) (i + length a) b
-sets-append l [] b i = ap (λ (j : ℕ). sets l j b) (omega arith)
-sets-append l (x ∷ a) b i = sets-append (set l i x) a b (suc i) ∙ ap (λ (j : ℕ). sets (sets (set l i x) (suc i) a) j b) (omega arith)
 
 -- the counter of level k raised by m
 abbrev raised : ℕ → ℕ → (ℕ → ℕ) → ℕ → ℕ
