@@ -1,0 +1,6 @@
+pub mod Cells
+pub mod Words
+pub mod Steps
+pub mod Passing
+pub mod Spelled
+pub mod Theorem

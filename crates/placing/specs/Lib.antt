@@ -1,0 +1,3 @@
+pub mod Lexemes
+pub mod Desk
+pub mod Fair
