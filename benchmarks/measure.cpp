@@ -2,11 +2,16 @@
  * validator:
  *
  *     measure CASE...
+ *     measure queue CASE
  *
  * A case is a file CASE.bundle, the sheets as the bench program reads them, and perhaps CASE.schema and CASE.record
  * for rapidjson, whose schema is compiled and whose record is parsed beforehand. Prints a line for each case: rows,
  * schemas, the answer's number, nanoseconds of a call and of the two sheets' checks alone; then rapidjson's verdict, 0
- * for valid and 1 for invalid, and nanoseconds, or '- -' if it was not asked. */
+ * for valid and 1 for invalid, and nanoseconds, or '- -' if it was not asked.
+ *
+ * With 'queue' the case's record stands 512 times in one slice of words and one of bytes. Prints one line: the queue's
+ * answer, the last record's, and nanoseconds of a record in one call, in 512 calls to judge and by rapidjson, by one
+ * validator that is reset for each record, or '-'. */
 #include <cstdint>
 #include <cstdio>
 #include <cstdlib>
@@ -136,6 +141,17 @@ struct Validation {
         rapidjson::SchemaValidator validator(*schema);
         valid = record.Accept(validator);
     }
+
+    /* Records that were parsed beforehand, by one validator. */
+    void validate_all(const std::vector<std::unique_ptr<rapidjson::Document>> &records)
+    {
+        rapidjson::SchemaValidator validator(*schema);
+        valid = true;
+        for (const auto &one : records) {
+            validator.Reset();
+            valid = one->Accept(validator) && valid;
+        }
+    }
 };
 #else
 struct Validation {
@@ -179,8 +195,83 @@ struct Case {
     }
 };
 
+/* One record, listed as often as a queue may have it, each time in another place. */
+struct Queue {
+    Judging one;
+    std::vector<uint32_t> words, listing;
+    std::vector<uint8_t> bytes;
+    std::vector<uint64_t> answers = std::vector<uint64_t>(AMPHORUST_QUEUE_MAX);
+    uint64_t answer = 0;
+    Timer whole, single, theirs;
+
+    explicit Queue(const std::string &path) : one(read_file(path + ".bundle")), listing(4 * AMPHORUST_QUEUE_MAX)
+    {
+        const Sheet &record = one.record;
+        for (size_t k = 0; k < AMPHORUST_QUEUE_MAX; k++) {
+            amphorust_list_record(listing.data(), k, words.size(), record.words.size(), bytes.size(), record.text.size());
+            words.insert(words.end(), record.words.begin(), record.words.end());
+            bytes.insert(bytes.end(), record.text.begin(), record.text.end());
+        }
+    }
+
+    void judge_whole()
+    {
+        answer = amphorust_judge_queue(words.data(), words.size(), bytes.data(), bytes.size(), listing.data(), listing.size(),
+                                       one.rules.words.data(), one.rules.words.size(), one.rules.text.data(), one.rules.text.size(),
+                                       one.cells.data(), one.cells.size(), one.list.data(), one.list.size(),
+                                       answers.data(), answers.size());
+    }
+
+    void judge_each()
+    {
+        for (size_t k = 0; k < AMPHORUST_QUEUE_MAX; k++) {
+            const uint32_t *four = &listing[4 * k];
+            one.answer = amphorust_judge(&words[four[0]], four[1], bytes.data() + four[2], four[3],
+                                         one.rules.words.data(), one.rules.words.size(), one.rules.text.data(), one.rules.text.size(),
+                                         one.cells.data(), one.cells.size(), one.list.data(), one.list.size());
+        }
+    }
+
+    void print(bool asked) const
+    {
+        const double records = AMPHORUST_QUEUE_MAX;
+        printf("%llu %llu %.1f %.1f", (unsigned long long)answer, (unsigned long long)answers.back(), whole.best / records,
+               single.best / records);
+        if (asked)
+            printf(" %.1f\n", theirs.best / records);
+        else
+            printf(" -\n");
+    }
+};
+
+static int measure_queue(const std::string &path)
+{
+    Queue queue(path);
+    bool asked = false;
+#ifdef HAS_RAPIDJSON
+    Validation validation(read_file(path + ".schema"), read_file(path + ".record"));
+    std::vector<std::unique_ptr<rapidjson::Document>> records;
+    for (size_t k = 0; k < AMPHORUST_QUEUE_MAX; k++) {
+        records.emplace_back(new rapidjson::Document);
+        records.back()->Parse(read_file(path + ".record").c_str());
+    }
+    asked = true;
+#endif
+    for (int round = 0; round < PASSES * ROUNDS; round++) {
+        queue.whole.round([&] { queue.judge_whole(); });
+        queue.single.round([&] { queue.judge_each(); });
+#ifdef HAS_RAPIDJSON
+        queue.theirs.round([&] { validation.validate_all(records); });
+#endif
+    }
+    queue.print(asked);
+    return 0;
+}
+
 int main(int count, char **paths)
 {
+    if (count == 3 && strcmp(paths[1], "queue") == 0)
+        return measure_queue(paths[2]);
     std::vector<std::unique_ptr<Case>> cases;
     for (int i = 1; i < count; i++)
         cases.emplace_back(new Case(paths[i]));

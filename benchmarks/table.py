@@ -140,12 +140,24 @@ def print_hostile(folder):
         print(line(name, cells, end) + ''.join(map(said, done)), flush=True)
 
 
+def print_queue(folder, case):
+    """The case's record 512 times: nanoseconds a record, in one call, in as many calls, and by rapidjson."""
+    path = write(folder, 'queue', case)
+    ran = subprocess.run([os.path.join(folder, 'measure'), 'queue', path], stdout=subprocess.PIPE, text=True, check=True)
+    answer, last, whole, single, theirs = ran.stdout.split()
+    print('\na queue of %d: %s, %s a record; in single calls %s (%.2f of it)%s%s' % (
+        int(answer) // 256, case.name, duration(float(whole)), duration(float(single)), float(whole) / float(single),
+        '' if theirs == '-' else '; rapidjson %s (%.1f times)' % (duration(float(theirs)), float(theirs) / float(whole)),
+        said(Measured(0, 0, int(last), 0, 0, None, False))))
+
+
 def main(folder):
     table = cases.table()
     families = [(sizes, [family(n) for n in sizes]) for family, sizes in cases.FAMILIES]
     times = iter(measured(folder, table + [case for _, found in families for case in found]))
     print(HEADING.format(cases.NAME_BYTES, cases.TEXT_BYTES))
     print_cases(table, [next(times) for _ in table])
+    print_queue(folder, table[0])
     print_families([(sizes, found, [next(times) for _ in found]) for sizes, found in families])
     sys.stdout.flush()
     print_hostile(folder)

@@ -2,8 +2,9 @@
  *
  * A sheet is an array of 32-bit words with its text in bytes: a record or rules. `amphorust_check` says
  * whether one is in order. `amphorust_judge` takes a record and rules, and two areas that it writes: the
- * cells and the settling list; it checks both sheets itself. Each answers by one 64-bit number, for every
- * input whatever; what it gives and leaves is proved, for all of them.
+ * cells and the settling list; it checks both sheets itself. `amphorust_judge_queue` does so with up to
+ * 512 records, one after the other. Each answers by one 64-bit number, for every input whatever; what it
+ * gives and leaves is proved, for all of them.
  *
  * Link with libhub.a (`rt staticlib hub` writes it to target/staticlib/) and the C library. x86-64 only.
  * `examples/host.c` is a whole host program.
@@ -18,12 +19,12 @@
 extern "C" {
 #endif
 
-/* In both calls each array is a pointer and then its length in elements: words of 4 bytes, or bytes. Any
- * contents and any lengths may be passed; a sheet that is not in order is refused, never followed out of
- * its array.
+/* In every call each array is a pointer and then its length in elements: words of 4 bytes, answers of 8,
+ * or bytes. Any contents and any lengths may be passed; a sheet that is not in order is refused, never
+ * followed out of its array.
  *   - An array of length 0 may have a null pointer.
- *   - Arrays of words stand at addresses divisible by 4.
- *   - `cells` and `list` overlap no other array. Those that are only read may overlap each other.
+ *   - Arrays of words stand at addresses divisible by 4, and answers at one divisible by 8.
+ *   - `cells`, `list` and `answers` overlap no other array. Those that are only read may overlap.
  *   - Nothing else writes any of them while the call runs.
  *
  * A call keeps no state, allocates nothing, ends on every input, and may run in several threads at once,
@@ -49,11 +50,44 @@ uint64_t amphorust_judge(const uint32_t *record, size_t record_length,
 
 #define AMPHORUST_ROOM_MAX 1048576 /* 1,024 rows x 1,024 schemas */
 
+/* Judges a queue of records by one rule sheet, which is checked once.
+ *
+ * The records' words stand in `words` and their texts in `bytes`; the listing says where, by four words
+ * for each record (`amphorust_list_record` writes them): start and length of its words, then start and
+ * length of its text. Records may overlap, and one may be listed twice.
+ *
+ * Answer k is that of record k, as `amphorust_judge` gives it: a record that is refused, be it for the
+ * rules or for areas too short, is answered so, and the queue goes on. The areas are left as by those
+ * calls one after the other: each judged record writes its own first cells and list words, and those of
+ * the last stand there. Answers behind the records' stay as they were. A refused queue (30 to 32) writes
+ * nothing at all. */
+uint64_t amphorust_judge_queue(const uint32_t *words, size_t words_length,
+                               const uint8_t *bytes, size_t bytes_length,
+                               const uint32_t *listing, size_t listing_length,
+                               const uint32_t *rules, size_t rules_length,
+                               const uint8_t *rule_text, size_t rule_text_length,
+                               uint8_t *cells, size_t cells_length,
+                               uint32_t *list, size_t list_length,
+                               uint64_t *answers, size_t answers_length);
+
+#define AMPHORUST_QUEUE_MAX 512 /* records in a queue */
+
+/* Lists a record as number k of the queue; the listing has room for 4 x (k + 1) words. */
+static inline void amphorust_list_record(uint32_t *listing, size_t k, uint32_t start, uint32_t length,
+                                         uint32_t text_start, uint32_t text_length)
+{
+    listing[4 * k] = start;
+    listing[4 * k + 1] = length;
+    listing[4 * k + 2] = text_start;
+    listing[4 * k + 3] = text_length;
+}
+
 /* ---- The answer
  *
- * The lowest byte is 0 for valid or, of a check, in order; 1 for invalid; and 10 more than the refusal's
- * number for refused. What stands above it is, for valid and invalid, the number of settled pairs; in
- * order, the number of rows of a record or of schemas of rules; for refused, the place. */
+ * The lowest byte is 0 for valid or, of a check, in order or, of a queue, answered; 1 for invalid; and 10
+ * more than the refusal's number for refused. What stands above it is, for valid and invalid, the number
+ * of settled pairs; in order, the number of rows of a record or of schemas of rules; of a queue, the
+ * number of records answered; for refused, the place. */
 
 static inline int amphorust_is_in_order(uint64_t answer) { return answer % 256 == 0; }
 
@@ -75,7 +109,13 @@ static inline uint32_t amphorust_size(uint64_t answer)
     return amphorust_is_refused(answer) ? 0 : (uint32_t)(answer / 256);
 }
 
-/* The refusal's number, 1 to 13; 0 if the call was not refused. */
+/* How many records of a queue were answered; 0 if the queue was refused. */
+static inline size_t amphorust_answered(uint64_t answer)
+{
+    return amphorust_is_refused(answer) ? 0 : (size_t)(answer / 256);
+}
+
+/* The refusal's number, 1 to 13 or 30 to 32; 0 if the call was not refused. */
 static inline unsigned amphorust_refusal(uint64_t answer)
 {
     return amphorust_is_refused(answer) ? (unsigned)(answer % 256 - 10) : 0;
@@ -91,8 +131,8 @@ static inline uint32_t amphorust_place(uint64_t answer)
  *
  * They are tested in order over whole sheets, and the first that applies is given: by a check 12, then 1,
  * 2, 3, 13, 4 of a record or 5, 6, 7, 13, 8, 9 of rules; by judging the record's, the rules', 10 and 11,
- * and never 12: there a sheet of another kind is refused 1 or 5. A refused call leaves both areas as they
- * were. Rows, schemas, clauses and entries count from 0; a place in the rules counts the schemas, then the
+ * and never 12: there a sheet of another kind is refused 1 or 5; by a queue 30, 31 and 32 alone. A refused
+ * call leaves the areas as they were. Rows, schemas, clauses and entries count from 0; a place in the rules counts the schemas, then the
  * clauses, then the entries. */
 static inline const char *amphorust_refusal_text(unsigned refusal)
 {
@@ -118,6 +158,12 @@ static inline const char *amphorust_refusal_text(unsigned refusal)
     case 12: return "no words, or a last word that is no kind of sheet";
     /* the lowest such row, or the lowest such entry */
     case 13: return "a name or a string is not UTF-8";
+    /* place 0 */
+    case 30: return "a listing that four does not divide, or of more than 512 records";
+    /* the lowest such record */
+    case 31: return "a listed record does not lie in the words or the bytes";
+    /* the records given */
+    case 32: return "fewer answers than records";
     default: return "not refused";
     }
 }

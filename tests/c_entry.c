@@ -3,6 +3,7 @@
  *
  *     c_entry          judges, every call on this thread
  *     c_entry check    checks sheets
+ *     c_entry queue    judges queues
  *     c_entry BYTES    judges, each on a thread whose stack has that many bytes, nothing mapped below it
  *     c_entry past N   calls nothing: reads a byte past array N, which must kill it
  *     c_entry into N   calls nothing: writes array N, which must kill it if the calls only read that
@@ -12,7 +13,9 @@
  * valid, invalid and refused, the count, the refusal, the place and the room that the header reads from
  * the sheets, 64 bits each, and then the cells and the list. A call to check is the first two lengths and
  * arrays. What came of it is the answer, whether it is in order and refused, the size, the refusal and
- * the place.
+ * the place. A call to judge a queue is eight (words, bytes, listing, rules, rule text, cells, list,
+ * answers). What came of it is the answer, whether it is refused, how many were answered, the refusal
+ * and the place, and then the cells, the list and the answers.
  *
  * Each array ends where its last mapped page does. Arrays that the call only reads can only be read. */
 #define _GNU_SOURCE
@@ -29,9 +32,18 @@
 #define BELOW (1 << 20) /* unmapped bytes below a stack */
 #define UNTOUCHED 0xA5
 
-enum { RECORD, RECORD_TEXT, RULES, RULE_TEXT, CELLS, LIST, PARTS };
+enum { RECORD, RECORD_TEXT, RULES, RULE_TEXT, CELLS, LIST };
+enum { WORDS, BYTES, LISTING, QUEUE_RULES, QUEUE_RULE_TEXT, QUEUE_CELLS, QUEUE_LIST, ANSWERS, PARTS };
 
-static const size_t element_size[PARTS] = {4, 1, 4, 1, 1, 4};
+/* What a call is given: how many arrays, the first of those that it writes, and their elements' sizes. */
+struct shape {
+    int given, written;
+    size_t element_size[PARTS];
+};
+
+static const struct shape checking = {2, 2, {4, 1}};
+static const struct shape judging = {6, CELLS, {4, 1, 4, 1, 1, 4}};
+static const struct shape judging_queue = {8, QUEUE_CELLS, {4, 1, 4, 4, 1, 1, 4, 8}};
 
 struct part {
     size_t length;    /* in elements */
@@ -41,7 +53,7 @@ struct part {
 };
 
 static struct part parts[PARTS];
-static int given = PARTS;   /* of them, by a call */
+static struct shape shape;
 static uint64_t answer;
 
 static void give_up(const char *why)
@@ -75,14 +87,14 @@ static void lend(struct part *part, size_t size, int protection)
 static int read_call(void)
 {
     uint32_t lengths[PARTS];
-    if (fread(lengths, sizeof lengths[0], given, stdin) != (size_t)given)
+    if (fread(lengths, sizeof lengths[0], shape.given, stdin) != (size_t)shape.given)
         return 0;
-    for (int i = 0; i < given; i++) {
+    for (int i = 0; i < shape.given; i++) {
         parts[i] = (struct part){0};
         if (lengths[i] == ABSENT)
             continue;
         parts[i].length = lengths[i];
-        lend(&parts[i], element_size[i], i < CELLS ? PROT_READ : PROT_READ | PROT_WRITE);
+        lend(&parts[i], shape.element_size[i], i < shape.written ? PROT_READ : PROT_READ | PROT_WRITE);
     }
     return 1;
 }
@@ -104,6 +116,18 @@ static void *judge(void *unused)
     return unused;
 }
 
+static void judge_queue(void)
+{
+    answer = amphorust_judge_queue((const uint32_t *)parts[WORDS].array, parts[WORDS].length,
+                                   parts[BYTES].array, parts[BYTES].length,
+                                   (const uint32_t *)parts[LISTING].array, parts[LISTING].length,
+                                   (const uint32_t *)parts[QUEUE_RULES].array, parts[QUEUE_RULES].length,
+                                   parts[QUEUE_RULE_TEXT].array, parts[QUEUE_RULE_TEXT].length,
+                                   parts[QUEUE_CELLS].array, parts[QUEUE_CELLS].length,
+                                   (uint32_t *)parts[QUEUE_LIST].array, parts[QUEUE_LIST].length,
+                                   (uint64_t *)parts[ANSWERS].array, parts[ANSWERS].length);
+}
+
 static void judge_on_thread(size_t stack)
 {
     uint8_t *region = map(BELOW + stack, PROT_READ | PROT_WRITE);
@@ -122,7 +146,14 @@ static void write_checked(void)
         answer, amphorust_is_in_order(answer), amphorust_is_refused(answer), amphorust_size(answer),
         amphorust_refusal(answer), amphorust_place(answer)};
     fwrite(told, sizeof told, 1, stdout);
-    fflush(stdout);
+}
+
+static void write_answered(void)
+{
+    const uint64_t told[] = {
+        answer, amphorust_is_refused(answer), amphorust_answered(answer), amphorust_refusal(answer),
+        amphorust_place(answer)};
+    fwrite(told, sizeof told, 1, stdout);
 }
 
 static void write_judged(void)
@@ -133,8 +164,12 @@ static void write_judged(void)
         amphorust_room((const uint32_t *)parts[RECORD].array, parts[RECORD].length,
                        (const uint32_t *)parts[RULES].array, parts[RULES].length)};
     fwrite(told, sizeof told, 1, stdout);
-    for (int i = CELLS; i < PARTS; i++)
-        fwrite(parts[i].array, element_size[i], parts[i].length, stdout);
+}
+
+static void write_areas(void)
+{
+    for (int i = shape.written; i < shape.given; i++)
+        fwrite(parts[i].array, shape.element_size[i], parts[i].length, stdout);
     fflush(stdout);
 }
 
@@ -157,21 +192,24 @@ static void trespass(const char *how, const struct part *part)
 int main(int count, char **arguments)
 {
     int checks = count == 2 && strcmp(arguments[1], "check") == 0;
-    if (checks)
-        given = RULES;
+    int queues = count == 2 && strcmp(arguments[1], "queue") == 0;
+    shape = checks ? checking : queues ? judging_queue : judging;
     while (read_call()) {
         if (count > 2)
             trespass(arguments[1], &parts[strtoul(arguments[2], NULL, 10)]);
         else if (checks)
             check();
+        else if (queues)
+            judge_queue();
         else if (count > 1)
             judge_on_thread(strtoul(arguments[1], NULL, 10));
         else
             judge(NULL);
-        for (int i = 0; i < given; i++)
+        for (int i = 0; i < shape.given; i++)
             look_before(&parts[i]);
-        checks ? write_checked() : write_judged();
-        for (int i = 0; i < given; i++)
+        checks ? write_checked() : queues ? write_answered() : write_judged();
+        write_areas();
+        for (int i = 0; i < shape.given; i++)
             if (parts[i].pages != NULL)
                 munmap(parts[i].pages, parts[i].mapped + PAGE);
     }

@@ -4,8 +4,8 @@
 Builds the archive and the example host (examples/build-host), then tests/c_entry.c with the archive. That program
 places each array directly before an unmapped page and makes the four that are only read unwritable. Cases are the
 samples, the limits, texts of 65,535 and 65,536 bytes, sheets cut short and random ones; each is called with areas of
-several lengths, full of random bytes. Checks of sheets (tests/c_check.py) are compared too. Finds the smallest stack at
-which the deepest recursion works.
+several lengths, full of random bytes. Checks of sheets (tests/c_check.py) and queues (tests/c_queue.py) are compared
+too. Finds the smallest stack at which the deepest recursion works.
 
 Ends with 'N passed, M failed'. COUNT and SEED may be given."""
 import itertools
@@ -19,6 +19,7 @@ import subprocess
 import sys
 
 import c_check
+import c_queue
 import judged
 import machine
 import second
@@ -297,6 +298,7 @@ def main(count=1500, seed=1):
         check_guards(results)
     check_calls(results, rng, count, seed)
     compare(results, list(c_check.calls(seed, count)), 'check')
+    compare(results, list(c_queue.calls(seed, count // 5)), 'queue')
     check_archive(results)
     check_stack(results)
     print('%d passed, %d failed' % (results.passed, results.failed))

@@ -624,6 +624,37 @@ def number_for_c(answer):
     return {'valid': 0, 'in order': 0, 'invalid': 1}[answer.verdict] + 256 * answer.count
 
 
+# ---- a whole queue (02, #107) ----
+
+QUEUE_MOST = 512
+
+
+def queue_refusal(words, text, listing, answers):
+    """The first refusal of the call itself, or None."""
+    given, rest = divmod(len(listing), 4)
+    if rest or given > QUEUE_MOST:
+        return refused(30, 0)
+    for k in range(given):
+        start, length, text_start, text_length = listing[4 * k:4 * k + 4]
+        if start + length > len(words) or text_start + text_length > len(text):
+            return refused(31, k)
+    return refused(32, given) if len(answers) < given else None
+
+
+def judge_queue(words, text, listing, rules, rule_text, cells, list_, answers):
+    """The call's answer, and the cells, the list and the answers after it; the lent ones are not changed themselves."""
+    cells, list_, answers = list(cells), list(list_), list(answers)
+    answer = queue_refusal(words, text, listing, answers)
+    if answer is not None:
+        return answer, cells, list_, answers
+    for k in range(len(listing) // 4):
+        start, length, text_start, text_length = listing[4 * k:4 * k + 4]
+        one, cells, list_ = judge(words[start:start + length], text[text_start:text_start + text_length],
+                                  rules, rule_text, cells, list_)
+        answers[k] = number_for_c(one)
+    return Answer('in order', len(listing) // 4, None, None, None), cells, list_, answers
+
+
 # ---- bench program ----
 
 def to_bytes(words):

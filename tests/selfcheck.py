@@ -14,10 +14,11 @@ from collections import Counter, defaultdict
 
 import judged
 import one_sheet
+import queues
 import second
 import sheets
 
-ANSWERS = ['valid', 'invalid', 'in order'] + ['refused %d' % number for number in range(1, 14)]
+ANSWERS = ['valid', 'invalid', 'in order'] + ['refused %d' % number for number in (*range(1, 14), 30, 31, 32)]
 BY_JUDGING = (*range(1, 12), 13)                       # refusals that judging gives
 BY_CHECKING = {1: (*range(1, 5), 13), 2: (*range(5, 10), 13)}  # and those that a check gives, by the last word
 PRINTED = re.compile(rb'bad bundle\n|too large\n|refused ([1-9]|13) \d+\n'
@@ -245,6 +246,33 @@ def check_sheets(results, seed, count):
         results.check(results.table['check']['refused %d' % number] > 0, 'no check is refused %d' % number)
 
 
+def check_queue(results, rng, label, words, text, listing, rules, rule_text, lengths):
+    """A refused queue changes nothing; each answer is the record's own, also without the refused ones before it."""
+    cells, list_, answers = ([rng.getrandbits(bits) for _ in range(length)] for bits, length in zip((8, 32, 64), lengths))
+    answer, *after = second.judge_queue(words, text, listing, rules, rule_text, cells, list_, answers)
+    results.note('queue', answer)
+    if answer.verdict == 'refused':
+        results.check(answer.number in (30, 31, 32) and after == [cells, list_, answers], 'a refused queue', label)
+        return answer
+    results.check(after[2][answer.count:] == answers[answer.count:], 'answers behind the records\'', label)
+    good = [k for k in range(answer.count) if after[2][k] % 256 < 10]
+    rest = second.judge_queue(words, text, [word for k in good for word in listing[4 * k:4 * k + 4]], rules, rule_text,
+                              cells, list_, [0] * len(good))
+    results.check(list(rest[1:]) == [*after[:2], [after[2][k] for k in good]], 'a refused record changes the rest', label)
+    return answer
+
+
+def check_queues(results, rng, seed, count):
+    for label, *parts in queues.limits():
+        answer = check_queue(results, rng, label, *parts)
+        found = 'in order %d' % answer.count if answer.number is None else 'refused %d %d' % answer[2:4]
+        results.check(found == label.split(':')[0], 'the queue answered ' + found, label)
+    for case in queues.cases(seed, count):
+        check_queue(results, rng, *case)
+    for number in (30, 31, 32):
+        results.check(results.table['queue']['refused %d' % number] > 5, 'few queues are refused %d' % number)
+
+
 def check_spread(results):
     """Every refusal comes up often enough, and both verdicts do."""
     for number in (*range(1, 10), 13):
@@ -268,6 +296,7 @@ def main(count=5_000, seed=1):
     check_limits(results, rng)
     check_bundles(results, seed, count // 10)
     check_sheets(results, seed, count // 5)
+    check_queues(results, rng, seed, count // 20)
     results.print_table()
     print('%.0f s for the cases, %.0f s in all' % (random_seconds, time.time() - begun))
     print('%d passed, %d failed' % (results.passed, results.failed))

@@ -52,12 +52,13 @@ pub(crate) fn first_outside(words: usize, bytes: usize, listing: &[u32]) -> usiz
     ensures { λ r. ⌜ r ≡ lowest (outside words bytes (now (listing .entry))) (recordsIn (now (listing .entry))) ⌝ }
 {
     let many = records_in(listing);
-    let mut k = 0;
-    while k < many {
+    let mut place = many;
+    let mut k = many;
+    while k > 0 {
+        k -= 1;
         if is_outside(words, bytes, listing, k) {
-            return k;
+            place = k;
         }
-        k += 1;
     }
-    many
+    place
 }
