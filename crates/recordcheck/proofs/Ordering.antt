@@ -58,10 +58,10 @@ module _ (ws : List ℕ) (j : ℕ) where
       rw (eq-eqb (stranger ws j first (rowAt ws j .count)) (first + rowAt ws j .count) z) (or-true (not (holdsChildren (kindOf (rowAt ws j .kind)))))
 
 -- a row whose level stands in the table was met
-pub met-at : {ws : List ℕ} {n : ℕ} {table : List ℕ} → Levelled ws n table → {j at : ℕ} → at ≡ j → j < n → (getD table at 0 ≡ 0 → ⊥) → Placed ws j (getD table at 0)
+pub met-at : {ws : List ℕ} {n : ℕ} {table : List ℕ} → Levelled ws n table → {j at : ℕ} → at ≡ j → j < n → 0 < getD table at 0 → Placed ws j (getD table at 0)
 met-at {ws} {n} {table} t {j} {at} e h some =
     let q : getD table at 0 ≡ getD table j 0 = ap (λ (k : ℕ). getD table k 0) e in
-    rw q (t .met j h (omega (arith, some)))
+    rw q (t .met j h (omega arith))
 
 -- row j, which was met, whose fields are in order
 module _ (ws ts : List ℕ) (form : RecordForm) (formed : Formed ws form) (j : ℕ) (h : j < form .rows) (row : Row) (read : row ≡ rowAt ws j)

@@ -36,14 +36,14 @@ holds-children-requires c κs = search needs
 returns-3 : tie.Need-returns-3
 returns-3 c t =
     let s = c .before .before .before .before .before .before .before .before .before .before .before .before in
-    let met = met-at (s .pre .3) (c .before .before .before .before .before .before .before .before .wide .ensures) (s .pre .2) (c .before .before .before .before .before .before .if1 .left) in
+    let met = met-at (s .pre .3) (c .before .before .before .before .before .before .before .before .wide .ensures) (s .pre .2) (omega (arith, c .before .before .before .before .before .before .if1 .left)) in
     let fields = sym (c .before .before .before .before .fields-ok .ensures) ∙ not-false _ (c .before .before .before .if2 .left) in
     (leaf (s .args .words .now) (s .args .text .now) (s .args .form) (s .pre .0) (s .args .j) (s .pre .2) (c .before .before .before .before .before .row-at .result) (c .before .before .before .before .before .row-at .ensures) _ (s .pre .1) fields _ met (c .before .before .of .result) (c .before .before .of .ensures) (sym (c .before .holds-children .ensures) ∙ not-true _ (c .if3 .taken)), s .pre .3)
 
 returns-4 : tie.Need-returns-4
 returns-4 c t =
     let s = c .before .before .before .before .before .before .before .before .before .before .before .before .before in
-    let met = met-at (s .pre .3) (c .before .before .before .before .before .before .before .before .before .wide .ensures) (s .pre .2) (c .before .before .before .before .before .before .before .if1 .left) in
+    let met = met-at (s .pre .3) (c .before .before .before .before .before .before .before .before .before .wide .ensures) (s .pre .2) (omega (arith, c .before .before .before .before .before .before .before .if1 .left)) in
     let fields = sym (c .before .before .before .before .before .fields-ok .ensures) ∙ not-false _ (c .before .before .before .before .if2 .left) in
     (empty (s .args .words .now) (s .args .text .now) (s .args .form) (s .pre .0) (s .args .j) (s .pre .2) (c .before .before .before .before .before .before .row-at .result) (c .before .before .before .before .before .before .row-at .ensures) _ (s .pre .1) fields _ met (c .if4 .taken), s .pre .3)
 
@@ -59,7 +59,7 @@ add-children-ok c = search needs
 children-ok-requires : tie.Need-children-ok-requires
 children-ok-requires c κs =
     let s = c .before .before .before .before .before .before .before .before .before .before .before .before .before .before .before .before .before in
-    let met = met-at (s .pre .3) (c .before .before .before .before .before .before .before .before .before .before .before .before .before .wide .ensures) (s .pre .2) (c .before .before .before .before .before .before .before .before .before .before .before .if1 .left) in
+    let met = met-at (s .pre .3) (c .before .before .before .before .before .before .before .before .before .before .before .before .before .wide .ensures) (s .pre .2) (omega (arith, c .before .before .before .before .before .before .before .before .before .before .before .if1 .left)) in
     let fields = sym (c .before .before .before .before .before .before .before .before .before .fields-ok .ensures) ∙ not-false _ (c .before .before .before .before .before .before .before .before .if2 .left) in
     let kind-holds = sym (c .before .before .before .before .before .before .holds-children .ensures) ∙ not-false _ (c .before .before .before .before .before .if3 .left) in
     (holding (s .args .words .now) (s .args .text .now) (s .args .form) (s .pre .0) (s .args .j) (s .pre .2) (c .before .before .before .before .before .before .before .before .before .before .row-at .result) (c .before .before .before .before .before .before .before .before .before .before .row-at .ensures) _ (s .pre .1) fields _ met (c .before .before .before .before .before .before .before .of .result) (sym (c .before .before .before .before .before .before .before .of .ensures)) kind-holds (c .before .before .before .before .if4 .left) (omega (arith, c .before .before .before .if5 .left)), s .pre .1, s .pre .3)
@@ -70,7 +70,7 @@ same-length c = search needs
 returns-6 : tie.Need-returns-6
 returns-6 c t =
     let s = c .before .before .before .before .before .before .before .before .before .before .before .before .before .before .before .before .before .before .before .before in
-    let met = met-at (s .pre .3) (c .before .before .before .before .before .before .before .before .before .before .before .before .before .before .before .before .wide .ensures) (s .pre .2) (c .before .before .before .before .before .before .before .before .before .before .before .before .before .before .if1 .left) in
+    let met = met-at (s .pre .3) (c .before .before .before .before .before .before .before .before .before .before .before .before .before .before .before .before .wide .ensures) (s .pre .2) (omega (arith, c .before .before .before .before .before .before .before .before .before .before .before .before .before .before .if1 .left)) in
     let fields = sym (c .before .before .before .before .before .before .before .before .before .before .before .before .fields-ok .ensures) ∙ not-false _ (c .before .before .before .before .before .before .before .before .before .before .before .if2 .left) in
     let kind-holds = sym (c .before .before .before .before .before .before .before .before .before .holds-children .ensures) ∙ not-false _ (c .before .before .before .before .before .before .before .before .if3 .left) in
     let held = holding (s .args .words .now) (s .args .text .now) (s .args .form) (s .pre .0) (s .args .j) (s .pre .2) (c .before .before .before .before .before .before .before .before .before .before .before .before .before .row-at .result) (c .before .before .before .before .before .before .before .before .before .before .before .before .before .row-at .ensures) _ (s .pre .1) fields _ met (c .before .before .before .before .before .before .before .before .before .before .of .result) (sym (c .before .before .before .before .before .before .before .before .before .before .of .ensures)) kind-holds (c .before .before .before .before .before .before .before .if4 .left) (omega (arith, c .before .before .before .before .before .before .if5 .left)) in
@@ -83,7 +83,7 @@ add-few-ok c = search needs
 few-ok-requires : tie.Need-few-ok-requires
 few-ok-requires c κs =
     let s = c .before .before .before .before .before .before .before .before .before .before .before .before .before .before .before .before .before .before in
-    let met = met-at (s .pre .3) (c .before .before .before .before .before .before .before .before .before .before .before .before .before .before .wide .ensures) (s .pre .2) (c .before .before .before .before .before .before .before .before .before .before .before .before .if1 .left) in
+    let met = met-at (s .pre .3) (c .before .before .before .before .before .before .before .before .before .before .before .before .before .before .wide .ensures) (s .pre .2) (omega (arith, c .before .before .before .before .before .before .before .before .before .before .before .before .if1 .left)) in
     let fields = sym (c .before .before .before .before .before .before .before .before .before .before .fields-ok .ensures) ∙ not-false _ (c .before .before .before .before .before .before .before .before .before .if2 .left) in
     let is = object-is (c .before .before .before .before .before .before .before .before .of .result) (sym (c .before .before .before .is-object .ensures) ∙ not-false _ (c .before .before .if6 .left)) in
     let held = holding (s .args .words .now) (s .args .text .now) (s .args .form) (s .pre .0) (s .args .j) (s .pre .2) (c .before .before .before .before .before .before .before .before .before .before .before .row-at .result) (c .before .before .before .before .before .before .before .before .before .before .before .row-at .ensures) _ (s .pre .1) fields _ met Object (sym (c .before .before .before .before .before .before .before .before .of .ensures) ∙ is) refl (c .before .before .before .before .before .if4 .left) (omega (arith, c .before .before .before .before .if5 .left)) in
@@ -95,7 +95,7 @@ same-length-2 c = search needs
 returns-7 : tie.Need-returns-7
 returns-7 c t =
     let s = c .before .before .before .before .before .before .before .before .before .before .before .before .before .before .before .before .before .before .before .before .before in
-    let met = met-at (s .pre .3) (c .before .before .before .before .before .before .before .before .before .before .before .before .before .before .before .before .before .wide .ensures) (s .pre .2) (c .before .before .before .before .before .before .before .before .before .before .before .before .before .before .before .if1 .left) in
+    let met = met-at (s .pre .3) (c .before .before .before .before .before .before .before .before .before .before .before .before .before .before .before .before .before .wide .ensures) (s .pre .2) (omega (arith, c .before .before .before .before .before .before .before .before .before .before .before .before .before .before .before .if1 .left)) in
     let fields = sym (c .before .before .before .before .before .before .before .before .before .before .before .before .before .fields-ok .ensures) ∙ not-false _ (c .before .before .before .before .before .before .before .before .before .before .before .before .if2 .left) in
     let is = object-is (c .before .before .before .before .before .before .before .before .before .before .before .of .result) (sym (c .before .before .before .before .before .before .is-object .ensures) ∙ not-false _ (c .before .before .before .before .before .if6 .left)) in
     let held = holding (s .args .words .now) (s .args .text .now) (s .args .form) (s .pre .0) (s .args .j) (s .pre .2) (c .before .before .before .before .before .before .before .before .before .before .before .before .before .before .row-at .result) (c .before .before .before .before .before .before .before .before .before .before .before .before .before .before .row-at .ensures) _ (s .pre .1) fields _ met Object (sym (c .before .before .before .before .before .before .before .before .before .before .before .of .ensures) ∙ is) refl (c .before .before .before .before .before .before .before .before .if4 .left) (omega (arith, c .before .before .before .before .before .before .before .if5 .left)) in
@@ -108,7 +108,7 @@ add-members-ok c = search needs
 members-ok-requires : tie.Need-members-ok-requires
 members-ok-requires c κs =
     let s = c .before .before .before .before .before .before .before .before .before .before .before .before .before .before .before .before .before .before in
-    let met = met-at (s .pre .3) (c .before .before .before .before .before .before .before .before .before .before .before .before .before .before .wide .ensures) (s .pre .2) (c .before .before .before .before .before .before .before .before .before .before .before .before .if1 .left) in
+    let met = met-at (s .pre .3) (c .before .before .before .before .before .before .before .before .before .before .before .before .before .before .wide .ensures) (s .pre .2) (omega (arith, c .before .before .before .before .before .before .before .before .before .before .before .before .if1 .left)) in
     let fields = sym (c .before .before .before .before .before .before .before .before .before .before .fields-ok .ensures) ∙ not-false _ (c .before .before .before .before .before .before .before .before .before .if2 .left) in
     let is = object-is (c .before .before .before .before .before .before .before .before .of .result) (sym (c .before .before .before .is-object .ensures) ∙ not-false _ (c .before .before .if6 .left)) in
     let held = holding (s .args .words .now) (s .args .text .now) (s .args .form) (s .pre .0) (s .args .j) (s .pre .2) (c .before .before .before .before .before .before .before .before .before .before .before .row-at .result) (c .before .before .before .before .before .before .before .before .before .before .before .row-at .ensures) _ (s .pre .1) fields _ met Object (sym (c .before .before .before .before .before .before .before .before .of .ensures) ∙ is) refl (c .before .before .before .before .before .if4 .left) (omega (arith, c .before .before .before .before .if5 .left)) in
@@ -120,7 +120,7 @@ same-length-3 c = search needs
 returns-8 : tie.Need-returns-8
 returns-8 c t =
     let s = c .before .before .before .before .before .before .before .before .before .before .before .before .before .before .before .before .before .before .before .before .before in
-    let met = met-at (s .pre .3) (c .before .before .before .before .before .before .before .before .before .before .before .before .before .before .before .before .before .wide .ensures) (s .pre .2) (c .before .before .before .before .before .before .before .before .before .before .before .before .before .before .before .if1 .left) in
+    let met = met-at (s .pre .3) (c .before .before .before .before .before .before .before .before .before .before .before .before .before .before .before .before .before .wide .ensures) (s .pre .2) (omega (arith, c .before .before .before .before .before .before .before .before .before .before .before .before .before .before .before .if1 .left)) in
     let fields = sym (c .before .before .before .before .before .before .before .before .before .before .before .before .before .fields-ok .ensures) ∙ not-false _ (c .before .before .before .before .before .before .before .before .before .before .before .before .if2 .left) in
     let is = object-is (c .before .before .before .before .before .before .before .before .before .before .before .of .result) (sym (c .before .before .before .before .before .before .is-object .ensures) ∙ not-false _ (c .before .before .before .before .before .if6 .left)) in
     let held = holding (s .args .words .now) (s .args .text .now) (s .args .form) (s .pre .0) (s .args .j) (s .pre .2) (c .before .before .before .before .before .before .before .before .before .before .before .before .before .before .row-at .result) (c .before .before .before .before .before .before .before .before .before .before .before .before .before .before .row-at .ensures) _ (s .pre .1) fields _ met Object (sym (c .before .before .before .before .before .before .before .before .before .before .before .of .ensures) ∙ is) refl (c .before .before .before .before .before .before .before .before .if4 .left) (omega (arith, c .before .before .before .before .before .before .before .if5 .left)) in
