@@ -128,12 +128,12 @@ class Exits:
         os.utime(clone / 'crates/judge/src/lib.rt', (later, later))
         out, err, status = run(everywhere)
         self.equal('a newer source', (out, err.startswith(PROVES % rt), status), (INVALID, True, 1))
+        self.equal('nothing newer', run(everywhere), (INVALID, '', 1))
         os.remove(rt)
-        kit = os.path.join(machine.kit(), 'bin')
-        out, err, status = run('%s:%s' % (tools, kit) if machine.EMULATED else str(tools))
-        if not machine.EMULATED:        # elsewhere rt is there, for its emulator
-            self.equal('a newer source and no rt', (out, err.startswith('target/lib/libamphorust.so: older than a '
-                                                                        'source, and rt'), status), ('', True, 2))
+        os.utime(clone / 'crates/hub/src/lib.rt', (later + 5, later + 5))
+        out, err, status = run()
+        self.equal('a newer source and no rt', (out, err.startswith('target/lib/libamphorust.so: older than a source, and '
+                                                                    'rt, which'), status), ('', True, 2))
 
     def installation(self):
         """What ./install writes, a C program that is built with it, and the version, which the change log begins with."""

@@ -37,7 +37,8 @@ def named(path):
 
 
 def products():
-    return [LIBRARY] if LOADS else [LIBRARY, WORKER]
+    """What is built: in a clone the archive for C as well, which the rest is linked from."""
+    return [ARCHIVE] * IS_CLONE + [LIBRARY] + [WORKER] * (not LOADS)
 
 
 def make_ready(say, at_once=None):
@@ -99,8 +100,12 @@ def build(rt, say, at_once):
     prove(rt, at_once)
     kit = kit_of(rt)
     if not kit:
-        raise CannotJudge('rt is there, and the kit that it belongs to is not: set RATTLE_HOME to its folder')
+        raise CannotJudge('is there, and the tools of its kit for this machine, %s, are not: set RATTLE_HOME to the '
+                          "kit's folder" % MACHINE, file=rt)
     link(kit)
+    now = max(time.time(), newest_source())     # a source may be from another clock
+    for path in products():
+        os.utime(path, (now, now))
     say('built in %d s' % (time.monotonic() - start))
 
 
@@ -216,8 +221,8 @@ def worker_call():
     rt = shutil.which('rt')
     kit = kit_of(rt) if rt or os.environ.get('RATTLE_HOME') else None
     if kit is None:
-        raise CannotJudge('this machine is %s and the judge is for x86-64: rt, whose emulator runs it here, is not '
-                          'there: put the bin folder of the Rattle kit on the PATH' % MACHINE)
+        raise CannotJudge('is for x86-64, and this machine is %s: rt, whose emulator runs it here, is not there: put the '
+                          'bin folder of the Rattle kit on the PATH' % MACHINE, file=named(WORKER))
     libraries = toolchain(kit, 'lib')
     return [toolchain(kit, 'bin', 'qemu-x86_64'), os.path.join(libraries, 'ld-linux-x86-64.so.2'), '--library-path',
             libraries, WORKER]

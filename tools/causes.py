@@ -82,10 +82,9 @@ def units_of(causes, references):
 
 
 def unit_of(cause, references):
-    unit = {'valid': False, 'keywordLocation': pointer(cause.path), 'instanceLocation': pointer(cause.instance),
-            'error': cause.words}
+    unit = {'valid': False, 'keywordLocation': pointer(cause.path)}
     absolute = references.absolute(cause.place)
     if absolute:
         uri, root = absolute
         unit['absoluteKeywordLocation'] = uri + '#' + quote(pointer(cause.place[len(root):]), safe="/~!$&'()*+,;=:@")
-    return unit
+    return dict(unit, instanceLocation=pointer(cause.instance), error=cause.words)

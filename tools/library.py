@@ -25,6 +25,8 @@ def answer_in(number, cells):
     low, high = number % 256, number // 256
     if low > 10:
         return Answer('refused', low - 10, high)
+    if low > 1:
+        raise CannotJudge('gives an answer that is none: %d' % number, file=building.named(building.LIBRARY))
     return Answer('invalid', cells=cells()) if low == 1 else Answer('valid')
 
 
