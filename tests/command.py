@@ -5,28 +5,33 @@ Ends with 'N passed, M failed'. It runs the command as a user does who has insta
 """
 import json
 import random
+import re
 import subprocess
 import sys
 import tempfile
 
 import command_cases
+import command_causes
 import second
 from command_exits import Exits
 from command_inputs import Inputs
 from command_runs import EXAMPLES, Runs
 
+ROOT = EXAMPLES.parent
+
 
 class Tests(Runs):
     def parts(self):
         return (self.verdicts, self.bad_records, self.bad_schemas, self.schemas_alone, self.examples,
-                self.damaged_relays, self.options, self.verbose, self.ways, self.usage, self.bundles, self.damaged)
+                self.documents, self.damaged_relays, self.options, self.verbose, self.ways, self.usage, self.bundles,
+                self.damaged)
 
     # ---- the tables ----
 
     def verdicts(self):
         failing = [(schema, record, 'invalid: ' + said)
-                   for schema, record, said in command_cases.NEAREST + command_cases.CUT]
-        for schema, record, said in command_cases.VERDICTS + failing + command_cases.STRUCTURED:
+                   for schema, record, said in command_causes.NEAREST + command_causes.CUT]
+        for schema, record, said in command_cases.VERDICTS + failing + command_causes.STRUCTURED:
             self.write('s.json', schema)
             self.write('r.json', record)
             self.equal((schema, record), self.run('check', 's.json', 'r.json'),
@@ -78,6 +83,16 @@ class Tests(Runs):
             'queue.jsonl:5: invalid: /chip: "A30F917" has 7 characters, must have at least 8 '
             '(#/$defs/read/properties/chip/minLength), the nearest of 2 alternatives (#/anyOf/0), and 2 more\n',
             warned + 'queue.jsonl:3: column 104: not JSON: unterminated string\n', 2))
+
+    def documents(self):
+        """What docs/GUIDE.md shows is what is printed, both outputs together."""
+        for name in ('docs/GUIDE.md',):
+            shown = re.findall(r'^    \$ \./amphorust (check .*)\n((?:    (?!\$).*\n)*)', (ROOT / name).read_text(), re.M)
+            self.equal(name + ' shows something', len(shown) > 0, True)
+            for arguments, lines in shown:
+                ran = subprocess.run([self.command, *arguments.split()], cwd=ROOT, stdout=subprocess.PIPE,
+                                     stderr=subprocess.STDOUT)
+                self.equal((name, arguments), ran.stdout.decode(), re.sub('^    ', '', lines, flags=re.M))
 
     def damaged_relays(self):
         relay = json.loads((EXAMPLES / 'relay.json').read_text())

@@ -7,6 +7,7 @@ from pathlib import Path
 
 import judges
 import machine
+from command_runs import EXAMPLES
 
 INVALID = 'r.json: invalid: is 1, must be null (#/type)\n'
 PROVES = 'amphorust: proves and builds the judge first, once, by %s: 3 crates, some minutes\n'
@@ -145,15 +146,28 @@ class Exits:
                    ('amphorust %s (JSON Schema Draft 2020-12)\n' % version, 0, True))
         settings = (prefix / 'lib/pkgconfig/amphorust.pc').read_text()
         self.equal('pkg-config', ('prefix=%s\n' % prefix in settings, 'Version: %s\n' % version in settings), (True, True))
-        host, library = str(self.runs.folder / 'host'), prefix / 'lib'
-        subprocess.run([machine.tool('gcc'), '-I', str(prefix / 'include'), '-o', host,
-                        os.path.join(judges.ROOT, 'examples', 'host.c'), '-L', str(library), '-lamphorust',
-                        '-Wl,-rpath,%s' % library], check=True)
+        library = prefix / 'lib'
+        host = self.built('host.c', '-L', str(library), '-lamphorust', '-Wl,-rpath,%s' % library)
         ran = subprocess.run(machine.call(host), capture_output=True)
         self.equal('a host with the shared library', (ran.stdout.decode().splitlines()[:2], ran.returncode),
                    (['the rules: in order, 3 schemas', '{"p": 7}: valid, 2 pairs settled'], 0))
+        book = self.built('book.c', str(library / 'libamphorust.a'))
+        for record, told in (('passage.json', (b'booked\n', 0)),
+                             ('passage-misspelt.json', (b'not booked: the record does not keep the rules\n', 1))):
+            bundle = subprocess.run([self.runs.command, 'bundle', 'passage.schema.json', record], cwd=EXAMPLES,
+                                    stdout=subprocess.PIPE, stderr=subprocess.DEVNULL).stdout
+            ran = subprocess.run(machine.call(book), input=bundle, capture_output=True)
+            self.equal('booking with the archive', (ran.stdout, ran.returncode), told)
         names = subprocess.run([machine.tool('nm'), '-D', '--defined-only', str(library / 'libamphorust.so')],
                                capture_output=True, text=True).stdout.split()[2::3]
         self.equal('what the shared library exports', names, ['amphorust_check', 'amphorust_judge'])
         ran = subprocess.run([os.path.join(judges.ROOT, 'install')], capture_output=True, text=True)
         self.equal('./install', (ran.stdout, ran.stderr, ran.returncode), ('', 'usage: ./install PREFIX\n', 2))
+
+    def built(self, source, *with_library):
+        """The path of an example in C, built with what is installed."""
+        program = str(self.runs.folder / source.replace('.c', ''))
+        subprocess.run([machine.tool('gcc'), '-std=c99', '-pedantic', '-Wall', '-Wextra', '-Werror', '-I',
+                        str(self.runs.folder / 'prefix/include'), '-o', program, str(EXAMPLES / source), *with_library],
+                       check=True)
+        return program

@@ -16,7 +16,8 @@ from tools.fault import CannotJudge
 
 ROOT = os.path.dirname(os.path.dirname(os.path.abspath(__file__)))
 IS_CLONE = os.path.exists(os.path.join(ROOT, 'crates.txt'))
-FOLDER = os.path.join(ROOT, 'target', 'lib') if IS_CLONE else os.path.join(os.path.dirname(os.path.dirname(ROOT)), 'lib')
+PREFIX = os.path.dirname(os.path.dirname(ROOT))         # of what is installed: it stands in share/amphorust
+FOLDER = os.path.join(ROOT, 'target', 'lib') if IS_CLONE else os.path.join(PREFIX, 'lib')
 LIBRARY = os.path.join(FOLDER, 'libamphorust.so')
 WORKER = os.path.join(FOLDER, 'amphorust-worker')
 ARCHIVE = os.path.join(ROOT, 'target', 'staticlib', 'libhub.a')
@@ -36,9 +37,9 @@ def named(path):
     return os.path.relpath(path, ROOT) if IS_CLONE else path
 
 
-def products():
-    """What is built: in a clone the archive for C as well, which the rest is linked from."""
-    return [ARCHIVE] * IS_CLONE + [LIBRARY] + [WORKER] * (not LOADS)
+def linked():
+    """What is linked from the archive."""
+    return [LIBRARY] + [WORKER] * (not LOADS)
 
 
 def make_ready(say, at_once=None):
@@ -61,18 +62,33 @@ def make_ready(say, at_once=None):
 
 
 def is_ready():
-    if not all(map(os.path.exists, products())):
+    if not all(map(os.path.exists, linked())):
         return False
-    return not IS_CLONE or min(map(os.path.getmtime, products())) >= newest_source()
+    return not IS_CLONE or is_proved() and min(map(os.path.getmtime, linked())) >= newest(linked_from())
 
 
-def newest_source():
-    """When a source of the library, or a folder of them, was last changed."""
-    paths = [os.path.join(ROOT, name) for name in ('crates.txt', 'include/amphorust.h', 'tools/worker.c')]
-    for crate in crates():
-        for folder, _, files in os.walk(os.path.join(ROOT, 'crates', crate)):
-            paths += [folder] + [os.path.join(folder, file) for file in files]
+def is_proved():
+    """Whether the archive is there, and as new as the crates."""
+    return os.path.exists(ARCHIVE) and os.path.getmtime(ARCHIVE) >= newest(sources())
+
+
+def newest(paths):
+    """When one of these was last changed."""
     return max(map(os.path.getmtime, filter(os.path.exists, paths)))
+
+
+def linked_from():
+    return [ARCHIVE] + [os.path.join(ROOT, name) for name in ('include/amphorust.h', 'tools/worker.c')]
+
+
+def sources(names=None):
+    """The files that are proved of the library's crates, and their folders, which change when a file goes."""
+    paths = [os.path.join(ROOT, 'crates.txt')]
+    for crate in crates() if names is None else names:
+        for part in ('src', 'specs', 'proofs'):
+            for folder, _, files in os.walk(os.path.join(ROOT, 'crates', crate, part)):
+                paths += [folder] + [os.path.join(folder, file) for file in files]
+    return paths
 
 
 def crates():
@@ -95,18 +111,24 @@ def crates():
 
 
 def build(rt, say, at_once):
-    start = time.monotonic()
-    say('proves and builds the judge first, once, by %s: %d crates, some minutes' % (rt, len(crates())))
-    prove(rt, at_once)
-    kit = kit_of(rt)
+    start, kit = time.monotonic(), kit_of(rt)
     if not kit:
         raise CannotJudge('is there, and the tools of its kit for this machine, %s, are not: set RATTLE_HOME to the '
                           "kit's folder" % MACHINE, file=rt)
+    if not is_proved():
+        say('proves and builds the judge first, once, by %s: %d crates, some minutes' % (rt, len(crates())))
+        prove(rt, at_once)
+        date([ARCHIVE], sources())
+        say('built in %d s' % (time.monotonic() - start))
     link(kit)
-    now = max(time.time(), newest_source())     # a source may be from another clock
-    for path in products():
+    date(linked(), linked_from())
+
+
+def date(made, made_from):
+    """Dates what was made now, or as late as what it was made from: that may be from another clock."""
+    now = max(time.time(), newest(made_from))
+    for path in made:
         os.utime(path, (now, now))
-    say('built in %d s' % (time.monotonic() - start))
 
 
 def prove(rt, at_once):
@@ -148,7 +170,7 @@ class Progress:
 
     def __init__(self, names):
         self.names, self.done, self.size_proved, self.start = names, 0, 0, time.monotonic()
-        self.sizes = {name: size_of(os.path.join(ROOT, 'crates', name)) for name in names}
+        self.sizes = {name: sum(map(os.path.getsize, sources([name]))) for name in names}
 
     def takes(self, line):
         """Takes in a line that says that a crate is proved; of one that was before it tells nothing of the time."""
@@ -166,10 +188,6 @@ class Progress:
         spent = time.monotonic() - self.start
         about = ', about %s left' % duration(spent * left / self.size_proved) if self.size_proved else ''
         return 'crate %d of %d%s' % (min(self.done + 1, len(self.names)), len(self.names), about)
-
-
-def size_of(folder):
-    return sum(os.path.getsize(os.path.join(at, file)) for at, _, files in os.walk(folder) for file in files)
 
 
 def duration(seconds):
@@ -191,8 +209,9 @@ def toolchain(kit, *path):
 def link(kit):
     """The shared library and the worker, by the kit's own linker and compiler, so that no other need be there."""
     lib = lambda name: toolchain(kit, 'lib', name)
-    run(toolchain(kit, 'bin', 'ld.lld'), '-shared', '-soname', 'libamphorust.so', '-o', LIBRARY, '--whole-archive', ARCHIVE,
-        '--no-whole-archive', lib('libc.so.6'))
+    linker = toolchain(kit, 'bin', 'ld.lld')
+    made(LIBRARY, linker, '-shared', '-soname', 'libamphorust.so', '--whole-archive', ARCHIVE, '--no-whole-archive',
+         lib('libc.so.6'))
     if LOADS:
         return
     headers = os.path.join(FOLDER, 'include')
@@ -200,20 +219,22 @@ def link(kit):
     for name, text in HEADERS.items():
         with open(os.path.join(headers, name), 'w') as header:
             header.write(text)
-    run(toolchain(kit, 'bin', 'clang'), '--target=x86_64-linux-gnu', '-std=c99', '-O2', '-fPIE', '-nostdinc', '-isystem',
-        headers, '-I', os.path.join(ROOT, 'include'), '-c', os.path.join(ROOT, 'tools', 'worker.c'), '-o', WORKER + '.o')
-    run(toolchain(kit, 'bin', 'ld.lld'), '-pie', '--dynamic-linker', '/lib64/ld-linux-x86-64.so.2', '-o', WORKER,
-        lib('Scrt1.o'), lib('crti.o'), lib('crtbeginS.o'), WORKER + '.o', ARCHIVE, lib('libc.so.6'),
-        lib('libc_nonshared.a'), lib('crtendS.o'), lib('crtn.o'))
+    made(WORKER + '.o', toolchain(kit, 'bin', 'clang'), '--target=x86_64-linux-gnu', '-std=c99', '-O2', '-fPIE',
+         '-nostdinc', '-isystem', headers, '-I', os.path.join(ROOT, 'include'), '-c', os.path.join(ROOT, 'tools', 'worker.c'))
+    made(WORKER, linker, '-pie', '--dynamic-linker', '/lib64/ld-linux-x86-64.so.2', lib('Scrt1.o'), lib('crti.o'),
+         lib('crtbeginS.o'), WORKER + '.o', ARCHIVE, lib('libc.so.6'), lib('libc_nonshared.a'), lib('crtendS.o'),
+         lib('crtn.o'))
 
 
-def run(*words):
+def made(path, *words):
+    """Runs a compiler or linker; what it makes is there as a whole or not at all."""
     try:
-        ran = subprocess.run(words, capture_output=True, text=True, errors='replace')
+        ran = subprocess.run(words + ('-o', path + '.new'), capture_output=True, text=True, errors='replace')
     except OSError as fault:
         raise CannotJudge('does not run: %s' % fault.strerror.lower(), file=words[0])
     if ran.returncode != 0:
-        raise CannotJudge('not built: %s' % (ran.stderr.strip() or 'ended with %d' % ran.returncode), file=words[0])
+        raise CannotJudge('not built: %s' % (ran.stderr.strip() or 'ended with %d' % ran.returncode), file=named(path))
+    os.replace(path + '.new', path)
 
 
 def worker_call():
@@ -221,8 +242,8 @@ def worker_call():
     rt = shutil.which('rt')
     kit = kit_of(rt) if rt or os.environ.get('RATTLE_HOME') else None
     if kit is None:
-        raise CannotJudge('is for x86-64, and this machine is %s: rt, whose emulator runs it here, is not there: put the '
-                          'bin folder of the Rattle kit on the PATH' % MACHINE, file=named(WORKER))
+        raise CannotJudge('is for x86-64, and this machine is %s: rt, whose emulator runs it here, is not there: put '
+                          'the bin folder of the Rattle kit on the PATH' % MACHINE, file=named(WORKER))
     libraries = toolchain(kit, 'lib')
     return [toolchain(kit, 'bin', 'qemu-x86_64'), os.path.join(libraries, 'ld-linux-x86-64.so.2'), '--library-path',
             libraries, WORKER]

@@ -41,7 +41,8 @@ def line_of(causes):
     nearness, cause, passed = Nearness(), causes[0], []
     while cause.under:
         alternative = nearness.nearest(cause)
-        passed.append('of %d%s (%s)' % (len(cause.under), '' if passed else ' alternatives', fragment(alternative.place)))
+        what = '' if passed else ' alternatives'
+        passed.append('of %d%s (%s)' % (len(cause.under), what, fragment(alternative.place)))
         cause = alternative.causes[0]
     more = len(nearness.leaves(causes)) - 1
     return told(cause) + (', the nearest ' + ', then '.join(passed) if passed else '') + (

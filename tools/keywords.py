@@ -27,8 +27,8 @@ NO_CLAUSE = {
 }
 
 OTHERS = ('type', 'enum', 'const', 'required', 'properties', '$schema', '$id', '$ref', '$anchor', '$dynamicAnchor',
-          '$defs', '$comment', '$vocabulary', 'definitions', 'title', 'description', 'default', 'examples', 'deprecated',
-          'readOnly', 'writeOnly', 'format', 'contentEncoding', 'contentMediaType', 'contentSchema')
+          '$defs', '$comment', '$vocabulary', 'definitions', 'title', 'description', 'default', 'examples',
+          'deprecated', 'readOnly', 'writeOnly', 'format', 'contentEncoding', 'contentMediaType', 'contentSchema')
 KNOWN = frozenset(OTHERS).union(NUMBERS, SIZES, SCHEMA_LISTS, SCHEMAS, NO_CLAUSE)
 
 

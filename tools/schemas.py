@@ -112,7 +112,8 @@ class SchemaReader:
         made = Structured(self.place, keyword, values)
         self.in_range(made.leaves)
         self.added.update(made.clauses)
-        return Clause(NOT, keyword, None, (Entry((keyword,), made.place, shown=tuple(map(json_text, values.values()))),))
+        shown = tuple(map(json_text, values.values()))
+        return Clause(NOT, keyword, None, (Entry((keyword,), made.place, shown=shown),))
 
     def in_range(self, values):
         for path, value in values.items():
@@ -154,7 +155,8 @@ class SchemaReader:
     def schema_list(self, keyword, value):
         if not isinstance(value, list) or not value:
             return self.fault('must be an array of at least one schema', keyword)
-        return Clause(SCHEMA_LISTS[keyword], keyword, None, tuple(self.entry(keyword, str(i)) for i in range(len(value))))
+        entries = tuple(self.entry(keyword, str(i)) for i in range(len(value)))
+        return Clause(SCHEMA_LISTS[keyword], keyword, None, entries)
 
     def one_schema(self, keyword, value):
         if keyword == 'items' and isinstance(value, list):
