@@ -1,6 +1,12 @@
 """More tables of tests/command.py: which cause is told of alternatives, structured values, and lists that are cut."""
 from command_cases import LONG, chain, to
 
+def deep(count):
+    """An array of such arrays, where that many choices lead from one schema to the next on the same value."""
+    defs = {'s%d' % i: {'anyOf': [{'type': 'string'}, to(i + 1, title='t')]} for i in range(count)}
+    return dict(to(0), **{'$defs': dict(defs, **{'s%d' % count: {'type': 'array', 'items': to(0)}})})
+
+
 # schema, record as JSON text, what is said of it after its name and "invalid": of alternatives that all fail the nearest
 # is told, down to a leaf.
 SHAPES = {'oneOf': [{'properties': {'kind': {'const': 'circle'}, 'r': {'type': 'number'}}, 'required': ['kind', 'r']},
@@ -30,8 +36,11 @@ NEAREST = [
      '/b/c: not allowed here (#/anyOf/1/properties/b/properties/c), the nearest of 2 alternatives (#/anyOf/1)'),
     # A choice whose alternatives all lead on to the same one, in a chain: told in a time that does not double with each.
     (chain(31, lambda i: {'anyOf': [to(i), to(i)]}), '5',
-     'is 5, must be null (#/$defs/s31/type), the nearest of 2 alternatives (#/anyOf/0), '
-     + ', '.join('then of 2 (#/$defs/s%d/anyOf/0)' % i for i in range(1, 31))),
+     'is 5, must be null (#/$defs/s31/type), the nearest of 2 alternatives (#/anyOf/0), then of 2 (#/$defs/s1/anyOf/0), '
+     'then of 29 more choices'),
+    # Choices on each of 32 levels, below each other.
+    (deep(14), '[' * 31 + '1' + ']' * 31, '/0' * 31 + ': is 1, must be string (#/$defs/s0/anyOf/0/type), the nearest of 2 '
+     'alternatives (#/$defs/s0/anyOf/1), then of 2 (#/$defs/s1/anyOf/1), then of 433 more choices'),
 ]
 
 # Structured values in enum and const, which the judge does not compare yet: schemas stand for them. With the verdict.

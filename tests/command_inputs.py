@@ -39,6 +39,10 @@ class Inputs:
         units = [json.loads(line) for line in out.splitlines()]
         self.equal('--json of lines', ([(unit['file'], unit['line'], unit.get('valid')) for unit in units], err, status),
                    ([('q.jsonl', 1, True), ('q.jsonl', 3, False), ('q.jsonl', 5, None), ('q.jsonl', 6, True)], '', 2))
+        self.write('q.jsonl', '[]\n' + '[' * 100_000 + '\n{}\n')
+        self.equal('nested deeply, after a cause was told', self.run('check', 's.json', 'q.jsonl'), (
+            'q.jsonl:1: invalid: is [], must be object (#/type)\nq.jsonl:3: valid\n',
+            'q.jsonl:2: nested too deeply to be read: a record has at most 32 levels\n', 2))
         self.equal('no lines', self.run('check', 's.json', self.write('e.jsonl', '\n')), ('', '', 0))
 
     def many_lines(self):

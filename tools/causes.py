@@ -2,6 +2,7 @@
 from urllib.parse import quote
 
 from tools.fault import fragment, pointer
+from tools.words import listed
 
 OWN_TESTS = (None, 'type', 'enum', 'const')
 
@@ -45,8 +46,8 @@ def line_of(causes):
         passed.append('of %d%s (%s)' % (len(cause.under), what, fragment(alternative.place)))
         cause = alternative.causes[0]
     more = len(nearness.leaves(causes)) - 1
-    return told(cause) + (', the nearest ' + ', then '.join(passed) if passed else '') + (
-        ', and %d more' % more if more else '')
+    nearest = ', the nearest ' + listed(passed, ', then ', ', then of %d more %s', 'choice') if passed else ''
+    return told(cause) + nearest + (', and %d more' % more if more else '')
 
 
 def told(cause):

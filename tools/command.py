@@ -129,7 +129,8 @@ def check_record(teller, judge, rules, source):
         teller.valid(source)
         return ALL_VALID
     if not teller.quiet:
-        teller.invalid(source, explain.causes_of(record, rules, answer.cells), rules.references)
+        with explain.deep_calls():
+            teller.invalid(source, explain.causes_of(record, rules, answer.cells), rules.references)
     return SOME_INVALID
 
 

@@ -1,6 +1,7 @@
 """Why a record is invalid: from the root along the failed pairs that the judge has settled."""
 import sys
 from collections import namedtuple
+from contextlib import contextmanager
 
 from tools.fault import fragment
 from tools.keywords import NOT, UNGUARDED
@@ -24,9 +25,19 @@ CALLS_MAX = 20_000
 
 def causes_of(record, rules, cells):
     """The causes of an invalid record, in the order of judging, each once."""
-    sys.setrecursionlimit(max(sys.getrecursionlimit(), CALLS_MAX))
     causes = Walk(record, rules, cells).below([(0, rules.root)], ())
     return list({id(cause): cause for cause in causes}.values())
+
+
+@contextmanager
+def deep_calls():
+    """Lets calls go as deep as causes do; what is read is kept from nesting so deeply by the limit before."""
+    before = sys.getrecursionlimit()
+    sys.setrecursionlimit(max(before, CALLS_MAX))
+    try:
+        yield
+    finally:
+        sys.setrecursionlimit(before)
 
 
 class Walk:

@@ -37,7 +37,7 @@ def sources(files, by_lines, but):
     """The sources in the files and folders; of folders without the files that are schemas."""
     but = {os.path.realpath(file) for file in but}
     for file in files:
-        if os.path.isdir(file):
+        if file != '-' and os.path.isdir(file):
             yield from in_folder(file, by_lines, but)
         else:
             yield from in_file(file, by_lines)
