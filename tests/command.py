@@ -192,7 +192,7 @@ class Tests(Runs):
             self.equal(('the ways', identity), (told, err, status), (wanted, '', 1))
 
     def usage(self):
-        for arguments, said in (([], 'the following arguments are required: COMMAND, FILE'),
+        for arguments, said in (([], 'the following arguments are required: COMMAND'),
                                 (['chek', 'a', 'b'], "argument COMMAND: invalid choice: 'chek'"),
                                 (['check'], 'check takes a schema, and records to be judged by it'),
                                 (['check', '--jsn', 'a', 'b'], 'unrecognized arguments: --jsn'),
