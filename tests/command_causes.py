@@ -74,5 +74,7 @@ CUT = [
      'missing %s, and 22 more names (#/required)' % ', '.join('"name%02d"' % i for i in range(8))),
     ({'oneOf': [{'minimum': -i} for i in range(60)]}, '0',
      'fits %s and 37 more alternatives, must fit only one (#/oneOf)' % ', '.join(map(str, range(23)))),
+    ({'items': {'allOf': [{'minimum': i} for i in range(1000)]}}, '[%s-1]' % ('-1,' * 1022),
+     '/0: is -1, must be at least 0 (#/items/allOf/0/minimum), and over 9999 more'),
     ({'not': {'enum': [LONG[:999], 1]}}, '1', 'fits what it must not: {"enum":["%s... (#/not)' % (67 * 'x')),
 ]

@@ -155,9 +155,12 @@ class Inputs:
             '', 's.json: #/a: two members of this name\ns.json: #/a/b: two members of this name\n'
             's.json: #/a/c: two members of this name\ns.json: #/d: a lone surrogate, which UTF-8 cannot hold\n', 2))
         self.write('s.json', True)
-        self.equal('all faults of a record', self.run('check', 's.json', self.write('r.json', '[1e10, {"a": 1e-10}]')), (
-            '', 'r.json: /0: the number 1e10 is out of range: at most 9 digits, and 9 places after the point\n'
-            'r.json: /1/a: the number 1e-10 is out of range: at most 9 digits, and 9 places after the point\n', 2))
+        self.write('r.json', '[1e10, {"a": 1e-10}, 1e11]')
+        line = 'r.json: %s: the number %s is out of range: at most 9 digits, and 9 places after the point'
+        self.equal('a record with several faults', self.run('check', 's.json', 'r.json'),
+                   ('', line % ('/0', '1e10') + ', and 2 more\n', 2))
+        self.equal('all faults of a record', self.run('check', '-v', 's.json', 'r.json'), (
+            '', ''.join(line % one + '\n' for one in (('/0', '1e10'), ('/2', '1e11'), ('/1/a', '1e-10'))), 2))
 
     def slips(self):
         """Unknown keywords that are nearly known ones, and format, are warned of; --strict makes them errors."""

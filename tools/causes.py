@@ -37,7 +37,7 @@ class Nearness:
         return list(found.values())
 
 
-def line_of(causes):
+def line_of(causes, are_all):
     """The first cause on one line, of alternatives down the nearest, and how many more there are."""
     nearness, cause, passed = Nearness(), causes[0], []
     while cause.under:
@@ -47,7 +47,7 @@ def line_of(causes):
         cause = alternative.causes[0]
     more = len(nearness.leaves(causes)) - 1
     nearest = ', the nearest ' + listed(passed, ', then ', ', then of %d more %s', 'choice') if passed else ''
-    return told(cause) + nearest + (', and %d more' % more if more else '')
+    return told(cause) + nearest + (', and %s%d more' % ('' if are_all else 'over ', more) if more else '')
 
 
 def told(cause):

@@ -5,7 +5,6 @@ from collections import Counter
 
 from tools import VERSION, building, explain, inputs, library, refusals, sheets, telling
 from tools.fault import CannotJudge
-from tools.inputs import Source
 from tools.keywords import slips
 from tools.records import record_of
 from tools.references import References
@@ -101,7 +100,7 @@ def check(options):
         judge = library.opened()
         refusals.refuse_rules(judge.check(rules.sheet), rules)
     except CannotJudge as fault:
-        teller.not_judged(Source(schema_file, None), fault)
+        teller.schema_fault(schema_file, fault)
         return NOT_JUDGED
     if not files:
         teller.in_order(schema_file, schemas_in(rules))
@@ -123,14 +122,15 @@ def check_record(teller, judge, rules, source):
         answer = judge.judge(record.sheet)
         refusals.refuse_record(answer, record)
     except CannotJudge as fault:
-        teller.not_judged(source, fault)
+        teller.record_fault(source, fault)
         return NOT_JUDGED
     if answer.word == 'valid':
         teller.valid(source)
         return ALL_VALID
     if not teller.quiet:
         with explain.deep_calls():
-            teller.invalid(source, explain.causes_of(record, rules, answer.cells), rules.references)
+            causes = explain.causes_of(record, rules, answer.cells, teller.most_causes())
+            teller.invalid(source, causes, rules.references)
     return SOME_INVALID
 
 
@@ -144,7 +144,7 @@ def bundle(options):
             raise CannotJudge('with its schema %d bytes of sheets, and the bench program reads at most %d'
                               % (len(written), sheets.BUNDLE_MAX))
     except CannotJudge as fault:
-        teller.not_judged(Source(file, None), fault)
+        teller.schema_fault(file, fault)
         return NOT_JUDGED
     sys.stdout.buffer.write(written)
     sys.stdout.buffer.flush()
@@ -156,7 +156,7 @@ def build(options):
     try:
         building.make_ready(teller.say, teller.say_for_now)
     except CannotJudge as fault:
-        teller.not_judged(Source(building.named(building.LIBRARY), None), fault)
+        teller.schema_fault(building.named(building.LIBRARY), fault)
         return NOT_JUDGED
     return ALL_VALID
 

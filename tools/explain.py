@@ -14,6 +14,7 @@ from tools.words import LIST_MAX, all_of, cut, must_be_one_of, test_words
 # keyword stands, None for that of a schema that is false; under: of a choice that nothing fits, each alternative.
 Cause = namedtuple('Cause', 'instance path place keyword words under')
 Alternative = namedtuple('Alternative', 'place causes')
+Causes = namedtuple('Causes', 'list are_all')
 
 ABOUT = {code: kind for kind, codes in ((Number, (10, 11, 12, 13, 14)), (str, (20, 21)), (list, (22, 23, 43, 44, 61)),
                                         (dict, (24, 25, 26, 40, 42, 60))) for code in codes}
@@ -23,10 +24,12 @@ NO_CHOICE, CHOICES, ONE_OF = (30, 34), (31, 32), 32     # allOf and $ref; anyOf 
 CALLS_MAX = 20_000
 
 
-def causes_of(record, rules, cells):
-    """The causes of an invalid record, in the order of judging, each once."""
-    causes = Walk(record, rules, cells).below([(0, rules.root)], ())
-    return list({id(cause): cause for cause in causes}.values())
+def causes_of(record, rules, cells, most):
+    """The causes of an invalid record, in the order of judging, each once; from so many on, no more than tell of each
+    failed schema one."""
+    walk = Walk(record, rules, cells, most)
+    causes = walk.below([(0, rules.root)], ())
+    return Causes(list({id(cause): cause for cause in causes}.values()), walk.count < most)
 
 
 @contextmanager
@@ -41,8 +44,8 @@ def deep_calls():
 
 
 class Walk:
-    def __init__(self, record, rules, cells):
-        self.record, self.rules, self.cells = record, rules, cells
+    def __init__(self, record, rules, cells, most):
+        self.record, self.rules, self.cells, self.most, self.count = record, rules, cells, most, 0
         self.schemas = len(cells) // len(record.rows)
         self.first_cause, self.known_marks = {}, {}
 
@@ -122,6 +125,8 @@ class Walk:
             found = self.clause_causes(j, place, path, clause, marks_are_lost)
             marks_are_lost = marks_are_lost or clause.code in UNGUARDED and found != []
             causes += found
+            if causes and self.count >= self.most:
+                break
         causes = causes or [Cause(self.record.places[j], path, place, None, 'does not hold', [])]
         self.first_cause[pair] = causes[0]
         return causes
@@ -138,8 +143,12 @@ class Walk:
         return [self.cause(j, place, path, clause, words)] if words else []
 
     def below(self, applied, path):
-        return [cause for j, entry in applied
-                for cause in self.causes(j, entry.target, path + entry.path + entry.through)]
+        causes = []
+        for j, entry in applied:
+            causes += self.causes(j, entry.target, path + entry.path + entry.through)
+            if causes and self.count >= self.most:
+                break
+        return causes
 
     def choice_causes(self, j, place, path, clause):
         """anyOf, oneOf and not: what failed is the choice; if nothing fits, the alternatives stand under it."""
@@ -169,4 +178,5 @@ class Walk:
 
     def cause(self, j, place, path, clause, words, under=()):
         keyword = () if clause.keyword is None else (clause.keyword,)
+        self.count += 1
         return Cause(self.record.places[j], path + keyword, place + keyword, clause.keyword, words, list(under))

@@ -5,7 +5,9 @@ import sys
 import time
 
 from tools import causes
+from tools.inputs import Source
 
+ENOUGH = 10_000         # causes of one record, if only one is shown
 FEW = 300               # records up to which nothing is said of progress
 EVERY = 0.1             # seconds
 
@@ -24,25 +26,38 @@ class Teller:
     def valid(self, source):
         self.tell(dict(named(source), valid=True), one_line('%s: valid' % name_of(source)))
 
+    def most_causes(self):
+        """How many causes are worth finding: of one line, not more than people like to hear of."""
+        return sys.maxsize if self.json or self.verbose else ENOUGH
+
     def invalid(self, source, found, references):
-        """found are the causes; none if nobody asks for them."""
+        """found are the causes."""
         if self.json:
-            units = causes.units_of(found, references)
+            units = causes.units_of(found.list, references)
             self.tell(dict(named(source), valid=False, errors=units), None)
         elif self.verbose:
             self.tell(None, '\n'.join([one_line('%s: invalid' % name_of(source))]
-                                      + [one_line(line) for line in causes.lines_of(found)]))
+                                      + [one_line(line) for line in causes.lines_of(found.list)]))
         else:
-            self.tell(None, one_line('%s: invalid: %s' % (name_of(source), causes.line_of(found))))
+            self.tell(None, one_line('%s: invalid: %s' % (name_of(source), causes.line_of(*found))))
 
-    def not_judged(self, source, fault):
+    def schema_fault(self, file, fault):
+        """All that is wrong with a schema, each as a finding of its own."""
         for one in fault.faults:
-            where = source if one.file is None else source._replace(file=one.file, line=None)
-            words = ': '.join(part for part in (name_of(where), one.place, one.words) if part)
-            if self.json:
-                self.tell(dict(named(where), error=one.words, place=one.place), None)
-            else:
-                self.note(words)
+            self.not_judged(Source(one.file or file, None), one.place, one.words)
+
+    def record_fault(self, source, fault):
+        """Why a record is not judged: one finding, and how much more is wrong with it; all of it by -v."""
+        where = source if fault.file is None else Source(fault.file, None)
+        told, more = fault.faults if self.verbose else fault.faults[:1], len(fault.faults) - 1
+        for one in told:
+            self.not_judged(where, one.place, one.words + (', and %d more' % more if more and not self.verbose else ''))
+
+    def not_judged(self, where, place, words):
+        if self.json:
+            self.tell(dict(named(where), error=words, place=place), None)
+        else:
+            self.note(': '.join(part for part in (name_of(where), place, words) if part))
 
     def warn(self, file, slips):
         for one in slips:
