@@ -114,6 +114,12 @@ class Exits:
         command, rt = judges.fresh_clone(str(clone), ['laws', 'judge', 'hub']), str(tools / 'rt')
         run = lambda path=str(tools): self.runs.run('check', 'null.json', 'r.json', command=command, PATH=path,
                                                     RATTLE_HOME=machine.kit())
+        judges.write_program(rt, '#!/bin/sh\nexit 1\n')
+        (clone / 'target').write_text('no folder')
+        self.equal('no folder to build in', run(), (
+            '', 'target/lib/libamphorust.so: not built: %s/target/lib: not a directory\n' % clone, 2))
+        (clone / 'target').unlink()
+        os.remove(rt)
         self.equal('no rt', run(), ('', 'target/lib/libamphorust.so: not built yet, and rt, which proves and builds it, is '
                                     'not there: put the bin folder of the Rattle kit on the PATH\n', 2))
         judges.write_program(rt, '#!/bin/sh\necho "refused: $*"\nexit 1\n')

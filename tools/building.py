@@ -54,11 +54,14 @@ def make_ready(say, at_once=None):
         raise CannotJudge('%s, and rt, which proves and builds it, is not there: put the bin folder of the Rattle kit '
                           'on the PATH' % ('older than a source' if os.path.exists(LIBRARY) else 'not built yet'),
                           file=named(LIBRARY))
-    os.makedirs(FOLDER, exist_ok=True)
-    with open(os.path.join(FOLDER, '.lock'), 'w') as lock:
-        fcntl.flock(lock, fcntl.LOCK_EX)        # two builds at once would write the same files
-        if not is_ready():
-            build(rt, say, at_once or say)
+    try:
+        os.makedirs(FOLDER, exist_ok=True)
+        with open(os.path.join(FOLDER, '.lock'), 'w') as lock:
+            fcntl.flock(lock, fcntl.LOCK_EX)        # two builds at once would write the same files
+            if not is_ready():
+                build(rt, say, at_once or say)
+    except OSError as fault:
+        raise CannotJudge('not built: %s: %s' % (fault.filename, fault.strerror.lower()), file=named(LIBRARY))
 
 
 def is_ready():
