@@ -99,8 +99,9 @@ class Inputs:
                    ('', 'bib.json: #/a/b: two members of this name\n', 2))
         self.equal('no $id', self.run('check', self.write('t.json', True), '-r', 'r.json'), (
             '', 'r.json: #: a further schema document is found by its $id, and this has none\n', 2))
-        self.equal('no such file', self.run('check', 't.json', '-r', 'none.json'),
-                   ('', 'none.json: no such file or directory\n', 2))
+        self.equal('documents that cannot be read', self.run('check', self.write('t.json', '['), '-r', 'none.json', 'bib.json'), (
+            '', 't.json: line 1, column 2: not JSON: expecting value\nnone.json: no such file or directory\n'
+            'bib.json: #/a/b: two members of this name\n', 2))
 
     def large(self):
         """A file that is too large is refused while it is read: a sparse one of a gigabyte in no more time."""

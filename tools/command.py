@@ -4,7 +4,7 @@ import sys
 from collections import Counter
 
 from tools import VERSION, building, explain, inputs, library, refusals, sheets, telling
-from tools.fault import CannotJudge
+from tools.fault import CannotJudge, refuse_if_any
 from tools.keywords import slips
 from tools.records import record_of
 from tools.references import References
@@ -73,23 +73,20 @@ def options_in(arguments):
 
 def read_rules(file, options, teller):
     """The rules of the schema document and those that it refers to."""
-    further = [(one, read_schema(one, file=one)) for one in options.refer]
-    references = References(read_schema(file), further)
+    documents, faults = [], []
+    for one in [file] + options.refer:
+        try:
+            documents.append((one, inputs.read_document(one)))
+        except CannotJudge as fault:
+            faults += [CannotJudge(each.words, '#' + each.place if each.place.startswith('/') else each.place, one)
+                       for each in fault.faults]
+    refuse_if_any(faults)
+    references = References(documents[0][1], documents[1:])
     if options.strict:
         references.faults += slips(references.schemas)
     else:
         teller.warn(file, slips(references.schemas))
     return rules_of(references)
-
-
-def read_schema(document, file=None):
-    """The value of a schema document; its faults by places in it, and by its file if it is a further one."""
-    try:
-        return inputs.read_document(document)
-    except CannotJudge as fault:
-        for one in fault.faults:
-            one.place, one.file = '#' + one.place if one.place.startswith('/') else one.place, file
-        raise
 
 
 def check(options):

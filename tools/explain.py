@@ -11,7 +11,8 @@ from tools.structured import json_text
 from tools.words import LIST_MAX, all_of, cut, must_be_one_of, test_words
 
 # instance: tokens of the value; path: tokens of the keyword by the way that was gone, through $ref; place: where the
-# keyword stands, None for that of a schema that is false; under: of a choice that nothing fits, each alternative.
+# keyword stands; keyword: its name, None where the schema is false; under: of a choice that nothing fits, each
+# alternative.
 Cause = namedtuple('Cause', 'instance path place keyword words under')
 Alternative = namedtuple('Alternative', 'place causes')
 Causes = namedtuple('Causes', 'list are_all')
