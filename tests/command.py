@@ -85,8 +85,8 @@ class Tests(Runs):
             warned + 'queue.jsonl:3: column 104: not JSON: unterminated string\n', 2))
 
     def documents(self):
-        """What docs/GUIDE.md shows is what is printed, both outputs together."""
-        for name in ('docs/GUIDE.md',):
+        """What README.md and docs/GUIDE.md show is what is printed, both outputs together."""
+        for name in ('README.md', 'docs/GUIDE.md'):
             shown = re.findall(r'^    \$ \./amphorust (check .*)\n((?:    (?!\$).*\n)*)', (ROOT / name).read_text(), re.M)
             self.equal(name + ' shows something', len(shown) > 0, True)
             for arguments, lines in shown:
