@@ -6,8 +6,9 @@
  * 512 records, one after the other. Each answers by one 64-bit number, for every input whatever; what it
  * gives and leaves is proved, for all of them.
  *
- * Link with libhub.a (`rt staticlib hub` writes it to target/staticlib/) and the C library. x86-64 only.
- * `examples/host.c` is a whole host program.
+ * `./install PREFIX` gives libamphorust.a and libamphorust.so to link with, beside the C library; in a clone they are
+ * target/staticlib/libhub.a and target/lib/libamphorust.so (`./amphorust build`). x86-64 only. `examples/host.c` and
+ * `examples/book.c` are whole host programs.
  */
 #ifndef AMPHORUST_H
 #define AMPHORUST_H

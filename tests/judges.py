@@ -1,10 +1,11 @@
-"""A copy of the command for the tests to run, with the proved program or, for a test's own ends, another one."""
+"""Copies of the command for the tests to run: installed, as a user has it, or in a clone that has nothing built."""
 import os
 import shutil
+import subprocess
 
 HERE = os.path.dirname(os.path.abspath(__file__))
 ROOT = os.path.dirname(HERE)
-BENCH = os.path.join(ROOT, 'target', 'bin', 'bench')
+ARCHIVE = os.path.join(ROOT, 'target', 'staticlib', 'libhub.a')
 
 
 def write_program(path, script):
@@ -14,12 +15,21 @@ def write_program(path, script):
     os.chmod(path, 0o755)
 
 
-def command_tree(folder, program=True):
-    """Copies the command with its program, and gives the path of the copy; without a program it is as a fresh clone."""
+def installed(prefix):
+    """Installs the command, and gives its path."""
+    subprocess.run([os.path.join(ROOT, 'install'), prefix], check=True, stdout=subprocess.DEVNULL)
+    return os.path.join(prefix, 'bin', 'amphorust')
+
+
+def fresh_clone(folder, crates):
+    """A clone with crates of these names, each standing on the one before, the last the library's; gives the path of
+    its command."""
     shutil.copy(os.path.join(ROOT, 'amphorust'), folder)
-    shutil.copytree(os.path.join(ROOT, 'tools'), os.path.join(folder, 'tools'),
-                    ignore=shutil.ignore_patterns('__pycache__'))
-    if program:
-        os.makedirs(os.path.join(folder, 'target', 'bin'))
-        shutil.copy(BENCH, os.path.join(folder, 'target', 'bin'))
+    for name in ('tools', 'include'):
+        shutil.copytree(os.path.join(ROOT, name), os.path.join(folder, name),
+                        ignore=shutil.ignore_patterns('__pycache__'))
+    with open(os.path.join(folder, 'crates.txt'), 'w') as lines:
+        lines.write('# the crates\n' + ''.join('%s: %s\n' % pair for pair in zip(crates, [''] + crates)))
+    for crate in crates:
+        write_program(os.path.join(folder, 'crates', crate, 'src', 'lib.rt'), 'a source\n' * 100)
     return os.path.join(folder, 'amphorust')

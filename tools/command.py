@@ -1,203 +1,167 @@
-"""The command line: `amphorust check` and `amphorust bundle`."""
-import json
-import os
+"""The command line: `amphorust check`, `amphorust bundle` and `amphorust build`."""
+import argparse
 import sys
-from collections import namedtuple
+from collections import Counter
 
-from tools import explain, program, refusals
-from tools.fault import CannotJudge
-from tools.reading import read_json
+from tools import VERSION, building, explain, inputs, library, refusals, sheets, telling
+from tools.fault import CannotJudge, refuse_if_any
+from tools.keywords import slips
 from tools.records import record_of
+from tools.references import References
 from tools.schemas import rules_of, schemas_in
 
 ALL_VALID, SOME_INVALID, NOT_JUDGED = 0, 1, 2
 
-USAGE = '''usage: amphorust check [-q | --json] SCHEMA [RECORD...]
+USAGE = '''amphorust check [options] SCHEMA [RECORD ...] [-r FILE ...]
        amphorust bundle SCHEMA RECORD
-       amphorust --help
-'''
-HELP = USAGE + '''
-Judges JSON records by a JSON Schema (Draft 2020-12, one document) with the
-proved program target/bin/bench, which the first call builds.
+       amphorust build
+       amphorust --help | --version'''
+DESCRIPTION = 'Judges JSON records by a JSON Schema (Draft 2020-12), by a proved library.'
+EPILOG = '''check   a line for each record, 'FILE: valid' or 'FILE: invalid: ' and why;
+        exits 0 if all are valid, 1 if some are invalid, 2 if anything could
+        not be judged or told. Without a record it checks the schema: 0 or 2.
+bundle  writes the sheets that the bench program reads
+build   proves and builds the library if it is not there, or older than a source
 
-check   prints a line per record, 'FILE: valid' or 'FILE: invalid: ' and why.
-        Exits 0 if all are valid, 1 if some are invalid, 2 if something could
-        not be judged, which is told on standard error. Without a record it
-        checks the schema: 'FILE: in order: 12 schemas' and 0, or why not and 2.
-bundle  writes the sheets that the program reads to standard output.
+RECORD is a file, - for standard input, a folder (its .json, .jsonl and .ndjson
+files), or a file of lines (.jsonl, .ndjson), each a record.
 
--       as RECORD: standard input
--q      print nothing
---json  print an object per record: file, valid and errors (the draft's output
-        units), or file, error and place if it could not be judged; of a schema
-        in order file and schemas
-
-Judged: type enum const minimum maximum exclusiveMinimum exclusiveMaximum
-multipleOf minLength maxLength minItems maxItems minProperties maxProperties
-required properties additionalProperties items prefixItems allOf anyOf oneOf
-not $ref unevaluatedProperties unevaluatedItems, true and false. Other keywords
-that assert (pattern, contains, uniqueItems, if, ...) are an error; annotations,
-format among them, and unknown keywords assert nothing.
-
-Limits: 128 values and 128 different schemas, 32 levels, 65536 bytes of sheets;
-numbers of at most 9 digits, at most 9 of them after the point; no arrays or
-objects in enum and const; references within the document.
+Not judged, and an error: pattern patternProperties propertyNames contains
+uniqueItems if dependentSchemas dependentRequired $dynamicRef. Not asserted:
+format. Nothing is fetched. At most 1024 values in a record, 1024 schemas, 32
+levels; numbers of at most 9 digits, and 9 places after the point.
 '''
 
-Options = namedtuple('Options', 'command quiet json files')
+
+class Parser(argparse.ArgumentParser):
+    def _print_message(self, message, file=None):
+        """As argparse has it, but help that cannot be written is a fault."""
+        if file is None:
+            raise telling.Unwritten('a closed output cannot be written')
+        file.write(message)
 
 
-class BadUsage(Exception):
-    pass
+def parser():
+    made = Parser('amphorust', usage=USAGE, description=DESCRIPTION, epilog=EPILOG,
+                  formatter_class=argparse.RawDescriptionHelpFormatter)
+    made.add_argument('command', choices=('check', 'bundle', 'build'), metavar='COMMAND', help=argparse.SUPPRESS)
+    made.add_argument('files', nargs='*', metavar='FILE', help=argparse.SUPPRESS)
+    made.add_argument('-r', '--refer', nargs='+', action='extend', default=[], metavar='FILE',
+                      help='schema documents to be referred to by their $id')
+    made.add_argument('-l', '--lines', action='store_true', help='every line of a RECORD file is a record')
+    made.add_argument('-v', '--verbose', action='store_true', help='every cause, on a line each')
+    made.add_argument('-q', '--quiet', action='store_true', help='print nothing')
+    made.add_argument('--json', action='store_true', help="an object for each record, with the draft's output units")
+    made.add_argument('--strict', action='store_true', help='what would be warned of in the schema is an error')
+    made.add_argument('--version', action='version', version='amphorust %s (JSON Schema Draft 2020-12)' % VERSION)
+    return made
 
 
 def options_in(arguments):
-    """The options before '--', and the files; '-' is a file."""
-    end = arguments.index('--') if '--' in arguments else len(arguments)
-    options = [word for word in arguments[:end] if word.startswith('-') and word != '-']
-    files = [word for word in arguments[:end] if word not in options] + arguments[end + 1:]
-    unknown = [word for word in options if word not in ('-q', '--json')]
-    if unknown:
-        raise BadUsage('no such option: %s' % unknown[0])
-    command, files = files[0] if files else None, files[1:]
-    if command not in ('check', 'bundle'):
-        raise BadUsage('check or bundle must come first')
-    if command == 'bundle' and (len(files) != 2 or options):
-        raise BadUsage('bundle takes a schema and a record')
-    if not files:
-        raise BadUsage('check takes a schema, and records to be judged by it')
-    if '-q' in options and '--json' in options:
-        raise BadUsage('-q and --json exclude each other')
-    return Options(command, '-q' in options, '--json' in options, files)
+    made = parser()
+    options = made.parse_intermixed_args(arguments)
+    if options.command == 'check' and not options.files:
+        made.error('check takes a schema, and records to be judged by it')
+    if options.command == 'bundle' and len(options.files) != 2:
+        made.error('bundle takes a schema and a record')
+    if options.command == 'build' and options.files:
+        made.error('build takes no file')
+    if options.quiet + options.json + options.verbose > 1:
+        made.error('-q, -v and --json exclude each other')
+    return options
 
 
-class Teller:
-    """Prints each finding on one line: verdicts on standard output, what could not be judged on standard error."""
-
-    def __init__(self, options):
-        self.quiet, self.json = options.quiet, options.json
-
-    def in_order(self, file, schemas):
-        self.tell({'file': file, 'schemas': schemas},
-                  '%s: in order: %d %s' % (file, schemas, 'schema' if schemas == 1 else 'schemas'))
-
-    def valid(self, file):
-        self.tell({'file': file, 'valid': True}, '%s: valid' % file)
-
-    def invalid(self, file, causes, uri):
-        self.tell({'file': file, 'valid': False, 'errors': explain.units_of(causes, uri)},
-                  '%s: invalid: %s' % (file, explain.line_of(causes)))
-
-    def not_judged(self, file, fault):
-        file = fault.file or file
-        words = ': '.join(part for part in (file, fault.place, fault.words) if part)
-        self.tell({'file': file, 'error': fault.words, 'place': fault.place}, words, sys.stderr)
-
-    def say(self, words):
-        """What goes on while the program is built."""
-        if not self.quiet:
-            print('amphorust: ' + one_line(words), file=sys.stderr, flush=True)
-
-    def tell(self, unit, line, stream=None):
-        if self.json:
-            print(json.dumps(unit, ensure_ascii=True), flush=True)
-        elif not self.quiet:
-            print(one_line(line), file=stream or sys.stdout, flush=True)
-
-
-def one_line(words):
-    """The words with anything that would break or disturb the line written as its escape."""
-    return ''.join(character if character.isprintable() else character.encode('unicode_escape').decode('ascii')
-                   for character in words)
-
-
-def read_file(file):
-    """The JSON value in a file; '-' is standard input."""
-    try:
-        if file == '-':
-            return read_json(sys.stdin.buffer.read())
-        with open(file, 'rb') as opened:
-            return read_json(opened.read())
-    except OSError as fault:
-        raise CannotJudge((fault.strerror or str(fault)).lower())
-
-
-def read_schema(file):
-    try:
-        return rules_of(read_file(file))
-    except CannotJudge as fault:
-        raise CannotJudge(fault.words, '#' + fault.place if fault.place.startswith('/') else fault.place)
+def read_rules(file, options, teller):
+    """The rules of the schema document and those that it refers to."""
+    documents, faults = [], []
+    for one in [file] + options.refer:
+        try:
+            documents.append((one, inputs.read_document(one)))
+        except CannotJudge as fault:
+            faults += [CannotJudge(each.words, '#' + each.place if each.place.startswith('/') else each.place, one)
+                       for each in fault.faults]
+    refuse_if_any(faults)
+    references = References(documents[0][1], documents[1:])
+    if options.strict:
+        references.faults += slips(references.schemas)
+    else:
+        teller.warn(file, slips(references.schemas))
+    return rules_of(references)
 
 
 def check(options):
-    teller, (schema_file, *files) = Teller(options), options.files
+    teller, (schema_file, *files) = telling.Teller(options), options.files
     try:
-        rules = read_schema(schema_file)
-        program.make_ready(teller.say)
-        # Any record would do to learn whether the rules are refused: it is told once, and not of each record.
-        refusals.refuse_rules(program.judged(record_of(None).sheet, rules.sheet), rules)
+        rules = read_rules(schema_file, options, teller)
+        building.make_ready(teller.say, teller.say_for_now)
+        judge = library.opened()
+        refusals.refuse_rules(judge.check(rules.sheet), rules)
     except CannotJudge as fault:
-        teller.not_judged(schema_file, fault)
+        teller.schema_fault(schema_file, fault)
         return NOT_JUDGED
     if not files:
         teller.in_order(schema_file, schemas_in(rules))
-    return max([check_record(teller, rules, file) for file in files], default=ALL_VALID)
+    return check_records(teller, judge, rules, inputs.sources(files, options.lines, [schema_file] + options.refer))
 
 
-def check_record(teller, rules, file):
+def check_records(teller, judge, rules, sources):
+    results = Counter()
+    for source in sources:
+        results[check_record(teller, judge, rules, source)] += 1
+        teller.progress.another(results[SOME_INVALID])
+    teller.progress.clear()
+    return max(results, default=ALL_VALID)
+
+
+def check_record(teller, judge, rules, source):
     try:
-        record = record_of(read_file(file))
-        answer = program.judged(record.sheet, rules.sheet)
+        record = record_of(inputs.record_in(source))
+        answer = judge.judge(record.sheet)
         refusals.refuse_record(answer, record)
     except CannotJudge as fault:
-        teller.not_judged(file, fault)
+        teller.record_fault(source, fault)
         return NOT_JUDGED
     if answer.word == 'valid':
-        teller.valid(file)
+        teller.valid(source)
         return ALL_VALID
-    teller.invalid(file, explain.causes_of(record, rules, answer.settled), rules.uri)
+    if not teller.quiet:
+        with explain.deep_calls():
+            causes = explain.causes_of(record, rules, answer.cells, teller.most_causes())
+            teller.invalid(source, causes, rules.references)
     return SOME_INVALID
 
 
-def write_bundle(options):
-    file = options.files[0]
+def bundle(options):
+    teller, (file, record_file) = telling.Teller(options), options.files
     try:
-        rules = read_schema(file)
-        file = options.files[1]
-        bundle = program.bundle_of(record_of(read_file(file)).sheet, rules.sheet)
+        rules = read_rules(file, options, teller)
+        file = record_file
+        written = sheets.bundle(record_of(inputs.read_document(file)).sheet, rules.sheet)
+        if len(written) > sheets.BUNDLE_MAX:
+            raise CannotJudge('with its schema %d bytes of sheets, and the bench program reads at most %d'
+                              % (len(written), sheets.BUNDLE_MAX))
     except CannotJudge as fault:
-        Teller(options).not_judged(file, fault)
+        teller.schema_fault(file, fault)
         return NOT_JUDGED
-    sys.stdout.buffer.write(bundle)
+    sys.stdout.buffer.write(written)
     sys.stdout.buffer.flush()
     return ALL_VALID
 
 
-def run(arguments):
-    if '--help' in arguments or '-h' in arguments:
-        sys.stdout.write(HELP)
-        return ALL_VALID
+def build(options):
+    teller = telling.Teller(options)
     try:
-        options = options_in(arguments)
-    except BadUsage as fault:
-        sys.stderr.write('amphorust: %s\n%s' % (fault, USAGE))
+        building.make_ready(teller.say, teller.say_for_now)
+    except CannotJudge as fault:
+        teller.schema_fault(building.named(building.LIBRARY), fault)
         return NOT_JUDGED
-    return check(options) if options.command == 'check' else write_bundle(options)
+    return ALL_VALID
 
 
 def main(arguments):
-    """The exit status. No fault, be it of the command itself, shows a traceback."""
+    """The exit status."""
     for stream in (sys.stdout, sys.stderr):
-        stream.reconfigure(errors='backslashreplace')
-    try:
-        status = run(arguments)
-        sys.stdout.flush()
-        return status
-    except BrokenPipeError:
-        os.dup2(os.open(os.devnull, os.O_WRONLY), sys.stdout.fileno())     # nobody reads: nothing is left to flush
-        return NOT_JUDGED
-    except KeyboardInterrupt:
-        return NOT_JUDGED
-    except Exception as fault:
-        print('amphorust: a fault of this command: %s' % one_line(repr(fault)), file=sys.stderr)
-        return NOT_JUDGED
+        if stream is not None:
+            stream.reconfigure(errors='backslashreplace')
+    options = options_in(arguments)
+    return {'check': check, 'bundle': bundle, 'build': build}[options.command](options)

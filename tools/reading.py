@@ -6,8 +6,9 @@ import json
 import re
 from collections import deque
 
-from tools.fault import CannotJudge, pointer
+from tools.fault import CannotJudge, pointer, refuse_if_any
 
+BYTES_MAX = 4 << 20     # of a JSON text: one that the judge takes is shorter, unless it is mostly blanks
 MARK_OF_UTF8 = b'\xef\xbb\xbf'
 STRING_OR_CONSTANT = re.compile(r'"(?:[^"\\]|\\.)*"|NaN|-?Infinity', re.DOTALL)
 
@@ -62,14 +63,26 @@ def exponent(power):
 
 
 class Object(dict):
-    """The members of a JSON object; repeated is the first name that comes a second time, or None."""
+    """The members of a JSON object; repeated are the names that come a second time."""
 
     def __init__(self, members):
         super().__init__(members)
-        self.repeated = None
+        self.repeated = ()
         if len(self) < len(members):
             seen = set()
-            self.repeated = next(name for name, _ in members if name in seen or seen.add(name))
+            self.repeated = tuple(dict.fromkeys(name for name, _ in members if name in seen or seen.add(name)))
+
+
+def read_some(file):
+    """The bytes of an open file, refused as soon as they are too many."""
+    data = file.read(BYTES_MAX + 1)
+    if len(data) > BYTES_MAX:
+        raise too_long()
+    return data
+
+
+def too_long():
+    return CannotJudge('more than %d bytes of JSON' % BYTES_MAX)
 
 
 def read_json(data):
@@ -119,22 +132,23 @@ def constant_at(text):
 
 
 def refuse_names_and_strings(value):
-    """Refuses a repeated member name, and strings and names that have no UTF-8 form."""
-    to_visit = deque([((), value)])
+    """Refuses repeated member names, and strings and names that have no UTF-8 form: all of them."""
+    faults, to_visit = [], deque([((), value)])
     while to_visit:
         tokens, value = to_visit.popleft()
         if isinstance(value, str):
-            refuse_lone_surrogate(value, tokens)
+            faults += lone_surrogate(value, tokens)
         elif isinstance(value, Object):
-            if value.repeated is not None:
-                raise CannotJudge('two members of this name', pointer(tokens + (value.repeated,)))
+            faults += [CannotJudge('two members of this name', pointer(tokens + (name,))) for name in value.repeated]
             for name, member in value.items():
-                refuse_lone_surrogate(name, tokens)
+                faults += lone_surrogate(name, tokens)
                 to_visit.append((tokens + (name,), member))
         elif isinstance(value, list):
             to_visit.extend((tokens + (str(place),), item) for place, item in enumerate(value))
+    refuse_if_any(faults)
 
 
-def refuse_lone_surrogate(string, tokens):
-    if any('\ud800' <= character <= '\udfff' for character in string):
-        raise CannotJudge('a lone surrogate, which UTF-8 cannot hold', pointer(tokens))
+def lone_surrogate(string, tokens):
+    if string.isascii() or not any('\ud800' <= character <= '\udfff' for character in string):
+        return []
+    return [CannotJudge('a lone surrogate, which UTF-8 cannot hold', pointer(tokens))]

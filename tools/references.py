@@ -1,11 +1,11 @@
-"""References inside one schema document: by JSON pointer, by $anchor, by $id.
+"""References inside one schema document and to further ones that are given: by JSON pointer, by $anchor, by $id.
 
-A place is the tuple of tokens of a JSON pointer into the document.
+A place is the tuple of tokens of a JSON pointer into the document; in a further one that document comes first in it.
 """
 import re
 from urllib.parse import unquote
 
-from tools.fault import CannotJudge, fragment
+from tools.fault import Document, fault_at, fragment
 
 # Where subschemas stand, also under keywords that the judge does not have: an $id in them is one.
 ONE_SCHEMA = ('not', 'if', 'then', 'else', 'items', 'contains', 'additionalProperties', 'propertyNames',
@@ -13,6 +13,7 @@ ONE_SCHEMA = ('not', 'if', 'then', 'else', 'items', 'contains', 'additionalPrope
 LISTS = ('allOf', 'anyOf', 'oneOf', 'prefixItems')
 BY_NAME = ('properties', 'patternProperties', 'dependentSchemas', '$defs', 'definitions')
 
+ABSOLUTE = re.compile('[A-Za-z][A-Za-z0-9+.-]*:')
 URI = re.compile(r'(?:([^:/?#]+):)?(?://([^/?#]*))?([^?#]*)(?:\?([^#]*))?(?:#(.*))?', re.DOTALL)
 
 
@@ -66,51 +67,70 @@ def subschemas(schema):
 
 
 class References:
-    """The base URI of each schema of the document, and the places that URIs and anchors name."""
+    """The base URI of each schema of the documents, and the places that URIs and anchors name. faults are what is wrong
+    with names and with references that were looked up."""
 
-    def __init__(self, document):
-        self.document = document
-        self.bases, self.resources, self.anchors = {}, {}, {}
-        to_visit = [((), document, '')]
+    def __init__(self, document, further=()):
+        """further are (file, value) of each further document."""
+        self.document, self.faults = document, []
+        self.schemas = {}                       # by place, each that stands where the draft has one
+        self.bases, self.roots = {}, {}         # of a schema's place: the URI and the place of the resource it is in
+        self.resources, self.anchors = {}, {}
+        others = [((Document(file, value),), value, '') for file, value in further]
+        self.faults += [fault_at('a further schema document is found by its $id, and this has none', place)
+                        for place, value, _ in others if not isinstance(value, dict) or '$id' not in value]
+        to_visit = [((), document, '')] + others
         for place, schema, base in to_visit:    # grows by the subschemas of each
             if isinstance(schema, dict):
+                self.schemas[place] = schema
                 base = self.note(place, schema, base)
                 to_visit.extend((place + tokens, below, base) for tokens, below in subschemas(schema))
 
     def note(self, place, schema, base):
         """Notes what the schema is called, and gives the base URI inside it."""
-        if '$id' in schema:
-            base, mark = resolved(base, self.string(place, schema, '$id'))
+        identity = self.string(place, schema, '$id')
+        if identity is not None:
+            base, mark = resolved(base, identity)
             if mark:
-                raise CannotJudge('an $id has no fragment', fragment(place + ('$id',)))
-        if '$id' in schema or place == ():
+                self.faults.append(fault_at('an $id has no fragment', place + ('$id',)))
+        if identity is not None or place == ():
             self.name(self.resources, base, place, '$id')
         for keyword in ('$anchor', '$dynamicAnchor'):
-            if keyword in schema:
-                self.name(self.anchors, (base, self.string(place, schema, keyword)), place, keyword)
+            name = self.string(place, schema, keyword)
+            if name is not None:
+                self.name(self.anchors, (base, name), place, keyword)
         self.bases[place] = base
+        self.roots[place] = place if identity is not None or place == () else self.around(place[:-1])[1]
         return base
 
     def string(self, place, schema, keyword):
-        if not isinstance(schema[keyword], str):
-            raise CannotJudge('must be a string', fragment(place + (keyword,)))
-        return schema[keyword]
+        """What the schema has under the keyword, if it is a string as it should be."""
+        value = schema.get(keyword)
+        if keyword in schema and not isinstance(value, str):
+            self.faults.append(fault_at('must be a string', place + (keyword,)))
+            return None
+        return value
 
     def name(self, names, name, place, keyword):
         if names.setdefault(name, place) != place:
-            raise CannotJudge('%s has this name already' % fragment(names[name]), fragment(place + (keyword,)))
+            self.faults.append(fault_at('%s has this name already' % fragment(names[name]), place + (keyword,)))
 
-    def base_of(self, place):
-        """The base URI at a place; under a keyword that is unknown it is that of the schema around it."""
+    def around(self, place):
+        """(base URI, place of its resource) at a place; under a keyword that is unknown, of the schema around it."""
         while place not in self.bases and place:
             place = place[:-1]
-        return self.bases.get(place, '')
+        return self.bases.get(place, ''), self.roots.get(place, ())
+
+    def absolute(self, place):
+        """(absolute URI, place of its resource) at a place; None if no $id around it gives such a URI."""
+        base, root = self.around(place)
+        return (base, root) if ABSOLUTE.match(base) else None
 
     def target(self, place, reference):
-        """The place that a $ref of the schema at place names."""
-        uri, mark = resolved(self.base_of(place), reference)
+        """The place that a $ref of the schema at place names; None, and a fault more, if it names none."""
+        uri, mark = resolved(self.around(place)[0], reference)
         if uri not in self.resources:
-            raise self.astray(place, 'refers outside this document: %s' % reference)
+            return self.astray(place, 'refers to no document that is given: %s' % reference)
         mark = unquote(mark)
         if mark == '' or mark.startswith('/'):
             tokens = tuple(step.replace('~1', '/').replace('~0', '~') for step in mark.split('/')[1:])
@@ -118,17 +138,19 @@ class References:
         else:
             found = self.anchors.get((uri, mark))
         if found is None or not self.exists(found):
-            raise self.astray(place, 'refers to nothing: %s' % reference)
+            return self.astray(place, 'refers to nothing: %s' % reference)
         return found
 
     def astray(self, place, words):
-        return CannotJudge(words, fragment(place + ('$ref',)))
+        self.faults.append(fault_at(words, place + ('$ref',)))
 
     def at(self, place):
-        """The value at a place of the document; KeyError if there is none."""
+        """The value at a place; KeyError if there is none."""
         value = self.document
         for token in place:
-            if isinstance(value, list) and re.fullmatch('0|[1-9][0-9]{0,8}', token) and int(token) < len(value):
+            if isinstance(token, Document):
+                value = token.value
+            elif isinstance(value, list) and re.fullmatch('0|[1-9][0-9]{0,8}', token) and int(token) < len(value):
                 value = value[int(token)]
             elif isinstance(value, dict):
                 value = value[token]

@@ -1,16 +1,16 @@
-"""What the program does not judge, in words, with the place in the user's file."""
-from tools import program, schemas
-from tools.fault import CannotJudge, fragment, pointer
+"""What the judge refuses, in words, with the place in the user's file."""
+from tools.fault import CannotJudge, fault_at, pointer
+from tools.keywords import UNGUARDED
 
 RECORD_WORDS = {
-    1: 'more than 1024 values, or more than 65535 bytes of names and strings',
+    1: "the record sheet's trailer is wrong",
     2: 'a row breaks the layout of a record sheet',
     3: 'a second member of this name',
     4: 'more than 32 levels deep',
     13: 'a name or a string here is not UTF-8',
 }
 RULE_WORDS = {
-    5: 'more than 1024 schemas, 4096 clauses, 4096 entries or 65535 bytes of names and strings',
+    5: "the rule sheet's trailer is wrong",
     6: 'the layout of a rule sheet is broken',
     7: 'this name stands here a second time',
     8: 'this schema applies itself to the same value again, without end',
@@ -21,24 +21,22 @@ RULE_WORDS = {
 
 def refuse_record(answer, record):
     """Says why there is no verdict on a record, if there is none."""
-    if answer.word == 'too large':
-        raise too_large(len(record.rows), 'values')
     if answer.word == 'refused':
-        raise refused(answer.number, RECORD_WORDS, pointer(record.places[answer.place]))
+        raise CannotJudge(words_of(answer, RECORD_WORDS), pointer(record.places[answer.place]))
 
 
 def refuse_rules(answer, rules):
-    """Says why a schema is not judged by, from the answer on a record that is in order."""
-    if answer.word == 'too large':
-        raise too_large(schemas.schemas_in(rules), 'schemas')
+    """Says why a schema is not judged by, if it is refused."""
     if answer.word == 'refused':
-        raise refused(answer.number, RULE_WORDS, rule_place(answer, rules))
+        raise fault_at(words_of(answer, RULE_WORDS), rule_place(answer, rules))
+
+
+def words_of(answer, words):
+    return 'refused (%d): %s' % (answer.number, words.get(answer.number, 'at place %d' % answer.place))
 
 
 def rule_place(answer, rules):
-    if answer.number == 5:
-        return ''
-    return fragment(on_loop(rules, answer.place) if answer.number == 8 else rules.places[answer.place])
+    return on_loop(rules, answer.place) if answer.number == 8 else rules.places[answer.place]
 
 
 def on_loop(rules, row):
@@ -50,16 +48,8 @@ def reached(rules, place):
     """The places that a schema reaches by one or more unguarded steps."""
     found, waiting = set(), [place]
     while waiting:
-        steps = {entry.target for clause in rules.clauses[waiting.pop()] if clause.code in schemas.UNGUARDED
+        steps = {entry.target for clause in rules.clauses[waiting.pop()] if clause.code in UNGUARDED
                  for entry in clause.entries}
         waiting.extend(steps - found)
         found |= steps
     return found
-
-
-def refused(number, words, place):
-    return CannotJudge('refused (%d): %s' % (number, words[number]), place)
-
-
-def too_large(count, what):
-    return CannotJudge('too large: %d %s, and the program judges at most %d' % (count, what, program.ROWS_MAX))

@@ -3,9 +3,9 @@ import struct
 from collections import namedtuple
 
 NULL, FALSE, TRUE, NUMBER, STRING, ARRAY, OBJECT = range(7)     # kinds of rows
-BUNDLE_MAX = 65_536     # bytes that the program reads
+BUNDLE_MAX = 65_536     # bytes that the bench program reads
 
-Sheet = namedtuple('Sheet', 'words text')
+Sheet = namedtuple('Sheet', 'words text')       # both as bytes
 
 
 class Text:
@@ -36,16 +36,30 @@ def leaf(value, text):
 
 
 def record_sheet(rows, text):
-    return Sheet(flat(rows) + [len(rows), 6 * len(rows), len(text.bytes), 1], bytes(text.bytes))
+    return sheet(flat(rows) + [len(rows), 6 * len(rows), len(text.bytes), 1], text)
 
 
 def rule_sheet(schemas, clauses, entries, text):
     words = flat(schemas) + flat(clauses) + flat(entries)
-    return Sheet(words + [len(schemas), len(clauses), len(entries), len(words), len(text.bytes), 2], bytes(text.bytes))
+    return sheet(words + [len(schemas), len(clauses), len(entries), len(words), len(text.bytes), 2], text)
 
 
-def flat(rows):
-    return [word for row in rows for word in row]
+def sheet(words, text):
+    return Sheet(to_bytes(words), bytes(text.bytes))
+
+
+def rows(record):
+    """How many rows a record sheet has."""
+    return struct.unpack_from('<I', record.words, len(record.words) - 16)[0]
+
+
+def schemas(rules):
+    """How many schemas a rule sheet has."""
+    return struct.unpack_from('<I', rules.words, len(rules.words) - 24)[0]
+
+
+def flat(lines):
+    return [word for line in lines for word in line]
 
 
 def to_bytes(words):
@@ -53,6 +67,6 @@ def to_bytes(words):
 
 
 def bundle(record, rules):
-    """What the program reads: both sheets, then the byte lengths of the four parts."""
-    parts = [to_bytes(record.words), record.text, to_bytes(rules.words), rules.text]
+    """What the bench program reads: both sheets, then the byte lengths of the four parts."""
+    parts = [record.words, record.text, rules.words, rules.text]
     return b''.join(parts) + to_bytes([len(part) for part in parts])

@@ -1,0 +1,102 @@
+"""The records that files, lines of files and folders hold, and schema documents; '-' is standard input."""
+import os
+import sys
+from collections import namedtuple
+from contextlib import contextmanager
+
+from tools.fault import CannotJudge
+from tools.reading import BYTES_MAX, read_json, read_some, too_long
+
+LINES = ('.jsonl', '.ndjson')       # names of files that hold a record on each line
+NAMES = ('.json',) + LINES          # names of files that a folder is searched for
+
+# data: the bytes of a record, or a CannotJudge; line: its line's number, in a file of lines.
+Source = namedtuple('Source', 'file data line', defaults=(None,))
+
+
+def read_document(file):
+    """The JSON value in a file."""
+    with opened(file) as data:
+        return read_json(read_some(data))
+
+
+def record_in(source):
+    """The JSON value of a source."""
+    if isinstance(source.data, CannotJudge):
+        raise source.data
+    try:
+        return read_json(source.data)
+    except CannotJudge as fault:
+        for one in fault.faults:
+            if source.line and one.place.startswith('line 1, '):
+                one.place = one.place[len('line 1, '):]
+        raise
+
+
+def sources(files, by_lines, but):
+    """The sources in the files and folders; of folders without the files that are schemas."""
+    but = {os.path.realpath(file) for file in but}
+    for file in files:
+        if file != '-' and os.path.isdir(file):
+            yield from in_folder(file, by_lines, but)
+        else:
+            yield from in_file(file, by_lines)
+
+
+def in_folder(folder, by_lines, but):
+    faults, found = [], []
+    for at, folders, names in os.walk(folder, onerror=faults.append):
+        folders.sort()
+        found += [os.path.join(at, name) for name in sorted(names) if name.endswith(NAMES)]
+    found = [file for file in found if os.path.realpath(file) not in but]
+    for fault in faults:
+        yield Source(fault.filename, CannotJudge(words_of(fault)))
+    for file in found:
+        yield from in_file(file, by_lines)
+    if not found and not faults:
+        yield Source(folder, CannotJudge('a folder without a file named %s' % ', '.join(NAMES)))
+
+
+def in_file(file, by_lines):
+    """One source, or one for each line that is not blank."""
+    try:
+        with opened(file) as data:
+            if by_lines or file.endswith(LINES):
+                yield from lines_in(file, data)
+            else:
+                yield Source(file, read_some(data))
+    except CannotJudge as fault:
+        yield Source(file, fault)
+
+
+def lines_in(file, data):
+    number = 0
+    while True:
+        number += 1
+        line = data.readline(BYTES_MAX + 1)
+        if len(line) > BYTES_MAX:
+            yield Source(file, too_long(), number)
+            return                  # where such a line ends nobody knows
+        if line.strip():
+            yield Source(file, line.rstrip(b'\r\n'), number)
+        elif not line:
+            return
+
+
+@contextmanager
+def opened(file):
+    """The file, open for reading; what goes wrong with it is said in words."""
+    try:
+        if file != '-':
+            with open(file, 'rb') as data:
+                yield data
+        elif sys.stdin is None:
+            raise CannotJudge('standard input is closed')
+        else:
+            yield sys.stdin.buffer
+    except OSError as fault:
+        raise CannotJudge(words_of(fault))
+
+
+def words_of(fault):
+    return (fault.strerror or str(fault)).lower()

@@ -1,0 +1,87 @@
+/* Makes the library's calls for a command that cannot load the library: for one on a machine that is not x86-64, where
+ * an emulator runs this. `tools/library.py` writes requests and reads answers, and is the only one to do so.
+ *
+ * A request is three words (what, how many words, how many bytes) and then a sheet, its words and its text:
+ *     1  rules: they are kept, and the answer is that of amphorust_check
+ *     2  a record: the answer is that of amphorust_judge by the rules kept, and for an invalid record the cells follow
+ * The end of the input ends it, with 0; anything that is no request, with 1. */
+#include "amphorust.h"
+
+/* The C library's, as its headers have them: those for x86-64 are not on every machine. */
+extern long read(int file, void *to, size_t count);
+extern long write(int file, const void *from, size_t count);
+
+#define WORDS_MAX 32768 /* the longest sheet is one of rules: 2 x 1,024 + 3 x 4,096 + 3 x 4,096 + 6 words */
+#define TEXT_MAX 65536
+
+struct sheet {
+    uint32_t words[WORDS_MAX];
+    uint8_t text[TEXT_MAX];
+    size_t words_length, text_length;
+};
+
+static struct sheet rules, record;
+static uint8_t cells[AMPHORUST_ROOM_MAX];
+static uint32_t list[AMPHORUST_ROOM_MAX];
+
+static int take(void *to, size_t count)
+{
+    for (uint8_t *at = to; count > 0;) {
+        long got = read(0, at, count);
+        if (got <= 0)
+            return 0;
+        at += got;
+        count -= (size_t)got;
+    }
+    return 1;
+}
+
+static int give(const void *from, size_t count)
+{
+    for (const uint8_t *at = from; count > 0;) {
+        long gone = write(1, at, count);
+        if (gone <= 0)
+            return 0;
+        at += gone;
+        count -= (size_t)gone;
+    }
+    return 1;
+}
+
+static int take_sheet(struct sheet *sheet, const uint32_t *request)
+{
+    if (request[1] > WORDS_MAX || request[2] > TEXT_MAX)
+        return 0;
+    sheet->words_length = request[1];
+    sheet->text_length = request[2];
+    return take(sheet->words, 4 * sheet->words_length) && take(sheet->text, sheet->text_length);
+}
+
+static int answer_rules(const uint32_t *request)
+{
+    if (!take_sheet(&rules, request))
+        return 0;
+    uint64_t answer = amphorust_check(rules.words, rules.words_length, rules.text, rules.text_length);
+    return give(&answer, sizeof answer);
+}
+
+static int answer_record(const uint32_t *request)
+{
+    if (!take_sheet(&record, request))
+        return 0;
+    uint64_t answer = amphorust_judge(record.words, record.words_length, record.text, record.text_length,
+                                      rules.words, rules.words_length, rules.text, rules.text_length,
+                                      cells, AMPHORUST_ROOM_MAX, list, AMPHORUST_ROOM_MAX);
+    size_t room = amphorust_room(record.words, record.words_length, rules.words, rules.words_length);
+    return give(&answer, sizeof answer) && (!amphorust_is_invalid(answer) || give(cells, room));
+}
+
+int main(void)
+{
+    uint32_t request[3];
+    while (take(request, sizeof request)) {
+        if (!(request[0] == 1 ? answer_rules(request) : request[0] == 2 && answer_record(request)))
+            return 1;
+    }
+    return 0;
+}
