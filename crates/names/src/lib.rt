@@ -13,6 +13,9 @@ use text::Range;
 pub mod tables;
 pub mod way;
 
+// Up to so many names are compared pair by pair.
+const PAIRS: usize = 4;
+
 // Up to so many names are told apart by their signs.
 const FEW: usize = 16;
 
@@ -92,6 +95,29 @@ fn first_of_few(words: &[u32], text: &[u8], names: Names) -> usize
     i
 }
 
+// The same, for two names or a few more: each is compared with those before it, unless it is long.
+fn first_by_pairs(words: &[u32], text: &[u8], names: Names) -> usize
+    requires { ⌜ Lying (now words) (now text) names × (1 ≤ names .count) ⌝ }
+    ensures { λ r. ⌜ r ≡ lowest (repeatsAt (now (words .entry)) (now (text .entry)) names) (names .count) ⌝ }
+{
+    let n = names.count;
+    let mut i = 1;
+    while i < n {
+        let name = range_at(words, names, i);
+        if LONG < name.length as usize {
+            let w = words;
+            let t = text;
+            let all = names;
+            return first_of_few(w, t, all);
+        }
+        if first_same(words, text, names, i) < i {
+            return i;
+        }
+        i += 1;
+    }
+    i
+}
+
 // The lowest name that an earlier one repeats, or the number of names where none is repeated.
 pub fn first_repeated(words: &[u32], text: &[u8], names: Names) -> usize
     requires { ⌜ Lying (now words) (now text) names ⌝ }
@@ -100,6 +126,9 @@ pub fn first_repeated(words: &[u32], text: &[u8], names: Names) -> usize
     let n = names.count;
     if n <= 1 {
         return n;
+    }
+    if n <= PAIRS {
+        return first_by_pairs(words, text, names);
     }
     if n <= FEW {
         return first_of_few(words, text, names);

@@ -1,4 +1,4 @@
-mod Schemas
-mod Passes
-mod Naming
+pub mod Schemas
+pub mod Passes
+pub mod Naming
 pub mod Readable

@@ -1,5 +1,7 @@
 -- The names of a list clause's entries, as names that lie among the words.
---     names-end, names-lie     they lie as the search for a repeated name asks
+--     lie-end, lie-lying       names of entries one after the other lie as the search for a repeated name asks
+--     lie-repeats              what it finds, by the entries
+--     names-end, names-lie     the names of a clause do
 --     found-within             what that search gives is small
 --     found-named              it is the lowest repeated entry of the clause
 --     unnamed-on               a clause whose entries have no names is passed
@@ -16,7 +18,7 @@ use lib.ListN.{length}
 use Rattle.laws.specs.Lowest.{lowest, lowestFrom}
 use Rattle.laws.proofs.Tests.{decide}
 use Rattle.laws.proofs.Searches.{at-most-end, alike, shifted, none-found}
-use Rattle.text.specs.Part.{part}
+use Rattle.text.specs.Part.{fits, part}
 use Rattle.names.specs.declared.Names.{Names}
 use Rattle.names.specs.Names.{rangeAt, nameAt, repeatsBy, repeatsAt, Lying}
 use Rattle.names.proofs.Repeats.{repeats-agree}
@@ -26,7 +28,7 @@ use Rattle.rulesheet.specs.declared.form.RuleForm.{RuleForm}
 use Rattle.rulesheet.specs.Codes.{entryRange, entryName}
 use Rattle.rulesheet.specs.Sheet.{entry-words, schemasWord, clausesWord, entriesWord, textWord, formOf, clauseAt, entryAt}
 use Rattle.rulesheet.specs.Faults.{parts-max, isList, isNamed, fieldsAt, repeated}
-use Rattle.rulesheet.specs.Read.{RulesLaid}
+use Rattle.rulesheet.specs.Read.{RulesFormed, RulesLaid}
 use Rattle.rulesheet.proofs.Trailers.{facts, form-c, form-e, entries-end}
 use Rattle.rulesheet.proofs.Taking.{list-facts, list-over, entry-taken}
 use Rattle.rulesheet.proofs.Walking.{Walked, walk-past, walk-on}
@@ -44,6 +46,38 @@ named-list Values n = cc
 named-list NamesOf n = refl
 named-list Schemas n = cc
 named-list Members n = refl
+
+-- ---- names of entries that stand one after the other, from `first` on
+
+module _ (ws ts : List ℕ) (form : RuleForm) (formed : RulesFormed ws form) (first count : ℕ) (within : first + count ≤ entriesWord ws) where
+  abbrev lie : Names
+  lie = record { base = form .entries + entry-words * first; stride = entry-words; count = count }
+
+  pub lie-range : (i : ℕ) → rangeAt ws lie i ≡ entryRange (entryAt ws (first + i))
+  unfolding entryAt
+  lie-range i =
+      let s = ap (λ (f : RuleForm). f .entries) (formed .same-form) in
+      let e : form .entries + entry-words * first + entry-words * i ≡ formOf ws .entries + entry-words * (first + i) + 0 = omega arith in
+      let g : form .entries + entry-words * first + entry-words * i + 1 ≡ formOf ws .entries + entry-words * (first + i) + 1 = omega arith in
+      rw (g, e)
+
+  pub lie-name : (i : ℕ) → nameAt ws ts lie i ≡ entryName ts (entryAt ws (first + i))
+  lie-name i = ap (part ts) (lie-range i)
+
+  -- the words of the last name are within the sheet
+  pub lie-end : form .entries + entry-words * (first + count) ≤ length ws
+  lie-end = omega (arith, entries-end ws form formed, form-e ws form formed)
+
+  pub lie-lying : ((i : ℕ) → i < count → fits (length ts) (entryRange (entryAt ws (first + i))) ≡ true) → Lying ws ts lie
+  lie-lying fitting =
+      record {
+        inside = λ (i : ℕ) (l : i < count). omega (arith, lie-end);
+        fitting = λ (i : ℕ) (l : i < count). rw (lie-range i) (fitting i l);
+        few = omega (arith, facts ws form formed .few-entries);
+      }
+
+  pub lie-repeats : (i : ℕ) → repeatsAt ws ts lie i ≡ repeatsBy (λ j. entryName ts (entryAt ws (first + j))) i
+  lie-repeats i = repeats-agree (nameAt ws ts lie) (λ j. entryName ts (entryAt ws (first + j))) i (λ j l. lie-name j)
 
 -- the search through clause k
 module _ (ws ts : List ℕ) (form : RuleForm) (laid : RulesLaid ws form) (k : ℕ) (h : k < form .c) where
@@ -85,38 +119,26 @@ module _ (ws ts : List ℕ) (form : RuleForm) (laid : RulesLaid ws form) (k : �
     list : isList (fieldsAt ws k) ≡ true
     list = named-list (fieldsAt ws k) named
 
+    formed : RulesFormed ws form
+    formed = laid .clauses-laid .schemas-laid .formed
+
+    within : first + count ≤ entriesWord ws
+    within = omega (arith, ends-within list)
+
     abbrev lying : Names
     lying = record { base = form .entries + entry-words * first; stride = entry-words; count = count }
 
-    range-is : (i : ℕ) → rangeAt ws lying i ≡ entryRange (entryAt ws (clauseAt ws k .first + i))
-    unfolding entryAt
-    range-is i =
-        let s = ap (λ (f : RuleForm). f .entries) (laid .clauses-laid .schemas-laid .formed .same-form) in
-        let e : form .entries + entry-words * first + entry-words * i ≡ formOf ws .entries + entry-words * (clauseAt ws k .first + i) + 0 = omega arith in
-        let g : form .entries + entry-words * first + entry-words * i + 1 ≡ formOf ws .entries + entry-words * (clauseAt ws k .first + i) + 1 = omega arith in
-        rw (g, e)
-
-    name-is : (i : ℕ) → nameAt ws ts lying i ≡ entryName ts (entryAt ws (clauseAt ws k .first + i))
-    name-is i = ap (part ts) (range-is i)
-
-    -- the words of the last name are within the sheet
     pub names-end : form .entries + entry-words * (first + count) ≤ length ws
-    names-end = let formed = laid .clauses-laid .schemas-laid .formed in omega (arith, entries-end ws form formed, form-e ws form formed, ends-within list)
+    names-end = lie-end ws ts form formed first count within
 
     pub names-lie : length ts ≡ textWord ws → Lying ws ts lying
     names-lie text =
-        let formed = laid .clauses-laid .schemas-laid .formed in
-        record {
-          inside = λ (i : ℕ) (l : i < count). omega (arith, names-end);
-          fitting =
-              λ (i : ℕ) (l : i < count).
-              let x = clauseAt ws k .first + i in
-              let ok = entry-taken ws form (laid .clauses-laid) k x below list (omega arith) (omega arith) in
-              rw (text, range-is i)
-              (named-fits (fieldsAt ws k) (textWord ws) (schemasWord ws) (entryAt ws x) named
-              (sym ok ∙ laid .entries-fine x (omega (arith, form-e ws form formed, ends-within list))));
-          few = omega (arith, facts ws form formed .few-entries, ends-within list);
-        }
+        lie-lying ws ts form formed first count within
+        (λ (i : ℕ) (l : i < count).
+        let ok = entry-taken ws form (laid .clauses-laid) k (first + i) below list (omega arith) (omega arith) in
+        rw text
+        (named-fits (fieldsAt ws k) (textWord ws) (schemasWord ws) (entryAt ws (first + i)) named
+        (sym ok ∙ laid .entries-fine (first + i) (omega (arith, form-e ws form formed, within)))))
 
     pub found-within : (r : ℕ) → r ≡ lowest (repeatsAt ws ts lying) count → first + r ≤ parts-max
     found-within r e =
@@ -131,5 +153,6 @@ module _ (ws ts : List ℕ) (form : RuleForm) (laid : RulesLaid ws form) (k : �
       where
         agree : (i : ℕ) → 0 ≤ i → i < 0 + clauseAt ws k .count → repeatsAt ws ts lying i ≡ repeated ws ts (clauseAt ws k .first + i)
         agree i low high =
-            repeats-agree (nameAt ws ts lying) (λ j. entryName ts (entryAt ws (clauseAt ws k .first + j))) i (λ j l. name-is j)
+            lie-repeats ws ts form formed first count within i
+            ∙ ap (λ (a : ℕ). repeatsBy (λ j. entryName ts (entryAt ws (a + j))) i) at-first
             ∙ sym (repeated-at list i (omega arith) ∙ rw named)

@@ -1,5 +1,7 @@
 -- Passing the clauses of a schema.
+--     list-fields                  what the fields ask of a list
 --     list-passed, other-passed    what passing one clause finds, by the row and the shape that were read
+--     code-rises                   a code rises, by the code before it
 --     Going                        how far a pass has come
 --     going-begins, going-on       it begins, and goes on past a clause that is not at fault
 --     going-stops, going-ends      what it gives at one that is, and at the end
@@ -34,7 +36,7 @@ use Rattle.rulesheet.proofs.Taking.{schema-within, clause-asked, next-list}
 -- ---- one clause
 
 -- of a list the fields ask nothing of first and count
-list-fields : (fields : Fields) (m first count : ℕ) → isList fields ≡ true → fieldsOk fields m first count ≡ true
+pub list-fields : (fields : Fields) (m first count : ℕ) → isList fields ≡ true → fieldsOk fields m first count ≡ true
 list-fields Unknown m first count l = cc
 list-fields Bare m first count l = cc
 list-fields Types m first count l = cc
@@ -113,13 +115,14 @@ pub record Going (ws : List ℕ) (first end start last k : ℕ) : Type 0 where
   pub at-start : start ≡ listStart ws k
   pub before : (k ≡ first → ⊥) → last ≡ clauseAt ws (k - 1) .code
 
-going-rises : (ws : List ℕ) {first end start last k : ℕ} → Going ws first end start last k
+-- by the code of the clause before, if the schema has one
+pub code-rises : (ws : List ℕ) (first last k : ℕ) → first ≤ k → ((k ≡ first → ⊥) → last ≡ clauseAt ws (k - 1) .code)
     → (eqb k first || ltb last (clauseAt ws k .code)) ≡ rises ws first k
 unfolding rises
-going-rises ws {first} {end} {start} {last} {k} g =
+code-rises ws first last k low before =
     ⊎-elim
     (λ (l : k ≤ first). rw (eq-eqb k first (omega arith)))
-    (λ (l : first < k). rw (ne-eqb k first (λ e. omega arith), g .before (λ e. omega arith)))
+    (λ (l : first < k). rw (ne-eqb k first (λ e. omega arith), before (λ e. omega arith)))
     (le-or-lt k first)
 
 module _ (ws : List ℕ) (form : RuleForm) (laid : SchemasLaid ws form) (s : ℕ) (inside : s < form .m) (row : SchemaRow) (read : row ≡ schemaAt ws s) where
@@ -150,7 +153,7 @@ module _ (ws : List ℕ) (form : RuleForm) (laid : SchemasLaid ws form) (s : ℕ
         }
 
     risen : (eqb k (row .first) || ltb last (clause .code)) ≡ rises ws (row .first) k
-    risen = rw here (going-rises ws g)
+    risen = rw here (code-rises ws (row .first) last k (g .low) (g .before))
 
     passing : {r p : Passed} → r ≡ passedBy ws start clause → r ≡ p → passedBy ws start (clauseAt ws k) ≡ p
     passing e f = rw (← here, ← e) f

@@ -97,7 +97,7 @@ pub fn first_bad_schema(words: &[u32], form: RuleForm) -> u32
 }
 
 // Whether first and count are what these fields ask, with m schemas.
-fn fields_ok(fields: Fields, m: u32, first: u32, count: u32) -> bool
+pub fn fields_ok(fields: Fields, m: u32, first: u32, count: u32) -> bool
     ensures { λ r. ⌜ r ≡ fieldsOk fields m first count ⌝ }
 {
     match fields {
@@ -233,7 +233,7 @@ fn entry_ok(fields: Fields, size: usize, m: u32, entry: EntryRow) -> bool
 }
 
 // The lowest of the entries of a list of these fields that is at fault, or where they end.
-fn first_bad_in(
+pub fn first_bad_in(
     words: &[u32],
     form: RuleForm,
     size: usize,

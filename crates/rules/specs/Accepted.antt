@@ -1,18 +1,24 @@
--- What acceptance of a rule sheet gives.
+-- What acceptance of a rule sheet gives, and what is known once 5 does not apply.
 -- Assumes nothing.
-use mathlib.Core.Bool.{true, false}
+use mathlib.Core.Bool.{true, false, _&&_}
 use mathlib.Core.List.{List}
 use mathlib.Core.Path.{_≡_}
 use Prim.Native.Nat.{ℕ, suc, _+_, _≤_, _<_}
+use lib.ListN.{length}
 use Rattle.utf8.specs.Encoding.{Utf8}
 use Rattle.sheet.specs.Refusals.{accepted}
 use Rattle.rulesheet.specs.declared.form.RuleForm.{RuleForm}
 use Rattle.rulesheet.specs.Ruleset.{next}
 use Rattle.rulesheet.specs.Sheet.{clausesWord, entriesWord, formOf, schemaAt, clauseAt, entryAt, rulesOf}
-use Rattle.rulesheet.specs.Faults.{schemas-max, isList, fieldsAt, schemaStart, listStart, listOver, repeated, entryText}
+use Rattle.rulesheet.specs.Faults.{wordsOk, textOk, schemas-max, isList, fieldsAt, schemaStart, listStart, listOver, repeated, entryText}
 use Rattle.rulesheet.specs.Read.{RulesLaid}
 use Rattle.unguarded.specs.Graph.{Grounded}
 use Rattle.rules.specs.Check.{rulesOutcome}
+
+-- 5 does not apply, and the form is that of the words
+pub record TrailerFine (ws ts : List ℕ) (form : RuleForm) : Type 0 where
+  pub good : (wordsOk ws && textOk ws (length ts)) ≡ true
+  pub same-form : form ≡ formOf ws
 
 -- the words and the text are an accepted rule sheet of that form
 pub record AcceptedRules (ws ts : List ℕ) (form : RuleForm) : Type 0 where

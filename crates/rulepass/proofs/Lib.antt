@@ -1,0 +1,4 @@
+mod Entries
+mod Clauses
+mod Going
+mod Ending

@@ -1,0 +1,27 @@
+-- `after_list` meets its contract. Assumes nothing.
+use borrow.Author.Tests.{not-true, not-false}
+use Rattle.rulepass.proofs.Clauses.{uncounted, counted}
+use borrow.Author.Needs.{needs}
+use Rattle.rulepass.proofs.later.after_list.Statement.{statement}
+use Rattle.rulepass.proofs.later.after_list.Tie as tie
+
+returns : tie.Need-returns
+returns c = uncounted _ (not-true _ (c .if1 .taken))
+
+all-later-requires : tie.Need-all-later-requires
+all-later-requires c κs = search needs
+
+one-more-requires : tie.Need-one-more-requires
+one-more-requires c κs = search needs
+
+returns-2 : tie.Need-returns-2
+returns-2 c = counted _ (not-false _ (c .before .before .if1 .left)) (c .before .all-later .ensures) (c .one-more .ensures)
+
+pub after-list-spec : {M : Type 1} → statement M
+after-list-spec =
+    tie.close
+    (tie.spec
+    returns
+    all-later-requires
+    one-more-requires
+    returns-2)

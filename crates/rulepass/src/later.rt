@@ -1,0 +1,72 @@
+// How many clauses had steps, as long as each step led to a later schema. Contracts cite
+// `specs/Pass.antt`.
+ghost use mathlib.Core.Bool.{true};
+ghost use mathlib.Core.Path.{_≡_};
+ghost use Prim.Native.Nat.{_≤_, _<_};
+ghost use Rattle.rulesheet.specs.Read.{RulesFormed};
+ghost use Rattle.rulepass.specs.Pass.{AllLater, Counted};
+use rulesheet::form::RuleForm;
+use rulesheet::form::entry_at;
+use sheet::record::RuleRow;
+
+// So many clauses with steps, or more, or one step to a schema that is not later: then the count
+// tells nothing.
+pub(crate) const MANY: u32 = 32;
+
+// Whether the schemas that these entries name stand after s.
+fn all_later(words: &[u32], form: RuleForm, s: RuleRow, first: u32, end: u32) -> bool
+    requires { ⌜ RulesFormed (now words) form × (end ≤ form .e) ⌝ }
+    ensures { λ r. ⌜ (r ≡ true → AllLater (now (words .entry)) (s .0) first end) ⌝ }
+{
+    let this = s.0;
+    let mut x = first;
+    while x < end {
+        if entry_at(words, form, x).first <= this {
+            return false;
+        }
+        x += 1;
+    }
+    true
+}
+
+// One more than so many clauses with steps, if the steps of this one lead to later schemas.
+fn one_more(steps: u32, later: bool) -> u32
+    ensures { λ r. ⌜ Counted true (later ≡ true) steps r ⌝ }
+{
+    if !later {
+        return MANY;
+    }
+    if steps < MANY {
+        return steps + 1;
+    }
+    MANY
+}
+
+// The clauses with steps, after one of schema s whose schemas are these entries.
+pub(crate) fn after_list(
+    words: &[u32],
+    form: RuleForm,
+    s: RuleRow,
+    unguarded: bool,
+    first: u32,
+    end: u32,
+    steps: u32,
+) -> u32
+    requires { ⌜ RulesFormed (now words) form × (end ≤ form .e) ⌝ }
+    ensures { λ r. ⌜ Counted unguarded (AllLater (now (words .entry)) (s .0) first end) steps r ⌝ }
+{
+    if !unguarded {
+        return steps;
+    }
+    one_more(steps, all_later(words, form, s, first, end))
+}
+
+// The same, of one whose schema is t.
+pub(crate) fn after_one(s: RuleRow, unguarded: bool, t: u32, steps: u32) -> u32
+    ensures { λ r. ⌜ Counted unguarded (s .0 < t) steps r ⌝ }
+{
+    if !unguarded {
+        return steps;
+    }
+    one_more(steps, s.0 < t)
+}
