@@ -3,3 +3,4 @@ pub mod Orders
 pub mod Strung
 pub mod Numbered
 pub mod Watched
+pub mod Branches

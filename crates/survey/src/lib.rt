@@ -1,5 +1,10 @@
-// The first pass over a JSON text.
+// The first pass over a JSON text, as far as it looks for faults: what each byte does to what is
+// kept (`specs/Watching.antt`, which contracts cite).
 use figure::Figure;
+
+mod numbers;
+mod strings;
+mod values;
 
 // The escape under way and the high surrogate that waits for its low one, or 0; each place is told
 // by how many bytes are left from there on.

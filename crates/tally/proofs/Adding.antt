@@ -8,7 +8,7 @@ use mathlib.Core.List.{List, [], _∷_, _++_, append-nil}
 use mathlib.Core.Logic.{_≢_}
 use mathlib.Core.Option.{none, some}
 use mathlib.Core.Path.{_≡_, refl, sym, _∙_, ap}
-use Prim.Native.Nat.{ℕ, suc, _+_, _*_, _≤_, _<_}
+use Prim.Native.Nat.{ℕ, suc, _+_, _*_, _%_, _≤_, _<_}
 use native.Mathlib.Omega.{arith}
 use borrow.Author.Tests.{eq-eqb, ne-eqb, eqb-true, eqb-false, le-ltb, lt-ltb}
 use lib.Dec.{eqb, ltb}
@@ -234,12 +234,16 @@ module _ (j : ℕ) where
     coded-more n high c s =
         record { values-long = refl; texts-long = add-long (s .texts) (length ks) n; values-more = λ h. omega arith; texts-more = λ h. add-at (s .texts) (length ks) j n h }
 
+    hex-small : (h : Hex) → hexWorth h < 16
+    hex-small (T.decimal d) = omega (arith, d .small)
+    hex-small (T.letter l k p) = omega arith
+
     -- the state after an escape of four digits
-    unit-adds : (r : Role) (h i j′ l : Hex) (s : Tally) → (code : ℕ) → code ≡ ((0 * 16 + hexAt (hex h)) * 16 + hexAt (hex i)) * 16 + hexAt (hex j′)
-        → bytesMore (length ks) (unitSize (s .high) (code * 16 + hexAt (hex l))) (isHigh (code * 16 + hexAt (hex l))) (withCode code s)
+    unit-adds : (r : Role) (h i j′ l : Hex) (s : Tally) → (code : ℕ) → code ≡ ((0 % 0x1000 * 16 + hexAt (hex h)) % 0x1000 * 16 + hexAt (hex i)) % 0x1000 * 16 + hexAt (hex j′)
+        → bytesMore (length ks) (unitSize (s .high) (code % 0x1000 * 16 + hexAt (hex l))) (isHigh (code % 0x1000 * 16 + hexAt (hex l))) (withCode code s)
         ≡ bytesMore (length ks) (unitSize (s .high) (unitCode h i j′ l)) (isHigh (unitCode h i j′ l)) (withCode code s)
     unit-adds r h i j′ l s code e =
-        let whole-code : code * 16 + hexAt (hex l) ≡ unitCode h i j′ l = omega (arith, hex-read h, hex-read i, hex-read j′, hex-read l) in
+        let whole-code : code % 0x1000 * 16 + hexAt (hex l) ≡ unitCode h i j′ l = omega (arith, hex-read h, hex-read i, hex-read j′, hex-read l, hex-small h, hex-small i, hex-small j′) in
         ap (λ (c : ℕ). bytesMore (length ks) (unitSize (s .high) c) (isHigh c) (withCode code s)) whole-code
 
     pub pieces-adds : (r : Role) (x : Str) (rest : List ℕ) (s : Tally) → Adds 0 (hit (length ks) j (strSize (s .high) x)) s (pieces-do tallying rest-as r ks x rest s)
@@ -255,7 +259,7 @@ module _ (j : ℕ) where
         let t : Tally = bytesMore (length ks) 1 false (withCode 0 s) in
         rw (ne-eqb (short m) 0x75 (no-u m)) (sums refl (hit-sum (length ks) j 1 (strSize false ps)) (both (coded-more 1 false 0 s) (pieces-adds r ps rest t)))
     pieces-adds r (T.unit h i j′ l ∷ ps) rest s =
-        let code : ℕ = ((0 * 16 + hexAt (hex h)) * 16 + hexAt (hex i)) * 16 + hexAt (hex j′) in
+        let code : ℕ = ((0 % 0x1000 * 16 + hexAt (hex h)) % 0x1000 * 16 + hexAt (hex i)) % 0x1000 * 16 + hexAt (hex j′) in
         let c : ℕ = unitCode h i j′ l in
         let t : Tally = bytesMore (length ks) (unitSize (s .high) c) (isHigh c) (withCode code s) in
         rw (unit-adds r h i j′ l s code refl)

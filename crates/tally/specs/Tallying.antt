@@ -1,9 +1,9 @@
 -- The first pass over a JSON text, as far as it counts (02, #101): for each level how many values start on it, and how many bytes of text its labels and strings
 -- take. What is kept is moved on by each byte beside the automaton (`along`); the root is on level 0.
 -- Assumes nothing.
-use mathlib.Core.Bool.{Bool, true, false, cond, _&&_, not}
+use mathlib.Core.Bool.{Bool, true, false, cond, _&&_}
 use mathlib.Core.List.{List}
-use Prim.Native.Nat.{ℕ, _+_, _*_}
+use Prim.Native.Nat.{ℕ, _+_, _*_, _%_}
 use lib.Dec.{eqb, ltb}
 use lib.ListN.{length, getD, set, replicate}
 use Rattle.json.specs.Value.{isHigh, isLow}
@@ -48,10 +48,10 @@ abbrev pub unitSize : Bool → ℕ → ℕ
 unitSize high c = cond (high && isLow c) 1 (encodedSize c)
 
 abbrev pub hexCounted : Left → ℕ → ℕ → Tally → Tally
-hexCounted hex4 k b s = withCode (s .code * 16 + hexAt b) s
-hexCounted hex3 k b s = withCode (s .code * 16 + hexAt b) s
-hexCounted hex2 k b s = withCode (s .code * 16 + hexAt b) s
-hexCounted hex1 k b s = let c = s .code * 16 + hexAt b in bytesMore k (unitSize (s .high) c) (isHigh c) s
+hexCounted hex4 k b s = withCode (s .code % 0x1000 * 16 + hexAt b) s
+hexCounted hex3 k b s = withCode (s .code % 0x1000 * 16 + hexAt b) s
+hexCounted hex2 k b s = withCode (s .code % 0x1000 * 16 + hexAt b) s
+hexCounted hex1 k b s = let c = s .code % 0x1000 * 16 + hexAt b in bytesMore k (unitSize (s .high) c) (isHigh c) s
 
 -- a byte, with k brackets open
 abbrev pub counting : Place → ℕ → ℕ → Tally → Tally
@@ -59,7 +59,7 @@ counting ahead k b s = cond (ltb 0x20 b) (valueMore k s) s
 counting firstElement k b s = cond (eqb b 0x5D) s (cond (ltb 0x20 b) (valueMore k s) s)
 counting after k b s = s
 counting name k b s = cond (ltb 0x20 b) (nameMore s) s
-counting firstName k b s = cond (ltb 0x20 b && not (eqb b 0x7D)) (nameMore s) s
+counting firstName k b s = cond (ltb 0x20 b) (cond (eqb b 0x7D) s (nameMore s)) s
 counting colon k b s = s
 counting (word w) k b s = s
 counting minus k b s = s
