@@ -4,3 +4,4 @@ pub mod Strung
 pub mod Numbered
 pub mod Watched
 pub mod Branches
+pub mod Ranges

@@ -1,5 +1,7 @@
 // Numbers: their digits, and the faults 23 and 24 at their end.
+ghost use mathlib.Core.Bool.{cond};
 ghost use mathlib.Core.Path.{_≡_};
+ghost use lib.Dec.{eqb};
 ghost use Prim.Native.Nat.{_<_};
 ghost use Rattle.figure.specs.Figure.{Fair, wholeMore, partMore, powerMore, powerBack};
 ghost use Rattle.survey.specs.Watching.{withFigure, ended, digited, digitOr, isEnd};
@@ -114,6 +116,18 @@ pub(crate) fn power_or_end(depth: u32, byte: u8, s: Watch) -> Watch
 {
     if number_over(byte) {
         return number_ends(depth, s);
+    }
+    power_digit(byte, s)
+}
+
+// Behind the letter e.
+pub(crate) fn in_exponent(byte: u8, s: Watch) -> Watch
+    requires { ⌜ Fair (s .figure) ⌝ }
+    ensures { λ r. ⌜ r ≡ cond (eqb byte 0x2D) (withFigure (powerBack (s .figure)) s) (digited powerMore byte s) ⌝ }
+{
+    if byte == 0x2D {
+        let figure = s.figure;
+        return with_figure(power_back(figure), s);
     }
     power_digit(byte, s)
 }
