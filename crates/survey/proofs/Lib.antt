@@ -3,3 +3,5 @@ pub mod Orders
 pub mod Strung
 pub mod Numbered
 pub mod Watched
+pub mod Branches
+pub mod Ranges

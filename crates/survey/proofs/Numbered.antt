@@ -9,7 +9,7 @@ use mathlib.Core.Option.{none, some}
 use mathlib.Core.Path.{_≡_, refl, sym, _∙_, ap}
 use Prim.Native.Nat.{ℕ, suc, _+_, _-_, _≤_, _<_}
 use native.Mathlib.Omega.{arith}
-use borrow.Author.Tests.{eq-eqb, ne-eqb, eqb-true, eqb-false, le-leb, lt-ltb}
+use borrow.Author.Tests.{eq-eqb, ne-eqb, eqb-true, eqb-false, le-leb, le-ltb, lt-ltb}
 use lib.Dec.{eqb, leb}
 use lib.ListN.{length}
 use Rattle.json.specs.Text as T
@@ -27,7 +27,7 @@ use Rattle.figure.specs.Figure.{noFigure, wholeMore, partMore, powerBack, power
 use Rattle.figure.proofs.Figured.{figure-wide, few-digits}
 use Rattle.reader.specs.Faults.{valueFault, orElse, firstFault}
 use Rattle.survey.specs.declared.Watch.{Watch}
-use Rattle.survey.specs.Watching.{noEscapes, found, withFigure, numeric, firstFigure, counted, begun, ended, digitOr, moved, watching}
+use Rattle.survey.specs.Watching.{noEscapes, found, withFigure, numeric, firstFigure, counted, begun, ended, digited, digitOr, moved, watching}
 use Rattle.survey.specs.Told.{told, unnamed}
 use Rattle.survey.proofs.Orders.{stopping, going, stopped, stays, stays-stopped}
 use Rattle.survey.proofs.Strung.{verdict, frozen, still}
@@ -44,38 +44,42 @@ eq-or-not a b = go (eqb a b) refl
 
 -- at this place a digit is taken by `more`
 abbrev Takes : Place → (Figure → ℕ → Figure) → Type 0
-Takes p more = (k : ℕ) (d : Digit) (bs : List ℕ) (s : Watch) → moved p k (digit d) bs s ≡ withFigure (more (s .figure) (d .worth)) s
+Takes p more = (k : ℕ) (d : Digit) (left : ℕ) (s : Watch) → moved p k (digit d) left s ≡ withFigure (more (s .figure) (d .worth)) s
 
 back : (d : Digit) → digit d - 0x30 ≡ d .worth
 back d = omega arith
 
-takes-digit : (more : Figure → ℕ → Figure) (k : ℕ) (d : Digit) (s : Watch) → digitOr more k (digit d) s ≡ withFigure (more (s .figure) (d .worth)) s
-takes-digit more k d s =
+takes-digit : (more : Figure → ℕ → Figure) (d : Digit) (s : Watch) → digited more (digit d) s ≡ withFigure (more (s .figure) (d .worth)) s
+unfolding digited
+takes-digit more d s =
     let l : d .worth < 10 = d .small in
     rw (le-leb 0x30 (digit d) (omega arith), le-leb (digit d) 0x39 (omega arith), back d)
 
+takes-or : (more : Figure → ℕ → Figure) (k : ℕ) (d : Digit) (s : Watch) → digitOr more k (digit d) s ≡ withFigure (more (s .figure) (d .worth)) s
+takes-or more k d s =
+    let l : d .worth < 10 = d .small in
+    rw (le-ltb (digit d) 0x2E (omega arith), ne-eqb (digit d) 0x5D (λ e. omega arith), ne-eqb (digit d) 0x7D (λ e. omega arith)) (takes-digit more d s)
+
 takes-whole : Takes whole wholeMore
-takes-whole k d bs s = takes-digit wholeMore k d s
+takes-whole k d left s = takes-or wholeMore k d s
 
 takes-part : Takes part partMore
-takes-part k d bs s = takes-digit partMore k d s
+takes-part k d left s = takes-or partMore k d s
 
 takes-power : Takes power powerMore
-takes-power k d bs s = takes-digit powerMore k d s
+takes-power k d left s = takes-or powerMore k d s
 
 takes-minus : Takes minus wholeMore
-takes-minus k d bs s = rw (back d)
+takes-minus k d left s = takes-digit wholeMore d s
 
 takes-point : Takes point partMore
-takes-point k d bs s = rw (back d)
+takes-point k d left s = takes-digit partMore d s
 
 takes-sign : Takes sign powerMore
-takes-sign k d bs s = rw (back d)
+takes-sign k d left s = takes-digit powerMore d s
 
 takes-letter : Takes letter powerMore
-takes-letter k d bs s =
-    let l : d .worth < 10 = d .small in
-    rw (ne-eqb (digit d) 0x2D (λ e. omega arith), ne-eqb (digit d) 0x2B (λ e. omega arith), back d)
+takes-letter k d left s = let l : d .worth < 10 = d .small in rw (ne-eqb (digit d) 0x2D (λ e. omega arith)) (takes-digit powerMore d s)
 
 module _ (ks : List Bracket) where
   digits-figure : (p : Place) (more : Figure → ℕ → Figure) → Takes p more → (ds : List Digit) (rest : List ℕ) (s : Watch) → s .fault ≡ 0
@@ -83,38 +87,43 @@ module _ (ks : List Bracket) where
   unfolding digits-do digitsMore
   digits-figure p more t [] rest s e = refl
   digits-figure p more t (d ∷ ds) rest s e =
-      ap (digits-do watching stopping p ks ds rest) (going p ks (digit d) (digits ds rest) s e ∙ t (length ks) d (digits ds rest) s)
+      ap (digits-do watching stopping p ks ds rest) (going p ks (digit d) (digits ds rest) s e ∙ t (length ks) d (suc (length (digits ds rest))) s)
       ∙ digits-figure p more t ds rest (withFigure (more (s .figure) (d .worth)) s) e
 
   digits1-figure : (p q : Place) (more : Figure → ℕ → Figure) → Takes p more → Takes q more → (ds : Digits) (rest : List ℕ) (s : Watch) → s .fault ≡ 0
       → digits1-do watching stopping p q ks ds rest s ≡ withFigure (digitsMore more (s .figure) (listed ds)) s
   unfolding digitsMore
   digits1-figure p q more t u ds rest s e =
-      ap (digits-do watching stopping q ks (ds .others) rest) (going p ks (digit (ds .first)) (digits (ds .others) rest) s e ∙ t (length ks) (ds .first) (digits (ds .others) rest) s)
+      ap (digits-do watching stopping q ks (ds .others) rest) (going p ks (digit (ds .first)) (digits (ds .others) rest) s e ∙ t (length ks) (ds .first) (suc (length (digits (ds .others) rest))) s)
       ∙ digits-figure q more u (ds .others) rest (withFigure (more (s .figure) (ds .first .worth)) s) e
 
   -- ---- behind the whole part
 
   -- the point and the letter e move nothing here
   record Passing (p : Place) : Type 0 where
-    pointed : (k : ℕ) (bs : List ℕ) (s : Watch) → moved p k 0x2E bs s ≡ s
-    lettered : (k : ℕ) (l : Letter) (bs : List ℕ) (s : Watch) → moved p k (letterE l) bs s ≡ s
+    pointed : (k left : ℕ) (s : Watch) → moved p k 0x2E left s ≡ s
+    lettered : (k : ℕ) (l : Letter) (left : ℕ) (s : Watch) → moved p k (letterE l) left s ≡ s
 
   or-e : (more : Figure → ℕ → Figure) (k : ℕ) (l : Letter) (s : Watch) → digitOr more k (letterE l) s ≡ s
+  unfolding digited
   or-e more k capital s = refl
   or-e more k small s = refl
 
   nought-passes : Passing nought
+  unfolding digited
   nought-passes = record { pointed = λ k bs s. refl; lettered = λ k l bs s. or-e wholeMore k l s }
 
   whole-passes : Passing whole
+  unfolding digited
   whole-passes = record { pointed = λ k bs s. refl; lettered = λ k l bs s. or-e wholeMore k l s }
 
   part-passes : Passing part
+  unfolding digited
   part-passes = record { pointed = λ k bs s. refl; lettered = λ k l bs s. or-e partMore k l s }
 
   signed-figure : (x : Sign) (ds : Digits) (rest : List ℕ) (s : Watch) → s .fault ≡ 0
       → signed-does watching stopping ks x ds rest s ≡ withFigure (digitsMore powerMore (signFigure x (s .figure)) (listed ds)) s
+  unfolding digited
   signed-figure unsigned ds rest s e = digits1-figure letter power powerMore takes-letter takes-power ds rest s e
   signed-figure plus ds rest s e =
       ap (digits1-do watching stopping sign power ks ds rest) (going letter ks 0x2B (digits1 ds rest) s e) ∙ digits1-figure sign power powerMore takes-sign takes-power ds rest s e
@@ -127,7 +136,7 @@ module _ (ks : List Bracket) where
   exponent-figure h none rest s e = refl
   exponent-figure {p} h (some y) rest s e =
       let bs : List ℕ = signed (y .sign) (digits1 (y .places) rest) in
-      ap (signed-does watching stopping ks (y .sign) (y .places) rest) (going p ks (letterE (y .letter)) bs s e ∙ h .lettered (length ks) (y .letter) bs s)
+      ap (signed-does watching stopping ks (y .sign) (y .places) rest) (going p ks (letterE (y .letter)) bs s e ∙ h .lettered (length ks) (y .letter) (suc (length bs)) s)
       ∙ signed-figure (y .sign) (y .places) rest s e
 
   tail-figure : {p : Place} → Passing p → (g : Fraction) (x : Exponent) (rest : List ℕ) (s : Watch) → s .fault ≡ 0
@@ -136,7 +145,7 @@ module _ (ks : List Bracket) where
   tail-figure {p} h (some ds) x rest s e =
       let bs : List ℕ = digits1 ds (exponent x rest) in
       ap (λ (t : Watch). exponent-does watching stopping part ks x rest (digits1-do watching stopping point part ks ds (exponent x rest) t))
-      (going p ks 0x2E bs s e ∙ h .pointed (length ks) bs s)
+      (going p ks 0x2E bs s e ∙ h .pointed (length ks) (suc (length bs)) s)
       ∙ ap (exponent-does watching stopping part ks x rest) (digits1-figure point part partMore takes-point takes-part ds (exponent x rest) s e)
       ∙ exponent-figure part-passes x rest (withFigure (digitsMore partMore (s .figure) (listed ds)) s) e
 
@@ -166,11 +175,12 @@ module _ (ks : List Bracket) where
         let no-minus : eqb (digit d) 0x2D ≡ false = ne-eqb (digit d) 0x2D (λ x. omega arith) in
         let is-number : numeric (digit d) ≡ true = rw (no-minus, le-leb 0x30 (digit d) (omega arith), le-leb (digit d) 0x39 (omega arith)) in
         first-byte (digit d) bs m (omega arith) is-number
-        ∙ ap (λ (f : Figure). started (suc (length bs)) f s) (rw (no-minus, back d))
+        ∙ ap (λ (f : Figure). started (suc (length bs)) f s) (rw (le-leb 0x30 (digit d) (omega arith), le-leb (digit d) 0x39 (omega arith), back d))
 
     -- the whole part, and the minus before it
     whole-started : (m : Bool) (i : Whole) (end : List ℕ) → s .values ≢ rows-max
         → minus-does watching stopping m ks i end s ≡ started (length (minusIf m (T.whole i end))) (wholeFigure i noFigure) s
+    unfolding digited
     whole-started true T.nought end h =
         let t : Watch = started (suc (length (T.whole T.nought end))) noFigure s in
         ap (watching minus ks 0x30 end) (first-byte 0x2D (T.whole T.nought end) h (omega arith) refl) ∙ going minus ks 0x30 end t refl
@@ -178,7 +188,7 @@ module _ (ks : List Bracket) where
         let left : ℕ = suc (length (T.whole (from d q ds) end)) in
         let t : Watch = started left noFigure s in
         ap (whole-does watching stopping minus ks (from d q ds) end) (first-byte 0x2D (T.whole (from d q ds) end) h (omega arith) refl)
-        ∙ ap (digits-do watching stopping whole ks ds end) (going minus ks (digit d) (digits ds end) t refl ∙ takes-minus (length ks) d (digits ds end) t)
+        ∙ ap (digits-do watching stopping whole ks ds end) (going minus ks (digit d) (digits ds end) t refl ∙ takes-minus (length ks) d (suc (length (digits ds end))) t)
         ∙ digits-figure whole wholeMore takes-whole ds end (started left (wholeMore noFigure (d .worth)) s) refl
     whole-started false T.nought end h = first-byte 0x30 end h (omega arith) refl
     whole-started false (from d q ds) end h =

@@ -30,7 +30,7 @@ either-way : {A : Type 0} (b : Bool) (x : A) → cond b x x ≡ x
 either-way true x = refl
 either-way false x = refl
 
-pub going : (p : Place) (ks : List Bracket) (b : ℕ) (bs : List ℕ) (s : Watch) → s .fault ≡ 0 → watching p ks b bs s ≡ moved p (length ks) b bs s
+pub going : (p : Place) (ks : List Bracket) (b : ℕ) (bs : List ℕ) (s : Watch) → s .fault ≡ 0 → watching p ks b bs s ≡ moved p (length ks) b (suc (length bs)) s
 unfolding watching
 going p ks b bs s e = rw (eq-eqb (s .fault) 0 e)
 
@@ -47,35 +47,35 @@ unfolding stopping
 stays-stopped s e ks = rw (ne-eqb (s .fault) 0 e)
 
 -- a byte that moves nothing
-pub calm : (p : Place) (ks : List Bracket) (b : ℕ) (bs : List ℕ) (s : Watch) → moved p (length ks) b bs s ≡ s → watching p ks b bs s ≡ s
+pub calm : (p : Place) (ks : List Bracket) (b : ℕ) (bs : List ℕ) (s : Watch) → moved p (length ks) b (suc (length bs)) s ≡ s → watching p ks b bs s ≡ s
 unfolding watching
 calm p ks b bs s e = rw e (either-way (eqb (s .fault) 0) s)
 
-blank-calm : {p : Place} → Waits p → (k b : ℕ) (bs : List ℕ) (s : Watch) → b < 0x21 → moved p k b bs s ≡ s
-blank-calm waits-ahead k b bs s h = rw (le-ltb 0x20 b (omega arith))
-blank-calm waits-first k b bs s h = rw (ne-eqb b 0x5D (λ e. omega arith), le-ltb 0x20 b (omega arith))
-blank-calm waits-after k b bs s h = refl
-blank-calm waits-name k b bs s h = rw (le-ltb 0x20 b (omega arith))
-blank-calm waits-first-name k b bs s h = rw (le-ltb 0x20 b (omega arith))
-blank-calm waits-colon k b bs s h = refl
+blank-calm : {p : Place} → Waits p → (k b left : ℕ) (s : Watch) → b < 0x21 → moved p k b left s ≡ s
+blank-calm waits-ahead k b left s h = rw (le-ltb 0x20 b (omega arith))
+blank-calm waits-first k b left s h = rw (ne-eqb b 0x5D (λ e. omega arith), le-ltb 0x20 b (omega arith))
+blank-calm waits-after k b left s h = refl
+blank-calm waits-name k b left s h = rw (le-ltb 0x20 b (omega arith))
+blank-calm waits-first-name k b left s h = rw (le-ltb 0x20 b (omega arith))
+blank-calm waits-colon k b left s h = refl
 
--- no digit ends a number
+-- a byte that may stand after a value ends a number
 digit-ends : (more : Figure → ℕ → Figure) (k b : ℕ) (s : Watch) → Ending b → digitOr more k b s ≡ ended k s
-digit-ends more k b s (inl h) = rw (lt-leb 0x30 b (omega arith), lt-ltb b 0x2E h)
-digit-ends more k b s (inr (inl e)) = rw (lt-leb b 0x39 (omega arith), and-false (leb 0x30 b), le-ltb b 0x2E (omega arith), eq-eqb b 0x5D e)
-digit-ends more k b s (inr (inr e)) = rw (lt-leb b 0x39 (omega arith), and-false (leb 0x30 b), le-ltb b 0x2E (omega arith), ne-eqb b 0x5D (λ f. omega arith), eq-eqb b 0x7D e)
+digit-ends more k b s (inl h) = rw (lt-ltb b 0x2E h)
+digit-ends more k b s (inr (inl e)) = rw (le-ltb b 0x2E (omega arith), eq-eqb b 0x5D e)
+digit-ends more k b s (inr (inr e)) = rw (le-ltb b 0x2E (omega arith), ne-eqb b 0x5D (λ f. omega arith), eq-eqb b 0x7D e)
 
-moved-ends : {p : Place} → Stops p → (k b : ℕ) (bs : List ℕ) (s : Watch) → Ending b → moved p k b bs s ≡ ended k s
-moved-ends at-nought k b bs s h = digit-ends wholeMore k b s h
-moved-ends at-whole k b bs s h = digit-ends wholeMore k b s h
-moved-ends at-part k b bs s h = digit-ends partMore k b s h
-moved-ends at-power k b bs s h = digit-ends powerMore k b s h
+moved-ends : {p : Place} → Stops p → (k b left : ℕ) (s : Watch) → Ending b → moved p k b left s ≡ ended k s
+moved-ends at-nought k b left s h = digit-ends wholeMore k b s h
+moved-ends at-whole k b left s h = digit-ends wholeMore k b s h
+moved-ends at-part k b left s h = digit-ends partMore k b s h
+moved-ends at-power k b left s h = digit-ends powerMore k b s h
 
 pub orderly : Orderly watching stopping
 unfolding watching stopping
 orderly =
     record {
-      blanks = λ {p} h ks c bs s. calm p ks (blank c) bs s (blank-calm h (length ks) (blank c) bs s (omega (arith, blank-low c)));
+      blanks = λ {p} h ks c bs s. calm p ks (blank c) bs s (blank-calm h (length ks) (blank c) (suc (length bs)) s (omega (arith, blank-low c)));
       commas = λ ks bs s. either-way (eqb (s .fault) 0) s;
       colons = λ ks bs s. either-way (eqb (s .fault) 0) s;
       words = λ w ks b bs s. either-way (eqb (s .fault) 0) s;
@@ -84,5 +84,5 @@ orderly =
       empty-arrays = λ ks bs s. refl;
       empty-objects = λ ks bs s. refl;
       chars = λ c r ks b bs s. refl;
-      ends = λ {p} h ks b bs s e. rw (moved-ends h (length ks) b bs s e) (sym (either-way (eqb (stopping ks s .fault) 0) (stopping ks s)));
+      ends = λ {p} h ks b bs s e. rw (moved-ends h (length ks) b (suc (length bs)) s e) (sym (either-way (eqb (stopping ks s .fault) 0) (stopping ks s)));
     }

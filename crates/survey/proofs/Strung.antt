@@ -7,7 +7,7 @@ use mathlib.Core.Bool.{Bool, true, false, cond, _&&_, _||_, not, and-false}
 use mathlib.Core.List.{List, [], _∷_, _++_, append-nil}
 use mathlib.Core.Logic.{_≢_, _⊎_, inl, inr, ⊎-elim}
 use mathlib.Core.Path.{_≡_, refl, sym, _∙_, ap}
-use Prim.Native.Nat.{ℕ, suc, _+_, _*_, _≤_, _<_}
+use Prim.Native.Nat.{ℕ, suc, _+_, _*_, _%_, _≤_, _<_}
 use native.Mathlib.Omega.{arith}
 use borrow.Author.Tests.{eq-eqb, ne-eqb, eqb-true, leb-true, lt-leb}
 use lib.Dec.{eqb, leb}
@@ -75,6 +75,10 @@ short-moves r ks m rest s e =
     no-u carriageReturn = λ e. omega arith
     no-u tabulator = λ e. omega arith
 
+hex-small : (h : Hex) → hexWorth h < 16
+hex-small (T.decimal d) = omega (arith, d .small)
+hex-small (T.letter l k p) = omega arith
+
 -- where an escape of four digits starts
 abbrev unitLeft : Hex → Hex → Hex → Hex → List ℕ → ℕ
 unitLeft h i j k z = suc (length (0x75 ∷ hex h ∷ hex i ∷ hex j ∷ hex k ∷ z))
@@ -120,19 +124,19 @@ unit-moves r ks h i j k z s e =
     w4 x = watching (unit hex4 r) ks (hex h) (hex i ∷ hex j ∷ hex k ∷ z) x
 
     c4 : ℕ
-    c4 = 0 * 16 + hexAt (hex h)
+    c4 = 0 % 0x1000 * 16 + hexAt (hex h)
 
     c3 : ℕ
-    c3 = c4 * 16 + hexAt (hex i)
+    c3 = c4 % 0x1000 * 16 + hexAt (hex i)
 
     c2 : ℕ
-    c2 = c3 * 16 + hexAt (hex j)
+    c2 = c3 % 0x1000 * 16 + hexAt (hex j)
 
     first-three : c2 ≡ threeCode h i j
-    first-three = omega (arith, hex-read h, hex-read i, hex-read j)
+    first-three = omega (arith, hex-read h, hex-read i, hex-read j, hex-small h, hex-small i, hex-small j)
 
-    all-four : c2 * 16 + hexAt (hex k) ≡ unitCode h i j k
-    all-four = omega (arith, hex-read h, hex-read i, hex-read j, hex-read k)
+    all-four : c2 % 0x1000 * 16 + hexAt (hex k) ≡ unitCode h i j k
+    all-four = omega (arith, hex-read h, hex-read i, hex-read j, hex-read k, hex-small h, hex-small i, hex-small j)
 
 -- ---- the lone surrogates
 

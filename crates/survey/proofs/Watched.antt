@@ -24,11 +24,10 @@ use Rattle.json.proofs.AlongValues.{text-along}
 use Rattle.sheet.specs.Kinds.{number-max}
 use Rattle.sheet.specs.Record.{rows-max}
 use Rattle.sheet.specs.Faults.{level-refused}
-use Rattle.figure.specs.Figure.{noFigure}
 use Rattle.reader.specs.Faults.{valueFault, orElse, firstFault}
 use Rattle.reader.proofs.Lengths.{spaces-long, decoded-short, value-short, elements-short, members-short}
 use Rattle.survey.specs.declared.Watch.{Watch}
-use Rattle.survey.specs.Watching.{watch, noEscapes, found, withEscapes, numeric, counted, begun, watching}
+use Rattle.survey.specs.Watching.{watch, noEscapes, found, withEscapes, numeric, firstFigure, counted, begun, watching}
 use Rattle.survey.specs.Told.{Told, told, unnamed}
 use Rattle.survey.proofs.Orders.{stopping, going, stays, stays-stopped, calm, orderly}
 use Rattle.survey.proofs.Still.{value-still}
@@ -43,7 +42,7 @@ unfolding begun firstFault valueFault unnamed told
 begun-told k b bs s later e n = rw (eq-eqb (s .fault) 0 e, n) (go (eqb (s .values) rows-max) (eqb (suc k) level-refused))
   where
     t : Watch
-    t = record { fault = 0; left = 0; values = suc (s .values); start = length bs; figure = noFigure; escapes = noEscapes }
+    t = record { fault = 0; left = 0; values = suc (s .values); start = length bs; figure = firstFigure b; escapes = noEscapes }
 
     go : (m d : Bool)
         → verdict (cond m (found 22 (length bs) s) (cond (d && true) (found 24 (length bs) t) t)) later

@@ -1,2 +1,3 @@
 pub mod Watching
 pub mod Told
+pub mod Bounds

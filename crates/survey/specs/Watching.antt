@@ -3,7 +3,7 @@
 -- Assumes nothing.
 use mathlib.Core.Bool.{Bool, true, false, cond, _&&_, _||_, not}
 use mathlib.Core.List.{List, [], _∷_}
-use Prim.Native.Nat.{ℕ, suc, _+_, _-_, _*_}
+use Prim.Native.Nat.{ℕ, suc, _+_, _-_, _*_, _%_}
 use lib.Dec.{eqb, leb, ltb}
 use lib.ListN.{length}
 use Rattle.json.specs.Value.{isHigh, isLow}
@@ -36,18 +36,21 @@ withEscapes e s = record { fault = s .fault; left = s .left; values = s .values;
 
 -- ---- values
 
+abbrev pub isDigit : ℕ → Bool
+isDigit b = leb 0x30 b && leb b 0x39
+
 -- the byte is a number's first
 abbrev pub numeric : ℕ → Bool
-numeric b = eqb b 0x2D || (leb 0x30 b && leb b 0x39)
+numeric b = eqb b 0x2D || isDigit b
 
--- the figure of a number's first byte: a minus is no digit
+-- the figure of a value's first byte
 abbrev pub firstFigure : ℕ → Figure
-firstFigure b = cond (eqb b 0x2D) noFigure (wholeMore noFigure (b - 0x30))
+firstFigure b = cond (isDigit b) (wholeMore noFigure (b - 0x30)) noFigure
 
 -- one value more
 abbrev pub counted : ℕ → ℕ → Watch → Watch
 counted b left s =
-    record { fault = 0; left = 0; values = suc (s .values); start = left; figure = cond (numeric b) (firstFigure b) noFigure; escapes = noEscapes }
+    record { fault = 0; left = 0; values = suc (s .values); start = left; figure = firstFigure b; escapes = noEscapes }
 
 -- a value starts with the byte b, with so many brackets open; of a number it is asked at its end whether it is on level 33, since 23 comes before 24
 unfoldable pub begun : ℕ → ℕ → ℕ → Watch → Watch
@@ -82,9 +85,9 @@ coded c s =
 abbrev pub slashed : ℕ → Watch → Watch
 slashed left s = withEscapes (record { code = 0; here = left; waits = s .escapes .waits; waiting = s .escapes .waiting }) s
 
--- a hexadecimal digit, before the last
+-- a hexadecimal digit; of the code so far no more than three digits are looked at, so that it stays small whatever the bytes are
 abbrev pub codeMore : ℕ → Watch → ℕ
-codeMore b s = s .escapes .code * 16 + hexAt b
+codeMore b s = s .escapes .code % 0x1000 * 16 + hexAt b
 
 abbrev pub hexed : ℕ → Watch → Watch
 hexed b s = withEscapes (record { code = codeMore b s; here = s .escapes .here; waits = s .escapes .waits; waiting = s .escapes .waiting }) s
@@ -98,36 +101,43 @@ hexDone hex1 b s = coded (codeMore b s) s
 -- ---- a byte
 
 -- with the byte a value starts here
-abbrev pub opened : ℕ → ℕ → List ℕ → Watch → Watch
-opened k b bs s = cond (ltb 0x20 b) (begun k b (suc (length bs)) s) s
+abbrev pub opened : ℕ → ℕ → ℕ → Watch → Watch
+opened k b left s = cond (ltb 0x20 b) (begun k b left s) s
+
+-- a digit
+unfoldable pub digited : (Figure → ℕ → Figure) → ℕ → Watch → Watch
+digited more b s = cond (isDigit b) (withFigure (more (s .figure) (b - 0x30)) s) s
+
+-- the byte behind a number
+abbrev pub isEnd : ℕ → Bool
+isEnd b = ltb b 0x2E || (eqb b 0x5D || eqb b 0x7D)
 
 -- a digit, or a byte with which the number ends, or goes on without one
 abbrev pub digitOr : (Figure → ℕ → Figure) → ℕ → ℕ → Watch → Watch
-digitOr more k b s =
-    cond (leb 0x30 b && leb b 0x39) (withFigure (more (s .figure) (b - 0x30)) s)
-    (cond (ltb b 0x2E || (eqb b 0x5D || eqb b 0x7D)) (ended k s) s)
+digitOr more k b s = cond (isEnd b) (ended k s) (digited more b s)
 
-abbrev pub moved : Place → ℕ → ℕ → List ℕ → Watch → Watch
-moved ahead k b bs s = opened k b bs s
-moved firstElement k b bs s = cond (eqb b 0x5D) s (opened k b bs s)
-moved after k b bs s = s
-moved name k b bs s = cond (ltb 0x20 b) (withEscapes noEscapes s) s
-moved firstName k b bs s = cond (ltb 0x20 b && not (eqb b 0x7D)) (withEscapes noEscapes s) s
-moved colon k b bs s = s
-moved (word w) k b bs s = s
-moved minus k b bs s = withFigure (wholeMore (s .figure) (b - 0x30)) s
-moved nought k b bs s = digitOr wholeMore k b s
-moved whole k b bs s = digitOr wholeMore k b s
-moved point k b bs s = withFigure (partMore (s .figure) (b - 0x30)) s
-moved part k b bs s = digitOr partMore k b s
-moved letter k b bs s = cond (eqb b 0x2D) (withFigure (powerBack (s .figure)) s) (cond (eqb b 0x2B) s (withFigure (powerMore (s .figure) (b - 0x30)) s))
-moved sign k b bs s = withFigure (powerMore (s .figure) (b - 0x30)) s
-moved power k b bs s = digitOr powerMore k b s
-moved (text r) k b bs s = cond (eqb b 0x5C) (slashed (suc (length bs)) s) (parted s)
-moved (escape r) k b bs s = cond (eqb b 0x75) s (parted s)
-moved (unit h r) k b bs s = hexDone h b s
-moved (char c r) k b bs s = s
+-- with so many brackets open, and so many bytes left from this one on
+abbrev pub moved : Place → ℕ → ℕ → ℕ → Watch → Watch
+moved ahead k b left s = opened k b left s
+moved firstElement k b left s = cond (eqb b 0x5D) s (opened k b left s)
+moved after k b left s = s
+moved name k b left s = cond (ltb 0x20 b) (withEscapes noEscapes s) s
+moved firstName k b left s = cond (ltb 0x20 b) (cond (eqb b 0x7D) s (withEscapes noEscapes s)) s
+moved colon k b left s = s
+moved (word w) k b left s = s
+moved minus k b left s = digited wholeMore b s
+moved nought k b left s = digitOr wholeMore k b s
+moved whole k b left s = digitOr wholeMore k b s
+moved point k b left s = digited partMore b s
+moved part k b left s = digitOr partMore k b s
+moved letter k b left s = cond (eqb b 0x2D) (withFigure (powerBack (s .figure)) s) (digited powerMore b s)
+moved sign k b left s = digited powerMore b s
+moved power k b left s = digitOr powerMore k b s
+moved (text r) k b left s = cond (eqb b 0x5C) (slashed left s) (parted s)
+moved (escape r) k b left s = cond (eqb b 0x75) s (parted s)
+moved (unit h r) k b left s = hexDone h b s
+moved (char c r) k b left s = s
 
 -- after a fault nothing is kept any more
 unfoldable pub watching : Act Watch
-watching p ks b bs s = cond (eqb (s .fault) 0) (moved p (length ks) b bs s) s
+watching p ks b bs s = cond (eqb (s .fault) 0) (moved p (length ks) b (suc (length bs)) s) s

@@ -1,0 +1,22 @@
+-- `brackets::pushed` meets its contract. Assumes nothing.
+use Rattle.brackets.proofs.Bits.{push-is}
+use borrow.Author.Needs.{needs}
+use Rattle.brackets.proofs.pushed.Statement.{statement}
+use Rattle.brackets.proofs.pushed.Tie as tie
+
+mul-t3 : tie.Need-mul-t3
+mul-t3 c = search needs
+
+add-t4 : tie.Need-add-t4
+add-t4 c = search needs
+
+add-t5 : tie.Need-add-t5
+add-t5 c = search needs
+
+returns : tie.Need-returns
+returns c =
+    let start = c .before .before in
+    push-is (start .args .o) (start .args .bracket) (start .pre .2)
+
+pub pushed-spec : {M : Type 1} → statement M
+pushed-spec = tie.close (tie.spec mul-t3 add-t4 add-t5 returns)
