@@ -3,7 +3,7 @@
 -- Assumes nothing.
 use mathlib.Core.List.{List, [], _∷_, _++_}
 use mathlib.Core.Path.{_≡_, refl, sym, ap, _∙_}
-use Prim.Native.Nat.{ℕ, suc, _+_, _<_, max}
+use Prim.Native.Nat.{ℕ, _+_, _-_, _<_, max}
 use native.Mathlib.Omega.{arith}
 use Rattle.sheet.specs.Kinds.{number-max}
 use Rattle.json.specs.Text as T
@@ -14,7 +14,7 @@ use Rattle.breadth.specs.Forest.{items, fields, tree}
 use Rattle.breadth.specs.Breadth.{depth}
 use Rattle.placing.specs.Lexemes.{Lexeme, comma, shuts, spelling, gaps, lexemes, elementLexemes, memberLexemes, textLexemes}
 use Rattle.placing.specs.Desk.{levels}
-use Rattle.placing.specs.Fair.{Sayable, SayableItems, SayableFields, Ends, at-end, at-gap, at-comma, at-shut, Fair, then-none, then-gap, then-comma, then-null, then-true, then-false, then-num, then-str, then-nam, then-opens, then-shuts}
+use Rattle.placing.specs.Fair.{Sayable, SayableItems, SayableFields, Ends, at-end, at-gap, at-comma, at-shut, Fair}
 
 -- ---- bytes
 
@@ -69,48 +69,52 @@ text-spelled t =
 gaps-fair : (k : ℕ) (w : Space) (ls : List Lexeme) → Fair k ls → Fair k (gaps w ls)
 unfolding gaps
 gaps-fair k [] ls f = f
-gaps-fair k (b ∷ w) ls f = then-gap (gaps-fair k w ls f)
+gaps-fair k (b ∷ w) ls f = gaps-fair k w ls f
 
 gaps-end : (w : Space) (ls : List Lexeme) → Ends ls → Ends (gaps w ls)
 unfolding gaps
 gaps-end [] ls e = e
 gaps-end (b ∷ w) ls e = at-gap (gaps-end w ls e)
 
+shut-fair : (k : ℕ) (ls : List Lexeme) → Fair k ls → (0 < k + 1) × Fair (k + 1 - 1) ls
+shut-fair k ls f = (omega arith, let z : k + 1 - 1 ≡ k = omega arith in rw z f)
+
 mutual
   unfolding lexemes elementLexemes memberLexemes valueOf itemsOf fieldsOf
 
   value-fair : (v : Value) (k : ℕ) (ls : List Lexeme) → Sayable v → k + depth (tree (valueOf number-max v)) < levels → Ends ls → Fair k ls → Fair k (lexemes v ls)
-  value-fair null k ls y h e f = then-null f
-  value-fair truth k ls y h e f = then-true f
-  value-fair falsity k ls y h e f = then-false f
-  value-fair (T.num n) k ls y h e f = then-num y e f
-  value-fair (T.str s) k ls y h e f = then-str y e f
-  value-fair (emptyArray w) k ls y h e f = then-opens {k = k} (omega arith) (gaps-fair (suc k) w (shuts square ∷ ls) (then-shuts f))
+  value-fair null k ls y h e f = f
+  value-fair truth k ls y h e f = f
+  value-fair falsity k ls y h e f = f
+  value-fair (T.num n) k ls y h e f = (y, e, f)
+  value-fair (T.str s) k ls y h e f = (y, e, f)
+  value-fair (emptyArray w) k ls y h e f = (omega arith, gaps-fair (k + 1) w (shuts square ∷ ls) (shut-fair k ls f))
   value-fair (array w vs) k ls y h e f =
-      then-opens {k = k} (omega arith) (gaps-fair (suc k) w (elementLexemes vs (shuts square ∷ ls)) (elements-fair vs (suc k) (shuts square ∷ ls) y (omega arith) at-shut (then-shuts f)))
-  value-fair (emptyObject w) k ls y h e f = then-opens {k = k} (omega arith) (gaps-fair (suc k) w (shuts curly ∷ ls) (then-shuts f))
+      (omega arith, gaps-fair (k + 1) w (elementLexemes vs (shuts square ∷ ls)) (elements-fair vs (k + 1) (shuts square ∷ ls) y (omega arith) at-shut (shut-fair k ls f)))
+  value-fair (emptyObject w) k ls y h e f = (omega arith, gaps-fair (k + 1) w (shuts curly ∷ ls) (shut-fair k ls f))
   value-fair (object w ms) k ls y h e f =
-      then-opens {k = k} (omega arith) (gaps-fair (suc k) w (memberLexemes ms (shuts curly ∷ ls)) (members-fair ms (suc k) (shuts curly ∷ ls) y (omega arith) at-shut (then-shuts f)))
+      (omega arith, gaps-fair (k + 1) w (memberLexemes ms (shuts curly ∷ ls)) (members-fair ms (k + 1) (shuts curly ∷ ls) y (omega arith) at-shut (shut-fair k ls f)))
 
   elements-fair : (vs : Elements) (k : ℕ) (ls : List Lexeme) → SayableItems vs → k + depth (items (itemsOf number-max vs)) < levels → Ends ls → Fair k ls → Fair k (elementLexemes vs ls)
   elements-fair (last v w) k ls y h e f = value-fair v k (gaps w ls) y (omega arith) (gaps-end w ls e) (gaps-fair k w ls f)
   elements-fair (more v w w′ vs) k ls y h e f =
       let others = comma ∷ gaps w′ (elementLexemes vs ls) in
       value-fair v k (gaps w others) (y .0) (omega arith) (gaps-end w others at-comma)
-      (gaps-fair k w others (then-comma (gaps-fair k w′ (elementLexemes vs ls) (elements-fair vs k ls (y .1) (omega arith) e f))))
+      (gaps-fair k w others (gaps-fair k w′ (elementLexemes vs ls) (elements-fair vs k ls (y .1) (omega arith) e f)))
 
   members-fair : (ms : Members) (k : ℕ) (ls : List Lexeme) → SayableFields ms → k + depth (fields (fieldsOf number-max ms)) < levels → Ends ls → Fair k ls → Fair k (memberLexemes ms ls)
   members-fair (lastM s w w′ v w″) k ls y h e f =
-      then-nam (y .0) (gaps-fair k w′ (lexemes v (gaps w″ ls)) (value-fair v k (gaps w″ ls) (y .1) (omega arith) (gaps-end w″ ls e) (gaps-fair k w″ ls f)))
+      (y .0, gaps-fair k w′ (lexemes v (gaps w″ ls)) (value-fair v k (gaps w″ ls) (y .1) (omega arith) (gaps-end w″ ls e) (gaps-fair k w″ ls f)))
   members-fair (moreM s w w′ v w″ w‴ ms) k ls y h e f =
-      let others = comma ∷ gaps w‴ (memberLexemes ms ls) in
-      then-nam (y .0)
-      (gaps-fair k w′ (lexemes v (gaps w″ others))
-      (value-fair v k (gaps w″ others) (y .1) (omega arith) (gaps-end w″ others at-comma)
-      (gaps-fair k w″ others (then-comma (gaps-fair k w‴ (memberLexemes ms ls) (members-fair ms k ls (y .2) (omega arith) e f))))))
+      let others = comma ∷ gaps w‴ (memberLexemes ms ls) in (
+        y .0,
+        gaps-fair k w′ (lexemes v (gaps w″ others))
+            (value-fair v k (gaps w″ others) (y .1) (omega arith) (gaps-end w″ others at-comma)
+            (gaps-fair k w″ others (gaps-fair k w‴ (memberLexemes ms ls) (members-fair ms k ls (y .2) (omega arith) e f)))),
+      )
 
 pub text-fair : (t : Text) → Sayable (t .root) → depth (tree (valueOf number-max (t .root))) < levels → Fair 0 (textLexemes t)
 unfolding textLexemes
 text-fair t y h =
     gaps-fair 0 (t .before) (lexemes (t .root) (gaps (t .behind) []))
-    (value-fair (t .root) 0 (gaps (t .behind) []) y (omega arith) (gaps-end (t .behind) [] at-end) (gaps-fair 0 (t .behind) [] then-none))
+    (value-fair (t .root) 0 (gaps (t .behind) []) y (omega arith) (gaps-end (t .behind) [] at-end) (gaps-fair 0 (t .behind) [] tt))

@@ -4,10 +4,10 @@
 use mathlib.Core.Bool.{false}
 use mathlib.Core.List.{List, [], _∷_}
 use mathlib.Core.Path.{_≡_}
-use Prim.Native.Nat.{ℕ, suc, _<_}
+use Prim.Native.Nat.{ℕ, _+_, _-_, _<_}
 use Rattle.sheet.specs.Kinds.{number-max}
 use Rattle.json.specs.Text as T
-use Rattle.json.specs.Text.{Blank, Number, Str, Space, Value, null, truth, falsity, emptyArray, array, emptyObject, object, Elements, last, more, Members, lastM, moreM}
+use Rattle.json.specs.Text.{Blank, Number, Value, null, truth, falsity, emptyArray, array, emptyObject, object, Elements, last, more, Members, lastM, moreM}
 use Rattle.json.specs.Number.{exactOf, wide}
 use Rattle.json.proofs.Decoding.{NoneLone}
 use Rattle.json.specs.Automaton.{Bracket}
@@ -49,15 +49,15 @@ pub data Ends : List Lexeme → Type 0 where
   at-shut : {b : Bracket} {ls : List Lexeme} → Ends (shuts b ∷ ls)
 
 -- where so many brackets are open
-pub data Fair : ℕ → List Lexeme → Type 0 where
-  then-none : {k : ℕ} → Fair k []
-  then-gap : {k : ℕ} {b : Blank} {ls : List Lexeme} → Fair k ls → Fair k (gap b ∷ ls)
-  then-comma : {k : ℕ} {ls : List Lexeme} → Fair k ls → Fair k (comma ∷ ls)
-  then-null : {k : ℕ} {ls : List Lexeme} → Fair k ls → Fair k (a-null ∷ ls)
-  then-true : {k : ℕ} {ls : List Lexeme} → Fair k ls → Fair k (a-true ∷ ls)
-  then-false : {k : ℕ} {ls : List Lexeme} → Fair k ls → Fair k (a-false ∷ ls)
-  then-num : {k : ℕ} {n : Number} {ls : List Lexeme} → Narrow n → Ends ls → Fair k ls → Fair k (num n ∷ ls)
-  then-str : {k : ℕ} {s : Str} {ls : List Lexeme} → NoneLone 0 s → Ends ls → Fair k ls → Fair k (str s ∷ ls)
-  then-nam : {k : ℕ} {s : Str} {w : Space} {ls : List Lexeme} → NoneLone 0 s → Fair k ls → Fair k (nam s w ∷ ls)
-  then-opens : {k : ℕ} {b : Bracket} {ls : List Lexeme} → suc k < levels → Fair (suc k) ls → Fair k (opens b ∷ ls)
-  then-shuts : {k : ℕ} {b : Bracket} {ls : List Lexeme} → Fair k ls → Fair (suc k) (shuts b ∷ ls)
+abbrev pub Fair : ℕ → List Lexeme → Type 0
+Fair k [] = Unit {0}
+Fair k (gap b ∷ ls) = Fair k ls
+Fair k (comma ∷ ls) = Fair k ls
+Fair k (a-null ∷ ls) = Fair k ls
+Fair k (a-true ∷ ls) = Fair k ls
+Fair k (a-false ∷ ls) = Fair k ls
+Fair k (num n ∷ ls) = Narrow n × Ends ls × Fair k ls
+Fair k (str s ∷ ls) = NoneLone 0 s × Ends ls × Fair k ls
+Fair k (nam s w ∷ ls) = NoneLone 0 s × Fair k ls
+Fair k (opens b ∷ ls) = (k + 1 < levels) × Fair (k + 1) ls
+Fair k (shuts b ∷ ls) = (0 < k) × Fair (k - 1) ls

@@ -187,5 +187,6 @@ copied json i at text s j v to room o q =
       text-is = ap (λ (x : List ℕ). sets room to x) (sym (e .0)) ∙ o .same-text;
       size-is = omega (arith, ap length (e .0), o .same-size);
       forward = omega (arith, o .forward);
+      within = omega (arith, in-text json j v (o .left));
       no-longer = omega (arith, o .no-longer);
     }

@@ -93,4 +93,5 @@ pub record Copied (json : List ℕ) (i at : ℕ) (text : List ℕ) (s : Inside j
   pub text-is : room ≡ sets text at (read 0 (s .atoms))
   pub size-is : to ≡ at + length (read 0 (s .atoms))
   pub forward : i < j
+  pub within : j ≤ length json
   pub no-longer : to + i ≤ at + j
