@@ -2,10 +2,10 @@
 import random
 import struct
 
+import c_check
 import queues
 import second
 
-ABSENT = 2 ** 32 - 1                    # the length that stands for a null pointer
 TOLD = struct.Struct('<5Q')             # what the caller tells of an answer before the areas
 
 
@@ -17,7 +17,7 @@ class Queue:
         self.arrays = (words, text, listing, rules, rule_text, cells, list_, answers)
 
     def sent(self):
-        lengths = [ABSENT if array is None else len(array) for array in self.arrays]
+        lengths = [c_check.ABSENT if array is None else len(array) for array in self.arrays]
         return struct.pack('<8I', *lengths) + in_bytes(*self.arrays)
 
     def result_size(self):

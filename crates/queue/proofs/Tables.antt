@@ -28,6 +28,10 @@ neither : (a b : Bool) → (a || b) ≡ false → (a ≡ false) × (b ≡ false)
 neither true b e = (e, cc)
 neither false b e = (refl, e)
 
+-- a listing that is not refused 30 has few records
+pub few-records : (listing : List ℕ) → badListing listing ≡ false → recordsIn listing ≤ 512
+few-records listing e = let h = ltb-false 2048 (length listing) (neither (not (eqb (length listing % 4) 0)) (ltb 2048 (length listing)) e .1) in omega arith
+
 module _ (words bytes : ℕ) (listing : List ℕ) where
   both-inside : (i : ℕ) → outside words bytes listing i ≡ false → (fits words (wordsAt listing i) ≡ true) × (fits bytes (textAt listing i) ≡ true)
   unfolding outside
@@ -46,10 +50,6 @@ module _ (words bytes : ℕ) (listing : List ℕ) where
   pub none-outside : (place : ℕ) → place ≡ lowest (outside words bytes listing) (recordsIn listing) → recordsIn listing ≤ place
       → (i : ℕ) → i < recordsIn listing → outside words bytes listing i ≡ false
   none-outside place e h i l = clear-below (outside words bytes listing) (recordsIn listing) 0 i (omega arith) (omega arith) (omega arith)
-
-  -- a listing that is not refused 30 has few records
-  pub few-records : badListing listing ≡ false → recordsIn listing ≤ 512
-  few-records e = let h = ltb-false 2048 (length listing) (neither (not (eqb (length listing % 4) 0)) (ltb 2048 (length listing)) e .1) in omega arith
 
 -- ---- the table
 

@@ -1,6 +1,5 @@
 use mathlib.Core.Path.{_≡_, sym, ap, _∙_}
 use native.Mathlib.Omega.{arith}
-use lib.ListN.{length}
 use Rattle.queue.proofs.Tables.{few-records, bad-listing, outside-first, answers-short, tested, all-answered}
 use borrow.Author.Needs.{needs}
 use Rattle.queue.proofs.judge_queue.Statement.{statement}
@@ -24,7 +23,7 @@ first-outside-requires c κs = search needs
 
 cast-t18 : tie.Need-cast-t18
 cast-t18 c =
-    omega (arith, few-records (length (c .before .before .before .before .before .before .before .before .before .before .before .before .args .words .now)) (length (c .before .before .before .before .before .before .before .before .before .before .before .before .args .bytes .now)) (c .before .before .before .before .before .before .before .before .before .before .before .before .args .listing .now) (c .before .before .before .if1 .left), c .before .before .records-in .ensures)
+    omega (arith, few-records (c .before .before .before .before .before .before .before .before .before .before .before .before .args .listing .now) (c .before .before .before .if1 .left), c .before .before .records-in .ensures)
 
 returns-2 : tie.Need-returns-2
 returns-2 c =
@@ -32,7 +31,7 @@ returns-2 c =
 
 cast-t19 : tie.Need-cast-t19
 cast-t19 c =
-    omega (arith, few-records (length (c .before .before .before .before .before .before .before .before .before .before .before .before .before .args .words .now)) (length (c .before .before .before .before .before .before .before .before .before .before .before .before .before .args .bytes .now)) (c .before .before .before .before .before .before .before .before .before .before .before .before .before .args .listing .now) (c .before .before .before .before .if1 .left), c .before .before .before .records-in .ensures)
+    omega (arith, few-records (c .before .before .before .before .before .before .before .before .before .before .before .before .before .args .listing .now) (c .before .before .before .before .if1 .left), c .before .before .before .records-in .ensures)
 
 returns-3 : tie.Need-returns-3
 returns-3 c =
@@ -47,7 +46,7 @@ judge-all-requires c κs =
 
 cast-t27 : tie.Need-cast-t27
 cast-t27 c =
-    omega (arith, few-records (length (c .before .before .before .before .before .before .before .before .before .before .before .before .before .before .before .before .before .before .before .before .before .before .before .before .args .words .now)) (length (c .before .before .before .before .before .before .before .before .before .before .before .before .before .before .before .before .before .before .before .before .before .before .before .before .args .bytes .now)) (c .before .before .before .before .before .before .before .before .before .before .before .before .before .before .before .before .before .before .before .before .before .before .before .before .args .listing .now) (c .before .before .before .before .before .before .before .before .before .before .before .before .before .before .before .if1 .left), c .before .before .before .before .before .before .before .before .before .before .before .before .before .before .records-in .ensures)
+    omega (arith, few-records (c .before .before .before .before .before .before .before .before .before .before .before .before .before .before .before .before .before .before .before .before .before .before .before .before .args .listing .now) (c .before .before .before .before .before .before .before .before .before .before .before .before .before .before .before .if1 .left), c .before .before .before .before .before .before .before .before .before .before .before .before .before .before .records-in .ensures)
 
 same-length : tie.Need-same-length
 same-length c = search needs
