@@ -48,8 +48,9 @@ pub extern "C" fn amphorust_judge<'a>(
 }
 
 // Judges a queue of records, each listed by four words: where its words start and how many they are,
-// and the same of its text. The number's lowest byte is 0, and 10 more than the refusal's number for
-// refused; what stands above it is the number of records answered or, of a refusal, the place.
+// and the same of its text. Each record's answer is the number that `amphorust_judge` gives it. The
+// call's own has the lowest byte 0, or 10 more than the refusal's number for refused; what stands above
+// it is the number of records answered or, of a refusal, the place.
 #[no_mangle]
 pub extern "C" fn amphorust_judge_queue<'a>(
     words: &'a [u32],
