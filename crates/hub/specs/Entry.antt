@@ -1,13 +1,14 @@
--- The promises to C (paper 01, "What the judge does"; paper 02, #103): one 64-bit number for the specification's answer, by one definition for every call
+-- The promises to C (paper 01, "What the judge does"; paper 02, #103 and #105): one 64-bit number for the specification's answer, by one definition for every call
 -- (`numberForC`), and of judging the specification's areas.
 --
--- Of judging any two outcomes that it allows are equal (`outcome-one` in `proofs/Calls.antt`): the number, the cells and the list are each said to be one value, of
--- the words, texts and areas at entry.
+-- Of judging, in whole or for the verdict only, any two outcomes that it allows are equal (`outcome-one` in `proofs/Calls.antt`): the number, the cells and the list
+-- are each said to be one value, of the words, texts and areas at entry.
 -- Assumes nothing.
 use mathlib.Core.List.{List}
 use mathlib.Core.Path.{_≡_}
 use Prim.Native.Nat.{ℕ, _+_, _/_, _%_}
 use Rattle.sheet.specs.Refusals.{Outcome, accepted, refused}
+use Rattle.meaning.specs.Rules.{Way}
 use Rattle.meaning.specs.Answer.{Answer, valid, invalid, refuses, numberForC, judge}
 use Rattle.meaning.specs.Demands.{Demands}
 
@@ -26,10 +27,10 @@ counted (valid count marks) = count
 counted (invalid count marks) = count
 counted (refuses number place) = 0
 
-pub record Called (ws ts rs us cells₀ list₀ cells list : List ℕ) (r : ℕ) : Type 0 where
-  pub number-is : r ≡ numberForC (judge ws ts rs us cells₀ list₀ .answer)
-  pub cells-are : cells ≡ judge ws ts rs us cells₀ list₀ .cells
-  pub list-is : list ≡ judge ws ts rs us cells₀ list₀ .list
+pub record Called (w : Way) (ws ts rs us cells₀ list₀ cells list : List ℕ) (r : ℕ) : Type 0 where
+  pub number-is : r ≡ numberForC (judge w ws ts rs us cells₀ list₀ .answer)
+  pub cells-are : cells ≡ judge w ws ts rs us cells₀ list₀ .cells
+  pub list-is : list ≡ judge w ws ts rs us cells₀ list₀ .list
 
 -- ---- what the number tells
 
@@ -40,7 +41,7 @@ pub data Tells (r : ℕ) : Answer → Type 0 where
   tells-refused : {number place : ℕ} → r % 256 ≡ 10 + number → r / 256 ≡ place → Tells r (refuses number place)
 
 -- the number tells an answer that meets the demands, with the areas as they are left
-pub record NumberDemands (ws ts rs us cells₀ list₀ cells list : List ℕ) (r : ℕ) : Type 0 where
+pub record NumberDemands (w : Way) (ws ts rs us cells₀ list₀ cells list : List ℕ) (r : ℕ) : Type 0 where
   pub answer : Answer
   pub tells : Tells r answer
-  pub demands : Demands ws ts rs us cells₀ list₀ (record { answer = answer; cells = cells; list = list })
+  pub demands : Demands w ws ts rs us cells₀ list₀ (record { answer = answer; cells = cells; list = list })
