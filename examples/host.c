@@ -68,7 +68,7 @@ static void print_pairs(uint64_t answer)
     for (size_t i = 0; i < amphorust_count(answer); i++) {
         printf("    row %" PRIu32 " by schema %" PRIu32 " %s\n", amphorust_pair_row(list[i], schemas),
                amphorust_pair_schema(list[i], schemas),
-               amphorust_verdict(cells[list[i]]) == AMPHORUST_HELD ? "held" : "failed");
+               amphorust_cell_verdict(cells[list[i]]) == AMPHORUST_HELD ? "held" : "failed");
     }
 }
 

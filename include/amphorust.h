@@ -2,9 +2,10 @@
  *
  * A sheet is an array of 32-bit words with its text in bytes: a record or rules. `amphorust_check` says
  * whether one is in order. `amphorust_judge` takes a record and rules, and two areas that it writes: the
- * cells and the settling list; it checks both sheets itself. `amphorust_judge_queue` does so with up to
- * 512 records, one after the other. Each answers by one 64-bit number, for every input whatever; what it
- * gives and leaves is proved, for all of them.
+ * cells and the settling list; it checks both sheets itself. `amphorust_verdict` does only what the verdict
+ * needs, and has no list. `amphorust_judge_queue` judges up to 512 records, one after the other. Each
+ * answers by one 64-bit number, for every input whatever; what it gives and leaves is proved, for all of
+ * them.
  *
  * `./install PREFIX` gives libamphorust.a and libamphorust.so to link with, beside the C library; in a clone they are
  * target/staticlib/libhub.a and target/lib/libamphorust.so (`./amphorust build`). x86-64 only. `examples/host.c` and
@@ -48,6 +49,17 @@ uint64_t amphorust_judge(const uint32_t *record, size_t record_length,
                          const uint8_t *rule_text, size_t rule_text_length,
                          uint8_t *cells, size_t cells_length,
                          uint32_t *list, size_t list_length);
+
+/* Judges a record by rules as far as the verdict needs: a schema judges no clause after its first that
+ * fails, and allOf applies no entry after its first that fails; all else is judged as `amphorust_judge`
+ * judges it. It answers as that does where its list is long enough: the same verdict, the same refusal and
+ * place; the cells need as many places. The count is that of the pairs settled here, which are some of
+ * those of `amphorust_judge`, each with the verdict and the marks that it has there. */
+uint64_t amphorust_verdict(const uint32_t *record, size_t record_length,
+                           const uint8_t *record_text, size_t record_text_length,
+                           const uint32_t *rules, size_t rules_length,
+                           const uint8_t *rule_text, size_t rule_text_length,
+                           uint8_t *cells, size_t cells_length);
 
 #define AMPHORUST_ROOM_MAX 1048576 /* 1,024 rows x 1,024 schemas */
 
@@ -98,7 +110,8 @@ static inline int amphorust_is_invalid(uint64_t answer) { return answer % 256 ==
 
 static inline int amphorust_is_refused(uint64_t answer) { return answer % 256 > 10; }
 
-/* The settled pairs: how many words of the list the call wrote. A refused call wrote none. */
+/* The settled pairs: how many words of the list judging wrote, and how many cells show a verdict. A refused
+ * call settled none. */
 static inline size_t amphorust_count(uint64_t answer)
 {
     return amphorust_is_refused(answer) ? 0 : (size_t)(answer / 256);
@@ -131,9 +144,10 @@ static inline uint32_t amphorust_place(uint64_t answer)
 /* ---- Refusals
  *
  * They are tested in order over whole sheets, and the first that applies is given: by a check 12, then 1,
- * 2, 3, 13, 4 of a record or 5, 6, 7, 13, 8, 9 of rules; by judging the record's, the rules', 10 and 11,
- * and never 12: there a sheet of another kind is refused 1 or 5; by a queue 30, 31 and 32 alone. A refused
- * call leaves the areas as they were. Rows, schemas, clauses and entries count from 0; a place in the rules counts the schemas, then the
+ * 2, 3, 13, 4 of a record or 5, 6, 7, 13, 8, 9 of rules; by judging the record's, the rules', 10 and (not
+ * for the verdict only) 11, and never 12: there a sheet of another kind is refused 1 or 5; by a queue 30, 31
+ * and 32 alone. A refused call leaves the areas as they were. Rows, schemas, clauses and entries count from
+ * 0; a place in the rules counts the schemas, then the
  * clauses, then the entries. */
 static inline const char *amphorust_refusal_text(unsigned refusal)
 {
@@ -186,7 +200,7 @@ static inline const char *amphorust_refusal_text(unsigned refusal)
 #define AMPHORUST_FAILED 2
 #define AMPHORUST_MARKED 4
 
-static inline unsigned amphorust_verdict(uint8_t cell) { return cell % AMPHORUST_MARKED; }
+static inline unsigned amphorust_cell_verdict(uint8_t cell) { return cell % AMPHORUST_MARKED; }
 
 static inline int amphorust_is_marked(uint8_t cell) { return cell >= AMPHORUST_MARKED; }
 

@@ -3,17 +3,19 @@
  *
  *     c_entry          judges, every call on this thread
  *     c_entry check    checks sheets
+ *     c_entry verdict  judges for the verdict only
  *     c_entry queue    judges queues
  *     c_entry BYTES    judges, each on a thread whose stack has that many bytes, nothing mapped below it
+ *     c_entry verdict BYTES    judges for the verdict only on such threads
  *     c_entry past N   calls nothing: reads a byte past array N, which must kill it
  *     c_entry into N   calls nothing: writes array N, which must kill it if the calls only read that
  *
  * A call to judge is six lengths in elements (record, record text, rules, rule text, cells, list), ABSENT
  * for a null pointer and length 0, and then the six arrays. What came of it is the answer, whether it is
  * valid, invalid and refused, the count, the refusal, the place and the room that the header reads from
- * the sheets, 64 bits each, and then the cells and the list. A call to check is the first two lengths and
- * arrays. What came of it is the answer, whether it is in order and refused, the size, the refusal and
- * the place. A call to judge a queue is eight (words, bytes, listing, rules, rule text, cells, list,
+ * the sheets, 64 bits each, and then the cells and the list; for the verdict only there is no list. A call
+ * to check is the first two lengths and arrays. What came of it is the answer, whether it is in order and
+ * refused, the size, the refusal and the place. A call to judge a queue is eight (words, bytes, listing, rules, rule text, cells, list,
  * answers). What came of it is the answer, whether it is refused, how many were answered, the refusal
  * and the place, and then the cells, the list and the answers.
  *
@@ -43,6 +45,7 @@ struct shape {
 
 static const struct shape checking = {2, 2, {4, 1}};
 static const struct shape judging = {6, CELLS, {4, 1, 4, 1, 1, 4}};
+static const struct shape judging_verdict = {5, CELLS, {4, 1, 4, 1, 1}};
 static const struct shape judging_queue = {8, QUEUE_CELLS, {4, 1, 4, 4, 1, 1, 4, 8}};
 
 struct part {
@@ -116,6 +119,16 @@ static void *judge(void *unused)
     return unused;
 }
 
+static void *judge_verdict(void *unused)
+{
+    answer = amphorust_verdict((const uint32_t *)parts[RECORD].array, parts[RECORD].length,
+                               parts[RECORD_TEXT].array, parts[RECORD_TEXT].length,
+                               (const uint32_t *)parts[RULES].array, parts[RULES].length,
+                               parts[RULE_TEXT].array, parts[RULE_TEXT].length,
+                               parts[CELLS].array, parts[CELLS].length);
+    return unused;
+}
+
 static void judge_queue(void)
 {
     answer = amphorust_judge_queue((const uint32_t *)parts[WORDS].array, parts[WORDS].length,
@@ -128,14 +141,14 @@ static void judge_queue(void)
                                    (uint64_t *)parts[ANSWERS].array, parts[ANSWERS].length);
 }
 
-static void judge_on_thread(size_t stack)
+static void judge_on_thread(void *(*how)(void *), size_t stack)
 {
     uint8_t *region = map(BELOW + stack, PROT_READ | PROT_WRITE);
     pthread_attr_t attributes;
     pthread_t thread;
     mprotect(region, BELOW, PROT_NONE);
     if (pthread_attr_init(&attributes) != 0 || pthread_attr_setstack(&attributes, region + BELOW, stack) != 0
-        || pthread_create(&thread, &attributes, judge, NULL) != 0 || pthread_join(thread, NULL) != 0)
+        || pthread_create(&thread, &attributes, how, NULL) != 0 || pthread_join(thread, NULL) != 0)
         give_up("no thread");
     munmap(region, BELOW + stack);
 }
@@ -193,7 +206,13 @@ int main(int count, char **arguments)
 {
     int checks = count == 2 && strcmp(arguments[1], "check") == 0;
     int queues = count == 2 && strcmp(arguments[1], "queue") == 0;
-    shape = checks ? checking : queues ? judging_queue : judging;
+    int verdicts = count >= 2 && strcmp(arguments[1], "verdict") == 0;
+    void *(*how)(void *) = verdicts ? judge_verdict : judge;
+    shape = checks ? checking : queues ? judging_queue : verdicts ? judging_verdict : judging;
+    if (verdicts) {
+        count--;
+        arguments++;
+    }
     while (read_call()) {
         if (count > 2)
             trespass(arguments[1], &parts[strtoul(arguments[2], NULL, 10)]);
@@ -202,9 +221,9 @@ int main(int count, char **arguments)
         else if (queues)
             judge_queue();
         else if (count > 1)
-            judge_on_thread(strtoul(arguments[1], NULL, 10));
+            judge_on_thread(how, strtoul(arguments[1], NULL, 10));
         else
-            judge(NULL);
+            how(NULL);
         for (int i = 0; i < shape.given; i++)
             look_before(&parts[i]);
         checks ? write_checked() : queues ? write_answered() : write_judged();

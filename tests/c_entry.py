@@ -4,8 +4,8 @@
 Builds the archive and the example host (examples/build-host), then tests/c_entry.c with the archive. That program
 places each array directly before an unmapped page and makes the four that are only read unwritable. Cases are the
 samples, the limits, texts of 65,535 and 65,536 bytes, sheets cut short and random ones; each is called with areas of
-several lengths, full of random bytes. Checks of sheets (tests/c_check.py) and queues (tests/c_queue.py) are compared
-too. Finds the smallest stack at which the deepest recursion works.
+several lengths, full of random bytes, and again for the verdict only. Checks of sheets (tests/c_check.py) and queues
+(tests/c_queue.py) are compared too. Finds the smallest stack at which the deepest recursion works.
 
 Ends with 'N passed, M failed'. COUNT and SEED may be given."""
 import itertools
@@ -79,10 +79,38 @@ class Call:
         """What the caller must write."""
         arrays = [empty if array is None else array for array, empty in zip(self.arrays, ([], b'', [], b'', b'', []))]
         answer, cells, list_ = second.judge(*arrays)
-        refused = answer.verdict == 'refused'
-        told = TOLD.pack(second.number_for_c(answer), answer.verdict == 'valid', answer.verdict == 'invalid', refused,
-                         answer.count or 0, answer.number or 0, answer.place or 0, room(arrays[0], arrays[2]))
-        return told + bytes(cells) + second.to_bytes(list_)
+        return told_of(answer, arrays) + bytes(cells) + second.to_bytes(list_)
+
+
+def told_of(answer, arrays):
+    """What the caller tells of an answer."""
+    return TOLD.pack(second.number_for_c(answer), answer.verdict == 'valid', answer.verdict == 'invalid', answer.verdict == 'refused',
+                     answer.count or 0, answer.number or 0, answer.place or 0, room(arrays[0], arrays[2]))
+
+
+class VerdictCall(Call):
+    """Only the verdict: five arrays, no list. The full call, its list long enough, must give the same verdict and have settled
+    every pair that is settled here, with the same cell but for the marks of pairs that only it settled."""
+
+    def __init__(self, label, *arrays):
+        Call.__init__(self, label + ', only the verdict', *arrays, None)
+
+    def sent(self):
+        lengths = [c_check.ABSENT if array is None else len(array) for array in self.arrays[:5]]
+        return struct.pack('<5I', *lengths) + b''.join(in_bytes(array or []) for array in self.arrays[:5])
+
+    def wanted(self):
+        arrays = [empty if array is None else array for array, empty in zip(self.arrays, ([], b'', [], b'', b''))]
+        answer, cells, _ = second.verdict(*arrays)
+        full, all_cells, _ = second.judge(*arrays, [0] * (room(arrays[0], arrays[2]) or 6))
+        assert (answer.verdict, answer.number, answer.place, answer.marked) == (full.verdict, full.number, full.place, full.marked)
+        if answer.verdict != 'refused':
+            assert all(other % 4 == one % 4 for one, other in zip(cells, all_cells[:answer_size(arrays)]) if one % 4)
+        return told_of(answer, arrays) + bytes(cells)
+
+
+def answer_size(arrays):
+    return room(arrays[0], arrays[2])
 
 
 def in_bytes(array):
@@ -224,18 +252,22 @@ def difference(got, wanted):
 
 
 def check_calls(results, rng, count, seed):
-    batch, size = [], 0
+    batch, verdicts, size = [], [], 0
     for case in cases(rng, count, seed):
         for call in calls_of(rng, *case):
             batch.append(call)
+            verdicts.append(VerdictCall(call.label, *call.arrays[:5]))
             size += len(call.sent())
         if size > BATCH:
             compare(results, batch)
-            batch, size = [], 0
+            compare(results, verdicts, 'verdict')
+            batch, verdicts, size = [], [], 0
     compare(results, batch)
+    compare(results, verdicts, 'verdict')
     label, *parts = sheets.full_sheet()
     areas = room(parts[0], parts[2])
     compare(results, [Call(label, *parts, rng.randbytes(areas), second.to_words(rng.randbytes(4 * areas)))])
+    compare(results, [VerdictCall(label, *parts, rng.randbytes(areas))], 'verdict')
 
 
 def check_guards(results):
@@ -279,15 +311,15 @@ def check_stack(results):
     with open(os.path.join(ROOT, 'include', 'amphorust.h')) as header:
         said = int(re.search(r'^#define AMPHORUST_STACK (\d+)', header.read(), re.M)[1])
     for label, *parts in deep_cases():
-        call = Call(label, *parts, bytes(1024), [0] * 1024)
-        low, high = 0, STACK_MOST // STACK_STEP
-        while high - low > 1:
-            middle = (low + high) // 2
-            works = run_caller(call.sent(), str(middle * STACK_STEP)).stdout == call.wanted()
-            low, high = (low, middle) if works else (middle, high)
-        smallest = high * STACK_STEP
-        print('32 levels by chains of 32 through %s: the smallest stack is %d KiB' % (label, smallest // 1024))
-        results.check(smallest <= said, 'deep %s: needs a stack of %d' % (label, smallest))
+        for call, how in ((Call(label, *parts, bytes(1024), [0] * 1024), []), (VerdictCall(label, *parts, bytes(1024)), ['verdict'])):
+            low, high = 0, STACK_MOST // STACK_STEP
+            while high - low > 1:
+                middle = (low + high) // 2
+                works = run_caller(call.sent(), *how, str(middle * STACK_STEP)).stdout == call.wanted()
+                low, high = (low, middle) if works else (middle, high)
+            smallest = high * STACK_STEP
+            print('32 levels by chains of 32 through %s: the smallest stack is %d KiB' % (call.label, smallest // 1024))
+            results.check(smallest <= said, 'deep %s: needs a stack of %d' % (call.label, smallest))
 
 
 def main(count=1500, seed=1):

@@ -166,7 +166,8 @@ class Exits:
             self.equal('booking with the archive', (ran.stdout, ran.returncode), told)
         names = subprocess.run([machine.tool('nm'), '-D', '--defined-only', str(library / 'libamphorust.so')],
                                capture_output=True, text=True).stdout.split()[2::3]
-        self.equal('what the shared library exports', names, ['amphorust_check', 'amphorust_judge', 'amphorust_judge_queue'])
+        self.equal('what the shared library exports', names, ['amphorust_check', 'amphorust_judge',
+                                                                  'amphorust_judge_queue', 'amphorust_verdict'])
         ran = subprocess.run([os.path.join(judges.ROOT, 'install')], capture_output=True, text=True)
         self.equal('./install', (ran.stdout, ran.stderr, ran.returncode), ('', 'usage: ./install PREFIX\n', 2))
 

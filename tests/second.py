@@ -416,12 +416,13 @@ class Derivation:
     """Verdict and marks of pairs (record row, schema), and the pairs each applies.
 
     The memory of outcomes is a speed-up alone: with remember=False every pair
-    is derived afresh from the rules, with the same outcome.
+    is derived afresh from the rules, with the same outcome. With cut=True (02, #105)
+    no clause is judged after the first that fails, and no entry of allOf.
     """
 
-    def __init__(self, rows, record_text, rules, remember=True):
+    def __init__(self, rows, record_text, rules, remember=True, cut=False):
         self.rows, self.record_text, self.rules = rows, record_text, rules
-        self.remember, self.outcomes = remember, {}
+        self.remember, self.outcomes, self.cut = remember, {}, cut
 
     def outcome(self, j, s):
         if not self.remember:
@@ -437,13 +438,18 @@ class Derivation:
         return self.outcome(*pair).marks
 
     def derive(self, j, s):
-        """Each clause in rising code, also after a failure; a schema that fails has no marks."""
+        """Each clause in rising code, also after a failure unless cut; a schema that fails has no marks."""
         held, marks, applied = True, frozenset(), []
         for clause in clauses_of(self.rules, s):
+            if self.cut and not held:
+                break
             kind = self.rows[j].kind
             if CONCERNS.get(clause.code, kind) != kind:
                 continue                    # about another type: holds, marks and applies nothing
             pairs = self.pairs_applied(j, s, clause, marks)
+            if self.cut and clause.code == 30:
+                failing = [i for i, pair in enumerate(pairs) if not self.holds(pair)]
+                pairs = pairs[:failing[0] + 1] if failing else pairs
             held = self.clause_holds(j, clause, pairs) and held
             marks = marks | self.clause_marks(clause, pairs)
             applied = applied + pairs
@@ -602,6 +608,25 @@ def judge(record, record_text, rules, rule_text, cells, list_):
     root = derivation.outcome(0, 0)
     answer = Answer('valid' if root.held else 'invalid', len(order), None, None, len(root.marks))
     return Judgement(answer, cells, list_)
+
+
+# ---- only the verdict (02, #105) ----
+
+def verdict(record, record_text, rules, rule_text, cells):
+    """The answer and the cells after, where judging is cut; the count is that of the cells that show a verdict."""
+    cells = list(cells)
+    endless = range(2 ** 32)                # a list is not asked for: 11 never applies
+    answer = refusal(record, record_text, rules, rule_text, cells, endless)
+    if answer is not None:
+        return Judgement(answer, cells, [])
+    rows, sheet = read_rows(record), read_rules(rules, rule_text)
+    n, m = len(rows), len(sheet.schemas)
+    derivation = Derivation(rows, record_text, sheet, cut=True)
+    settled = set(settling_order(derivation))
+    cells[:n * m] = [cell(derivation, settled, j, s) for j in range(n) for s in range(m)]
+    root = derivation.outcome(0, 0)
+    count = len([value for value in cells[:n * m] if value % 4])
+    return Judgement(Answer('valid' if root.held else 'invalid', count, None, None, len(root.marks)), cells, [])
 
 
 # ---- one check for both kinds of sheet (02, #103) ----

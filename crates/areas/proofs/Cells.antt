@@ -21,8 +21,9 @@ use borrow.Author.Count.{below-more}
 use borrow.Author.Tests.{eq-eqb, ne-eqb, lt-ltb, le-ltb}
 use Rattle.laws.proofs.Tests.{le-or-lt, decide}
 use Rattle.meaning.specs.Lists.{range, keep}
+use Rattle.meaning.specs.Settling.{shown}
 use Rattle.meaning.proofs.Words.{row-of, rule-of}
-use Rattle.areas.specs.Cells.{cellOf, verd, bit, four, settledAs, column, settledOf, markedBy, Cleared, plus}
+use Rattle.areas.specs.Cells.{cellOf, verd, bit, four, settledAs, column, markedBy, Cleared, plus}
 
 -- ---- one cell
 
@@ -98,29 +99,29 @@ module _ (m j s k t : ℕ) (g : s < m) (h : t < m) (e : cellOf m j s ≡ cellOf 
 
 -- ---- how many are settled
 
-pub settled-le : (l : List ℕ) → settledOf l ≤ length l
-unfolding settledOf
+pub settled-le : (l : List ℕ) → shown l ≤ length l
+unfolding shown verd
 settled-le [] = omega arith
 settled-le (x ∷ l) = let h = settled-le l in ⊎-elim (λ e. rw e (omega arith)) (λ e. rw e (omega arith)) (decide (eqb (verd x) 0))
 
 -- while one is not, there is room for it among as many
-pub settled-room : (l : List ℕ) (k : ℕ) → k < length l → verd (getD l k 0) ≡ 0 → settledOf l < length l
-unfolding settledOf
+pub settled-room : (l : List ℕ) (k : ℕ) → k < length l → verd (getD l k 0) ≡ 0 → shown l < length l
+unfolding shown verd
 settled-room [] k h e = omega arith
 settled-room (x ∷ l) zero h e = let g = settled-le l in rw (eq-eqb (verd x) 0 e) (omega arith)
 settled-room (x ∷ l) (suc k) h e =
     let g = settled-room l k (omega arith) e in
     ⊎-elim (λ d. rw d (omega arith)) (λ d. rw d (omega arith)) (decide (eqb (verd x) 0))
 
-pub settled-set : (l : List ℕ) (k v : ℕ) → k < length l → verd (getD l k 0) ≡ 0 → (verd v ≡ 0 → ⊥) → settledOf (set l k v) ≡ settledOf l + 1
-unfolding settledOf
+pub settled-set : (l : List ℕ) (k v : ℕ) → k < length l → verd (getD l k 0) ≡ 0 → (verd v ≡ 0 → ⊥) → shown (set l k v) ≡ shown l + 1
+unfolding shown verd
 settled-set [] k v h e f = omega arith
 settled-set (x ∷ l) zero v h e f = rw (eq-eqb (verd x) 0 e, ne-eqb (verd v) 0 f) (omega arith)
 settled-set (x ∷ l) (suc k) v h e f = let g = settled-set l k v (omega arith) e f in omega arith
 
 -- the verdicts alone say it
-pub settled-same : (l l′ : List ℕ) → length l ≡ length l′ → ((i : ℕ) → verd (getD l i 0) ≡ verd (getD l′ i 0)) → settledOf l ≡ settledOf l′
-unfolding settledOf
+pub settled-same : (l l′ : List ℕ) → length l ≡ length l′ → ((i : ℕ) → verd (getD l i 0) ≡ verd (getD l′ i 0)) → shown l ≡ shown l′
+unfolding shown verd
 settled-same [] [] e f = refl
 settled-same [] (x ∷ l′) e f = omega arith
 settled-same (x ∷ l) [] e f = omega arith
@@ -128,8 +129,8 @@ settled-same (x ∷ l) (y ∷ l′) e f =
     let a : verd x ≡ verd y = f 0 in
     rw (a, settled-same l l′ (omega arith) (λ i. f (suc i)))
 
-pub settled-blank : (l : List ℕ) → ((i : ℕ) → getD l i 0 ≡ 0) → settledOf l ≡ 0
-unfolding settledOf verd
+pub settled-blank : (l : List ℕ) → ((i : ℕ) → getD l i 0 ≡ 0) → shown l ≡ 0
+unfolding shown verd
 settled-blank [] f = refl
 settled-blank (x ∷ l) f = let z : x ≡ 0 = f 0 in rw (z, settled-blank l (λ i. f (suc i)))
 

@@ -3,10 +3,10 @@
 -- stand in its schema's column, in the cells of the children of its row.
 -- Assumes nothing.
 use mathlib.Core.Bool.{Bool, cond}
-use mathlib.Core.List.{List, [], _∷_}
+use mathlib.Core.List.{List}
 use mathlib.Core.Path.{_≡_}
 use Prim.Native.Nat.{ℕ, _+_, _*_, _%_}
-use lib.Dec.{eqb, ltb}
+use lib.Dec.{ltb}
 use lib.ListN.{length, getD}
 use Rattle.sheet.specs.declared.record.Pair as Declared
 use Rattle.meaning.specs.Lists.{range, keep}
@@ -51,11 +51,6 @@ settledAs holds = cond holds 1 2
 -- the rows that are marked in column s
 abbrev pub column : ℕ → List ℕ → ℕ → Marks
 column m cells s k = bit (getD cells (cellOf m k s) 0)
-
--- how many pairs are settled
-unfoldable pub settledOf : List ℕ → ℕ
-settledOf [] = 0
-settledOf (x ∷ cells) = cond (eqb (verd x) 0) 0 1 + settledOf cells
 
 -- how many of the `many` rows from `first` on are marked in column 0
 unfoldable pub markedBy : ℕ → List ℕ → ℕ → ℕ → ℕ

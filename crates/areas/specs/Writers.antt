@@ -12,14 +12,14 @@ use Rattle.areas.specs.Cells.{cellOf, verd, settledAs, column}
 
 -- ---- the verdict
 
--- before: the pair of cell k is not settled, and the list has room for a word after its first `count`
-pub record Open (cells list : List ℕ) (count k : ℕ) : Type 0 where
+-- before: the pair of cell k is not settled
+pub record Open (cells : List ℕ) (count k : ℕ) : Type 0 where
   pub in-cells : k < length cells
   pub unsettled : verd (getD cells k 0) ≡ 0
-  pub in-list : count < length list
   pub narrow : k < 4294967296
+  pub few : count < 4294967296
 
--- after: its cell has the verdict, its word is the list's next, and all else is as it was
+-- after: its cell has the verdict, its word is the list's next if the list has a place for it, and all else is as it was
 pub record Shut (cells₀ list₀ : List ℕ) (count k : ℕ) (ok : Bool) (cells list : List ℕ) (r : ℕ) : Type 0 where
   pub cell : cells ≡ set cells₀ k (getD cells₀ k 0 + settledAs ok)
   pub entry : list ≡ set list₀ count k

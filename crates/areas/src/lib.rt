@@ -9,7 +9,7 @@
 // Its contracts cite specs/, in reading order: `Cells`, `Writers`.
 ghost use mathlib.Core.Path.{_≡_};
 ghost use Prim.Native.Nat.{_+_, _<_};
-ghost use lib.ListN.{length, getD};
+ghost use lib.ListN.{length, getD, set};
 ghost use Rattle.areas.specs.Cells.{pairIs, cellAt, verd, bit, four, settledAs, plus, Cleared, markedBy};
 ghost use Rattle.areas.specs.Writers.{Open, Shut, Writes, Marked, merged, kept, handedOn, HandsOn};
 use sheet::record::Children;
@@ -70,8 +70,20 @@ fn settled_as(holds: bool) -> u8
     if holds { 1 } else { 2 }
 }
 
+// Writes k after the first `count` words of the list, if it has a place there: a list of no places is
+// left alone.
+fn enlist(list: &mut [u32], count: usize, k: usize)
+    requires { ⌜ k < 4294967296 ⌝ }
+    ensures { λ r. ⌜ now (list .exit) ≡ set (now (list .entry)) count k ⌝ }
+{
+    if list.len() <= count {
+        return;
+    }
+    list[count] = k as u32;
+}
+
 // Settles the pair, which is not settled, and lists it after the first `count` words. The answer is
-// how many are listed then.
+// how many are settled then.
 pub fn settle(
     cells: &mut [u8],
     list: &mut [u32],
@@ -80,13 +92,13 @@ pub fn settle(
     ok: bool,
     count: usize,
 ) -> usize
-    requires { ⌜ Open (now cells) (now list) count (cellAt m (pairIs p)) ⌝ }
+    requires { ⌜ Open (now cells) count (cellAt m (pairIs p)) ⌝ }
     ensures { λ r. ⌜ Shut (now (cells .entry)) (now (list .entry)) count (cellAt m (pairIs p)) ok (now (cells .exit)) (now (list .exit)) r ⌝ }
 {
     let k = cell_of(m, p);
     let x = cells[k];
     cells[k] = x + settled_as(ok);
-    list[count] = k as u32;
+    enlist(list, count, k);
     count + 1
 }
 

@@ -16,7 +16,7 @@ use Rattle.sheet.specs.Doc.{Doc}
 use Rattle.rulesheet.specs.Ruleset.{Ruleset}
 use Rattle.rulesheet.proofs.Reaching.{made-at}
 use Rattle.meaning.specs.Lists.{range, concatMap}
-use Rattle.meaning.specs.Rules.{Pair, truth}
+use Rattle.meaning.specs.Rules.{Pair, whole, truth}
 use Rattle.meaning.specs.Settling.{listed, root, settled, word, list, cell, cells}
 use Rattle.meaning.specs.Fit.{Fit, Inside}
 use Rattle.meaning.proofs.Lists.{in-every}
@@ -92,29 +92,29 @@ module _ (D : Doc) (R : Ruleset) (n m : ℕ) (fit : Fit D R n m) where
   root-word = omega arith
 
   abbrev settled-at : ℕ → Pair
-  settled-at i = getD (settled D R) i root
+  settled-at i = getD (settled D R whole) i root
 
-  module _ (i : ℕ) (h : i < length (settled D R)) where
+  module _ (i : ℕ) (h : i < length (settled D R whole)) where
     inside : Inside n m (settled-at i)
-    inside = in-every (all-inside D R n m fit) (in-at (settled D R) i root h)
+    inside = in-every (all-inside D R whole n m fit) (in-at (settled D R whole) i root h)
 
     listed-word : (ls : List ℕ) → getD (list D R n m ++ ls) i 0 ≡ word D R n m (settled-at i)
     unfolding list
     listed-word ls =
-        List·getD-append (list D R n m) ls 0 i (rw (length-map (settled D R) (word D R n m)) h)
+        List·getD-append (list D R n m) ls 0 i (rw (length-map (settled D R whole) (word D R n m)) h)
         ∙ ap (getD (list D R n m) i) (sym root-word)
-        ∙ List·getD-map (word D R n m) (settled D R) i root
+        ∙ List·getD-map (word D R n m) (settled D R whole) i root
 
     pub listed-below : (ls : List ℕ) → getD (list D R n m ++ ls) i 0 < n * m
-    listed-below ls = rw (listed-word ls) (word-below D R n m fit (settled-at i) inside)
+    listed-below ls = rw (listed-word ls) (word-below D R whole n m fit (settled-at i) inside)
 
-    held-shown : (cs : List ℕ) → eqb (verd (getD (cells D R n m ++ cs) (word D R n m (settled-at i)) 0)) 1 ≡ (truth D R (settled-at i)) .holds
+    held-shown : (cs : List ℕ) → eqb (verd (getD (cells D R n m whole ++ cs) (word D R n m (settled-at i)) 0)) 1 ≡ (truth D R (settled-at i)) .holds
     unfolding cells word
     held-shown cs =
         let p = settled-at i in
-        let at = row-at (λ j s. cell D R n m (settled D R) (record { row = j; rule = s })) cs m n 0 (p .row) (p .rule) (inside .row-in) (inside .rule-in) in
+        let at = row-at (λ j s. cell D R n m (settled D R whole) (record { row = j; rule = s })) cs m n 0 (p .row) (p .rule) (inside .row-in) (inside .rule-in) in
         let z : 0 + p .row ≡ p .row = omega arith in
-        rw (at, z) (held-cell D R n m (settled D R) p (in-listed p (in-at (settled D R) i root h)))
+        rw (at, z) (held-cell D R n m (settled D R whole) p (in-listed p (in-at (settled D R whole) i root h)))
 
     row-shown : word D R n m (settled-at i) / m ≡ settled-at i .row
     unfolding word
@@ -124,11 +124,11 @@ module _ (D : Doc) (R : Ruleset) (n m : ℕ) (fit : Fit D R n m) where
     unfolding word
     rule-shown = rule-of m (settled-at i .row) (settled-at i .rule) (inside .rule-in)
 
-    line-shown : (cs ls : List ℕ) → lineAt (cells D R n m ++ cs) (list D R n m ++ ls) m i ≡ lineOf D R (settled-at i)
+    line-shown : (cs ls : List ℕ) → lineAt (cells D R n m whole ++ cs) (list D R n m ++ ls) m i ≡ lineOf D R (settled-at i)
     unfolding lineAt lineOf
     line-shown cs ls = rw (listed-word ls) (λ k. record { row = row-shown k; schema = rule-shown k; held = held-shown cs k })
 
-  pub lines-shown : (cs ls : List ℕ) → map (lineAt (cells D R n m ++ cs) (list D R n m ++ ls) m) (range 0 (length (settled D R))) ≡ map (lineOf D R) (settled D R)
+  pub lines-shown : (cs ls : List ℕ) → map (lineAt (cells D R n m whole ++ cs) (list D R n m ++ ls) m) (range 0 (length (settled D R whole))) ≡ map (lineOf D R) (settled D R whole)
   lines-shown cs ls =
-      by-places (lineOf D R) (lineAt (cells D R n m ++ cs) (list D R n m ++ ls) m) root (settled D R) 0
+      by-places (lineOf D R) (lineAt (cells D R n m whole ++ cs) (list D R n m ++ ls) m) root (settled D R whole) 0
       (λ i h. let z : 0 + i ≡ i = omega arith in rw z (line-shown i h cs ls))

@@ -19,7 +19,7 @@ use Rattle.sheet.specs.Faults.{recordOutcome}
 use Rattle.rulesheet.specs.Ruleset.{Ruleset}
 use Rattle.rulesheet.specs.Sheet.{rulesOf}
 use Rattle.rules.specs.Check.{rulesOutcome}
-use Rattle.meaning.specs.Rules.{truth}
+use Rattle.meaning.specs.Rules.{whole, truth}
 use Rattle.meaning.specs.Settling.{root, settled, marked, list, cells}
 use Rattle.meaning.specs.Fit.{Fit}
 use Rattle.meaning.specs.Answer.{refuses, Left, verdict, judged, judge}
@@ -79,14 +79,14 @@ module _ (ws ts rs us cs ls : List ℕ) (n m : ℕ) (given : InOrder ws ts rs us
       let z : m * side-max ≡ side-max * m = mul-comm m side-max in
       omega arith
 
-  is-judged : judge ws ts rs us cs ls ≡ judged D R n m cs ls
+  is-judged : judge whole ws ts rs us cs ls ≡ judged whole D R n m cs ls
   is-judged =
       let a : n * m ≤ length cs = (let h = few in let g = given .room .cells-long in omega arith) in
       let b : n * m ≤ length ls = (let h = few in let g = given .room .list-long in omega arith) in
-      call-judged ws ts rs us cs ls n (given .record-good) m (given .rules-good) a b
+      call-judged whole ws ts rs us cs ls n (given .record-good) m (given .rules-good) a b
 
   fit : Fit D R n m
-  fit = fits ws ts rs us cs ls n (given .record-good) m (given .rules-good)
+  fit = fits whole ws ts rs us cs ls n (given .record-good) m (given .rules-good)
 
   told : toldJudged D R n m cs ls ≡ toldSheets ws ts rs us cs ls
   unfolding toldSheets
@@ -96,30 +96,30 @@ module _ (ws ts rs us cs ls : List ℕ) (n m : ℕ) (given : InOrder ws ts rs us
   pub never-refused : (a : J.Answer) (f : Refusal) (place : ℕ) {c l : List ℕ} → a ≡ Refuses f place → callLeaves ws ts rs us cs ls a c l → ⊥
   unfolding judged
   never-refused a f place is e =
-      refuses-none ((truth D R root) .holds) (refusalNumber f) place (length (settled D R)) (marked D R n m)
+      refuses-none ((truth D R root) .holds) (refusalNumber f) place (length (settled D R whole)) (marked D R n m)
       (sym (ap answerOf is) ∙ ap (λ (x : Left). x .answer) (e ∙ is-judged))
 
   abbrev Judges : Bool → ℕ → ℕ → List ℕ → List ℕ → Type 0
-  Judges ok pairs marks c l = _≡_ {A = Left} (record { answer = verdict ok pairs marks; cells = c; list = l }) (judge ws ts rs us cs ls)
+  Judges ok pairs marks c l = _≡_ {A = Left} (record { answer = verdict ok pairs marks; cells = c; list = l }) (judge whole ws ts rs us cs ls)
 
   pub judged-replies : (ok : Bool) (pairs marks : ℕ) {c l : List ℕ} → Roomy c l → Judges ok pairs marks c l
       → Replies (toldSheets ws ts rs us cs ls) (Judged (record { valid = ok; schemas = m; pairs = pairs; marked = marks })) c l
   unfolding judged toldJudged
   judged-replies ok pairs marks {c} {l} room e =
       let left = e ∙ is-judged in
-      let answers = same-verdict ok ((truth D R root) .holds) pairs (length (settled D R)) marks (marked D R n m) (ap (λ (x : Left). x .answer) left) in
-      let cells-are : c ≡ cells D R n m ++ drop (n * m) cs = ap (λ (x : Left). x .cells) left in
-      let list-is : l ≡ list D R n m ++ drop (length (settled D R)) ls = ap (λ (x : Left). x .list) left in
+      let answers = same-verdict ok ((truth D R root) .holds) pairs (length (settled D R whole)) marks (marked D R n m) (ap (λ (x : Left). x .answer) left) in
+      let cells-are : c ≡ cells D R n m whole ++ drop (n * m) cs = ap (λ (x : Left). x .cells) left in
+      let list-is : l ≡ list D R n m ++ drop (length (settled D R whole)) ls = ap (λ (x : Left). x .list) left in
       let size = few in
       let most = once D R n m fit .at-most in
       let long = answers .1 in
       record {
-        tells = rw (answers .0, long, answers .2, cells-are, list-is, lines-shown D R n m fit (drop (n * m) cs) (drop (length (settled D R)) ls)) told;
+        tells = rw (answers .0, long, answers .2, cells-are, list-is, lines-shown D R n m fit (drop (n * m) cs) (drop (length (settled D R whole)) ls)) told;
         readable =
             λ i h.
             record {
               some = fit .some;
               listed = omega (arith, room .list-long);
-              inside = omega (arith, room .cells-long, rw (← list-is) at (listed-below D R n m fit i (omega arith) (drop (length (settled D R)) ls)));
+              inside = omega (arith, room .cells-long, rw (← list-is) at (listed-below D R n m fit i (omega arith) (drop (length (settled D R whole)) ls)));
             };
       }

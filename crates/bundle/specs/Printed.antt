@@ -17,7 +17,7 @@ use Rattle.rulesheet.specs.Ruleset.{Ruleset}
 use Rattle.rulesheet.specs.Sheet.{rulesOf}
 use Rattle.rules.specs.Check.{rulesOutcome}
 use Rattle.meaning.specs.Lists.{range}
-use Rattle.meaning.specs.Rules.{Pair, truth}
+use Rattle.meaning.specs.Rules.{Pair, whole, truth}
 use Rattle.meaning.specs.Settling.{root, settled, marked}
 use Rattle.meaning.specs.Answer as A
 use Rattle.areas.specs.Cells.{verd}
@@ -57,9 +57,9 @@ lineOf D R p = record { row = p .row; schema = p .rule; held = (truth D R p) .ho
 unfoldable pub toldJudged : Doc → Ruleset → ℕ → ℕ → (cs ls : List ℕ) → Told
 toldJudged D R n m cs ls =
     record {
-      printed = judged ((truth D R root) .holds) m (marked D R n m) (map (lineOf D R) (settled D R));
-      cells = A.judged D R n m cs ls .cells;
-      list = A.judged D R n m cs ls .list;
+      printed = judged ((truth D R root) .holds) m (marked D R n m) (map (lineOf D R) (settled D R whole));
+      cells = A.judged whole D R n m cs ls .cells;
+      list = A.judged whole D R n m cs ls .list;
     }
 
 abbrev pub unlessRefused : Outcome → (Printed → Told) → (ℕ → Told) → Told

@@ -10,6 +10,7 @@ use lib.ListN.{length, drop}
 use Rattle.text.specs.Part.{part}
 use Rattle.sheet.specs.Refusals.{Outcome, accepted, refused}
 use Rattle.meaning.specs.Lists.{all, range}
+use Rattle.meaning.specs.Rules.{whole}
 use Rattle.meaning.specs.Answer.{numberForC, judge}
 use Rattle.number.specs.Called.{outcomeAnswer, Called}
 use Rattle.queue.specs.declared.Queued.{Queued}
@@ -50,9 +51,9 @@ module _ (ws bs listing rs us cs ls ns : List ℕ) where
   unfolding oneByOne
   meets [] cs ls = no-more
   meets (k ∷ ks) cs ls =
-      let one = judge (part ws (wordsAt listing k)) (part bs (textAt listing k)) rs us cs ls in
+      let one = judge whole (part ws (wordsAt listing k)) (part bs (textAt listing k)) rs us cs ls in
       one-more
-      (number-demands (part ws (wordsAt listing k)) (part bs (textAt listing k)) rs us cs ls {cells = one .cells} {list = one .list} {r = numberForC (one .answer)}
+      (number-demands whole (part ws (wordsAt listing k)) (part bs (textAt listing k)) rs us cs ls {cells = one .cells} {list = one .list} {r = numberForC (one .answer)}
       (record { number-is = refl; cells-are = refl; list-is = refl }))
       (meets ks (one .cells) (one .list))
 

@@ -1,4 +1,4 @@
--- The promises to C (paper 01, "What the judge does"; paper 02, #103 and #107): one 64-bit number for the specification's answer, by one definition for every call
+-- The promises to C (paper 01, "What the judge does"; paper 02, #103, #105 and #107): one 64-bit number for the specification's answer, by one definition for every call
 -- (`numberForC`), and of judging the specification's areas (`Called` in crate `number`, and here of a queue); and what they come to.
 -- Assumes nothing.
 use mathlib.Core.List.{List, [], _∷_, _++_}
@@ -8,6 +8,7 @@ use lib.ListN.{length, drop}
 use Rattle.text.specs.Part.{part}
 use Rattle.sheet.specs.Refusals.{Outcome, accepted, refused}
 use Rattle.meaning.specs.Lists.{range}
+use Rattle.meaning.specs.Rules.{Way, whole}
 use Rattle.meaning.specs.Answer.{Answer, valid, invalid, refuses, numberForC}
 use Rattle.meaning.specs.Demands.{Demands}
 use Rattle.number.specs.Called.{outcomeAnswer}
@@ -32,15 +33,15 @@ pub data Tells (r : ℕ) : Answer → Type 0 where
   tells-refused : {number place : ℕ} → r % 256 ≡ 10 + number → r / 256 ≡ place → Tells r (refuses number place)
 
 -- the number tells an answer that meets the demands, with the areas as they are left
-pub record NumberDemands (ws ts rs us cells₀ list₀ cells list : List ℕ) (r : ℕ) : Type 0 where
+pub record NumberDemands (w : Way) (ws ts rs us cells₀ list₀ cells list : List ℕ) (r : ℕ) : Type 0 where
   pub answer : Answer
   pub tells : Tells r answer
-  pub demands : Demands ws ts rs us cells₀ list₀ (record { answer = answer; cells = cells; list = list })
+  pub demands : Demands w ws ts rs us cells₀ list₀ (record { answer = answer; cells = cells; list = list })
 
 -- each record's number tells an answer that meets the demands, with the areas as the record before left them
 pub data EachMeets (ws bs listing rs us : List ℕ) : (records cells₀ list₀ numbers cells list : List ℕ) → Type 0 where
   no-more : {cs ls : List ℕ} → EachMeets ws bs listing rs us [] cs ls [] cs ls
-  one-more : {k r : ℕ} {ks ns cs ls cs′ ls′ cells list : List ℕ} → NumberDemands (part ws (wordsAt listing k)) (part bs (textAt listing k)) rs us cs ls cs′ ls′ r
+  one-more : {k r : ℕ} {ks ns cs ls cs′ ls′ cells list : List ℕ} → NumberDemands whole (part ws (wordsAt listing k)) (part bs (textAt listing k)) rs us cs ls cs′ ls′ r
       → EachMeets ws bs listing rs us ks cs′ ls′ ns cells list → EachMeets ws bs listing rs us (k ∷ ks) cs ls (r ∷ ns) cells list
 
 -- the number tells what the table of the queue gives; a refused queue leaves all as it was; otherwise the first numbers of the answers are the records'

@@ -1,10 +1,12 @@
-// The entries for the hub's host program, which is written in C: checking a sheet, judging a record
-// and judging a queue, each answer as one number.
+// The entries for the hub's host program, which is written in C: checking a sheet, judging a record,
+// only the verdict, and judging a queue, each answer as one number.
 //
 // `include/amphorust.h` says the same to a C programmer. The contracts cite `specs/Entry.antt`.
+ghost use mathlib.Core.List.{[]};
 ghost use mathlib.Core.Path.{_≡_};
 ghost use Rattle.sheet.specs.Refusals.{outcomeOf};
 ghost use Rattle.sheetcheck.specs.LastWord.{checkOutcome};
+ghost use Rattle.meaning.specs.Rules.{whole, cut};
 ghost use Rattle.meaning.specs.Answer.{numberForC};
 ghost use Rattle.number.specs.Called.{Called, outcomeAnswer};
 ghost use Rattle.queue.specs.Listing.{queuedOutcome};
@@ -41,9 +43,25 @@ pub extern "C" fn amphorust_judge<'a>(
     cells: &mut [u8],
     list: &mut [u32],
 ) -> u64
-    ensures { λ r. ⌜ Called (now («record» .entry)) (now («record_text» .entry)) (now (rules .entry)) (now («rule_text» .entry)) (now (cells .entry)) (now (list .entry)) (now (cells .exit)) (now (list .exit)) r ⌝ }
+    ensures { λ r. ⌜ Called whole (now («record» .entry)) (now («record_text» .entry)) (now (rules .entry)) (now («rule_text» .entry)) (now (cells .entry)) (now (list .entry)) (now (cells .exit)) (now (list .exit)) r ⌝ }
 {
     let answer = judge::judge(record, record_text, rules, rule_text, cells, list);
+    number_of(answer)
+}
+
+// Judges a record by rules as far as the verdict needs, and lists nothing. The number is told as that
+// of judging is; the settled pairs are those of the cells.
+#[no_mangle]
+pub extern "C" fn amphorust_verdict<'a>(
+    record: &'a [u32],
+    record_text: &'a [u8],
+    rules: &'a [u32],
+    rule_text: &'a [u8],
+    cells: &mut [u8],
+) -> u64
+    ensures { λ r. ⌜ Called cut (now («record» .entry)) (now («record_text» .entry)) (now (rules .entry)) (now («rule_text» .entry)) (now (cells .entry)) [] (now (cells .exit)) [] r ⌝ }
+{
+    let answer = judge::verdict(record, record_text, rules, rule_text, cells);
     number_of(answer)
 }
 

@@ -3,7 +3,7 @@
 --     sheets-read                     accepted sheets are laid out as their readers ask
 --     call-roomy                      areas that are long enough
 --     call-valid, call-invalid        the call's answer, by the run's verdict
---     marks-asked                     what counting the root's marks asks
+--     verdict-left                    what the call for the verdict only leaves
 -- Assumes nothing.
 use mathlib.Core.Bool.{Bool, true, false}
 use mathlib.Core.List.{List, []}
@@ -22,24 +22,28 @@ use Rattle.rulesheet.specs.Sheet as C
 use Rattle.rulesheet.specs.Sheet.{schemasWord, rulesOf}
 use Rattle.rulesheet.specs.Faults as G
 use Rattle.rules.specs.Check.{rulesOutcome}
-use Rattle.meaning.specs.Answer.{valid, invalid, Left, verdict, judged, judge}
+use Rattle.meaning.specs.Rules.{Way, whole, cut}
+use Rattle.meaning.specs.Answer.{valid, invalid, Left, verdict, listRoom, judged, judge}
 use Rattle.meaning.proofs.Answers.{rows-are, schemas-are, call-judged, fits}
 use Rattle.clause.proofs.Reading.{record-read, rules-read}
 use Rattle.judge.specs.declared.cycle.Verdict.{Verdict}
 use Rattle.judge.specs.State.{caseOf, Sheets}
 use Rattle.judge.specs.Whole.{Roomy, leftBy, judgedOf}
+use Rattle.meaning.proofs.Verdicts.{cut-list}
+use Rattle.judge.specs.declared.answer.Answer.{Answer}
+use Rattle.judge.specs.Call.{answerOf, leaves, verdictLeaves}
 use Rattle.judge.proofs.Going.{pairs-few}
 
 module _ (ws ts rs us : List ℕ) (n m : ℕ) (good : recordOutcome ws ts ≡ accepted n) (fine : rulesOutcome rs us ≡ accepted m) where
   rows : rowsWord ws ≡ n
-  rows = rows-are ws ts rs us [] [] n good
+  rows = rows-are whole ws ts rs us [] [] n good
 
   schemas : schemasWord rs ≡ m
-  schemas = schemas-are ws ts rs us [] [] n good m fine
+  schemas = schemas-are whole ws ts rs us [] [] n good m fine
 
   pub size-small : n * m < 4294967296
   size-small =
-      let f = fits ws ts rs us [] [] n good m fine in
+      let f = fits whole ws ts rs us [] [] n good m fine in
       omega (arith, pairs-few n m (f .rows .few) (f .few))
 
   good′ : recordOutcome ws ts ≡ accepted (rowsWord ws)
@@ -69,29 +73,34 @@ module _ (ws ts rs us : List ℕ) (n m : ℕ) (good : recordOutcome ws ts ≡ ac
   pub rules-trailer : G.wordsOk rs ≡ true
   rules-trailer = sheets-read refl refl .rules-read .laid .clauses-laid .schemas-laid .formed .trailer
 
-  pub call-roomy : {size : ℕ} {cells list : List ℕ} → size ≡ n * m → size ≤ length cells → size ≤ length list → Roomy (caseOf ws ts rs us) cells list
-  call-roomy e a b =
+  pub call-roomy : (w : Way) {size room : ℕ} {cells list : List ℕ} → size ≡ n * m → room ≡ listRoom w size → size ≤ length cells → room ≤ length list
+      → Roomy (caseOf w ws ts rs us) cells list
+  call-roomy w {size} {room} e f a b =
+      let g : room ≡ listRoom w (n * m) = f ∙ ap (listRoom w) e in
       record {
-        fit = fits ws ts rs us [] [] (rowsWord ws) good′ (schemasWord rs) fine′;
+        fit = fits whole ws ts rs us [] [] (rowsWord ws) good′ (schemasWord rs) fine′;
         cells-long = rw (rows, schemas) (omega arith);
         list-long = rw (rows, schemas) (omega arith);
       }
 
   -- what the run leaves is what the call leaves
-  run-left : (cs ls : List ℕ) {c l : List ℕ} (v : Verdict) → n * m ≤ length cs → n * m ≤ length ls → leftBy v c l ≡ judgedOf (caseOf ws ts rs us) cs ls
-      → leftBy v c l ≡ judge ws ts rs us cs ls
-  run-left cs ls v a b e =
-      e ∙ ap (λ k. judged (docOf ws ts) (rulesOf rs us) k (schemasWord rs) cs ls) rows ∙ ap (λ k. judged (docOf ws ts) (rulesOf rs us) n k cs ls) schemas
-      ∙ sym (call-judged ws ts rs us cs ls n good m fine a b)
+  module _ (w : Way) (cs ls : List ℕ) {size room : ℕ} (s : size ≡ n * m) (q : room ≡ listRoom w size) (a : size ≤ length cs) (b : room ≤ length ls) where
+    run-left : {c l : List ℕ} (v : Verdict) → leftBy v c l ≡ judgedOf (caseOf w ws ts rs us) cs ls → leftBy v c l ≡ judge w ws ts rs us cs ls
+    run-left v e =
+        let g : room ≡ listRoom w (n * m) = q ∙ ap (listRoom w) s in
+        e ∙ ap (λ k. judged w (docOf ws ts) (rulesOf rs us) k (schemasWord rs) cs ls) rows ∙ ap (λ k. judged w (docOf ws ts) (rulesOf rs us) n k cs ls) schemas
+        ∙ sym (call-judged w ws ts rs us cs ls n good m fine (omega arith) (omega arith))
 
-  pub call-valid : (cs ls : List ℕ) {size : ℕ} {c l : List ℕ} (v : Verdict) → size ≡ n * m → size ≤ length cs → size ≤ length ls
-      → leftBy v c l ≡ judgedOf (caseOf ws ts rs us) cs ls → v .ok ≡ true
-      → _≡_ {A = Left} (record { answer = valid (v .count) (v .marked); cells = c; list = l }) (judge ws ts rs us cs ls)
-  call-valid cs ls {c = c} {l} v s a b e t =
-      ap (λ (ok : Bool). record { answer = verdict ok (v .count) (v .marked); cells = c; list = l }) (sym t) ∙ run-left cs ls v (omega arith) (omega arith) e
+    pub call-valid : {c l : List ℕ} (v : Verdict) → leftBy v c l ≡ judgedOf (caseOf w ws ts rs us) cs ls → v .ok ≡ true
+        → _≡_ {A = Left} (record { answer = valid (v .count) (v .marked); cells = c; list = l }) (judge w ws ts rs us cs ls)
+    call-valid {c} {l} v e t = ap (λ (ok : Bool). record { answer = verdict ok (v .count) (v .marked); cells = c; list = l }) (sym t) ∙ run-left v e
 
-  pub call-invalid : (cs ls : List ℕ) {size : ℕ} {c l : List ℕ} (v : Verdict) → size ≡ n * m → size ≤ length cs → size ≤ length ls
-      → leftBy v c l ≡ judgedOf (caseOf ws ts rs us) cs ls → v .ok ≡ false
-      → _≡_ {A = Left} (record { answer = invalid (v .count) (v .marked); cells = c; list = l }) (judge ws ts rs us cs ls)
-  call-invalid cs ls {c = c} {l} v s a b e t =
-      ap (λ (ok : Bool). record { answer = verdict ok (v .count) (v .marked); cells = c; list = l }) (sym t) ∙ run-left cs ls v (omega arith) (omega arith) e
+    pub call-invalid : {c l : List ℕ} (v : Verdict) → leftBy v c l ≡ judgedOf (caseOf w ws ts rs us) cs ls → v .ok ≡ false
+        → _≡_ {A = Left} (record { answer = invalid (v .count) (v .marked); cells = c; list = l }) (judge w ws ts rs us cs ls)
+    call-invalid {c} {l} v e t = ap (λ (ok : Bool). record { answer = verdict ok (v .count) (v .marked); cells = c; list = l }) (sym t) ∙ run-left v e
+
+-- the call for the verdict only lends a list of no places, and leaves it
+pub verdict-left : (ws ts rs us cs : List ℕ) (r : Answer) {c l : List ℕ} → leaves cut ws ts rs us cs [] r c l → verdictLeaves ws ts rs us cs r c
+verdict-left ws ts rs us cs r {c} {l} e =
+    let none : [] ≡ l = sym (ap (λ (x : Left). x .list) e ∙ cut-list ws ts rs us cs []) in
+    ap (λ (y : List ℕ). record { answer = answerOf r; cells = c; list = y }) none ∙ e

@@ -1,10 +1,10 @@
 -- A pair in progress: the steps of a clause.
 --     Going                       a pair in progress: its marks, and the pairs settled
---     going-clause, going-pair    it begins
+--     ready-as, going-clause, going-pair    it begins
 --     going-ready, going-aimed    what judging one of its clauses, or a pair that it applies, asks
 --     going-apply, going-mark     a pair that it applies was judged; its marks were written
 --     going-writes, going-open    what writing its marks, and settling it, asks
---     Stepped, stepped-none, stepped-go, stepped-skip, stepped-skips, stepped-went, stepped-hands, stepped-end     the steps of a clause
+--     Stepped, stepped-none, stepped-go, stepped-skip, stepped-skips, stepped-stops, stepped-went, stepped-hands, stepped-end     the steps of a clause
 -- Assumes nothing.
 use mathlib.Core.Bool.{Bool, true, false, not, _&&_, _||_, cond}
 use mathlib.Core.List.{List, List·Memᴰ as Has}
@@ -18,22 +18,23 @@ use lib.Dec.{eqb}
 use lib.ListN.{getD}
 use borrow.Author.Tests.{eqb-true}
 use Rattle.laws.proofs.Tests.{decide}
-use Rattle.meaning.specs.Rules.{Pair, Marks, nothing, _∪_, answer, applied, clause}
+use Rattle.meaning.specs.Rules.{Pair, Marks, nothing, _∪_, Judgement, answer, applied, clause}
 use Rattle.meaning.specs.Settling.{samePair, listed, inTurn}
 use Rattle.meaning.proofs.Words.{row-inside}
 use Rattle.meaning.proofs.Settled.{same-pair}
 use Rattle.areas.specs.Cells.{verd, column, plus, cellAt, Unsettled}
 use Rattle.areas.specs.Writers.{Open, Writes, Marked, handedOn, HandsOn}
 use Rattle.areas.proofs.Cells.{settledAs-read, settled-room}
-use Rattle.steps.specs.Folds.{hitsBy, gives, marksBy, doneBy}
-use Rattle.steps.specs.Plan.{stepsOf, aimOf, goOf, finishOf}
+use Rattle.steps.specs.Folds.{stillBy, hitsBy, gives, marksBy, doneBy}
+use Rattle.steps.specs.Plan.{stepsOf, aimOf, goOf, finishOf, wayOf, stopsBy}
 use Rattle.steps.specs.Turns.{Skipped}
 use Rattle.steps.proofs.Folds.{or-no, done-picked}
-use Rattle.steps.proofs.Plans.{Aimed, applied-is, holds-is, marks-is, go-is, go-same, aimed}
+use Rattle.steps.proofs.Cuts.{still-later}
+use Rattle.steps.proofs.Plans.{Aimed, applied-is, holds-is, marks-is, still-on, go-is, go-same, aimed}
 use Rattle.judge.specs.declared.cycle.Done.{Done}
-use Rattle.judge.specs.State.{Case, Fits, InCase, Kid, firstKid, kidCount, rankOf, truthOf, settleOf, clausesOf, clauseAt, beforeOf, bitsOf, overlay, doneOf, Areas, Quiet, Ready, Judged, ClauseJudged}
+use Rattle.judge.specs.State.{Case, Fits, InCase, Kid, firstKid, kidCount, rankOf, truthOf, settleOf, clausesOf, clauseAt, beforeOf, bitsOf, overlay, Areas, Quiet, Ready, WhereDone, Judged, ClauseJudged}
 use Rattle.judge.proofs.Pairs.{settle-self, settle-still, settle-new, settle-grows}
-use Rattle.judge.proofs.State.{cond-else, not-same, overlay-self, overlay-other, areas-done, areas-bits, areas-marks, areas-self, areas-free, areas-unsettled, areas-cell, areas-then, areas-mark}
+use Rattle.judge.proofs.State.{cond-else, not-same, overlay-self, overlay-other, areas-bits, areas-marks, areas-self, areas-free, areas-unsettled, areas-cell, areas-then, areas-mark}
 
 -- p is in progress: its marks are κ, and `done` are settled. No pair below p that is not settled has marks
 pub record Going (T : Case) (p : Pair) (held : Pair → Marks) (l₀ : List ℕ) (done : List Pair) (κ : Marks) (cells list : List ℕ) (count : ℕ) : Type 0 where
@@ -51,8 +52,16 @@ Aim T p q = Aimed (T .doc) (T .rules) (T .n) (T .m) p q
 
 -- ---- a pair comes into progress, and another is judged
 
-pub going-clause : {T : Case} {p : Pair} {c l : List ℕ} {n : ℕ} → Ready T (rankOf T p) p c l n → Unsettled (T .m) p c
-    → Going T p (bitsOf (T .m) c) l (doneOf (T .m) l n) (bitsOf (T .m) c p) c l n
+pub quiet-as : {T : Case} {t : ℕ} {p : Pair} {c l : List ℕ} {n : ℕ} → Ready T t p c l n → WhereDone T c l n (λ done. Quiet T t done (bitsOf (T .m) c))
+unfolding Quiet Unsettled
+quiet-as R done A = λ q k i h e ch. R .quiet q k i h (areas-free (R .areas) q i (areas-unsettled A q i e)) ch
+
+-- whatever pairs the areas show settled, in whatever order
+abbrev pub ready-as : {T : Case} {t : ℕ} {p : Pair} {c l : List ℕ} {n : ℕ} → Ready T t p c l n → WhereDone T c l n (λ done. Ready T t p c l n)
+ready-as R done A = record { fit = R .fit; inside = R .inside; done = done; areas = A; quiet = quiet-as R done A }
+
+pub going-clause : {T : Case} {p : Pair} {c l : List ℕ} {n : ℕ} (a : Ready T (rankOf T p) p c l n) → Unsettled (T .m) p c
+    → Going T p (bitsOf (T .m) c) l (a .done) (bitsOf (T .m) c p) c l n
 unfolding Unsettled
 going-clause {T} {p} {c} {l} {n} a u =
     record {
@@ -69,8 +78,8 @@ going-clause {T} {p} {c} {l} {n} a u =
       quiet = a .quiet;
     }
 
-pub going-pair : {T : Case} {p : Pair} {c l : List ℕ} {n : ℕ} → Ready T (rankOf T p + 1) p c l n → Unsettled (T .m) p c
-    → Going T p (bitsOf (T .m) c) l (doneOf (T .m) l n) nothing c l n
+pub going-pair : {T : Case} {p : Pair} {c l : List ℕ} {n : ℕ} (a : Ready T (rankOf T p + 1) p c l n) → Unsettled (T .m) p c
+    → Going T p (bitsOf (T .m) c) l (a .done) nothing c l n
 unfolding Unsettled Quiet nothing
 going-pair {T} {p} {c} {l} {n} a u =
     let f = areas-free (a .areas) p (a .inside) u in
@@ -100,17 +109,15 @@ module _ {T : Case} {p : Pair} {held : Pair → Marks} {l₀ : List ℕ} {done :
   pub going-bits : (k : ℕ) → Kid T (p .row) k → bitsOf (T .m) c p k ≡ κ k
   going-bits k ch = areas-bits (G .areas) p k (G .inside) ch (G .free) ∙ overlay-self p κ held k
 
-  going-quiet : Quiet T (rankOf T p) (doneOf (T .m) l n) (bitsOf (T .m) c)
+  going-quiet : Quiet T (rankOf T p) done (bitsOf (T .m) c)
   unfolding Quiet
-  going-quiet q k i h e ch =
-      let f : listed q done ≡ false = rw (areas-done (G .areas)) at e in
-      areas-bits (G .areas) q k i ch f ∙ overlay-other p q κ held k (lower-other T p q h) ∙ G .quiet q k i h f ch
+  going-quiet q k i h e ch = areas-bits (G .areas) q k i ch e ∙ overlay-other p q κ held k (lower-other T p q h) ∙ G .quiet q k i h e ch
 
   pub going-unsettled : Unsettled (T .m) p c
   going-unsettled = areas-unsettled (G .areas) p (G .inside) (G .free)
 
   pub going-ready : Ready T (rankOf T p) p c l n
-  going-ready = record { fit = G .fit; inside = G .inside; areas = areas-self (G .areas); quiet = going-quiet }
+  going-ready = record { fit = G .fit; inside = G .inside; done = done; areas = areas-self (G .areas); quiet = going-quiet }
 
   pub going-aimed : {q : Pair} → Aim T p q → Ready T (rankOf T q + 1) q c l n
   unfolding Quiet
@@ -118,6 +125,7 @@ module _ {T : Case} {p : Pair} {held : Pair → Marks} {l₀ : List ℕ} {done :
       record {
         fit = G .fit;
         inside = z .inside;
+        done = done;
         areas = areas-self (G .areas);
         quiet = λ q k i h e ch. let g = z .lower in going-quiet q k i (omega arith) e ch;
       }
@@ -130,7 +138,7 @@ module _ {T : Case} {p : Pair} {held : Pair → Marks} {l₀ : List ℕ} {done :
         fit = G .fit;
         inside = G .inside;
         areas =
-            areas-then (G .areas) (rw (areas-done (G .areas)) at (j .areas)) (settle-grows T q done)
+            areas-then (G .areas) (j .areas done (areas-self (G .areas))) (settle-grows T q done)
             (λ x k i ch e. areas-bits (G .areas) x k i ch (settle-new T (G .fit) q x done e));
         free = settle-still T (G .fit) p q done (z .lower) (G .free);
         quiet = λ x k i h e ch. G .quiet x k i h (settle-new T (G .fit) q x done e) ch;
@@ -158,7 +166,6 @@ module _ {T : Case} {p : Pair} {held : Pair → Marks} {l₀ : List ℕ} {done :
             let A = G .areas in
             record {
               long = A .long;
-              room = A .room;
               small = A .small;
               said = A .said;
               shown =
@@ -171,7 +178,6 @@ module _ {T : Case} {p : Pair} {held : Pair → Marks} {l₀ : List ℕ} {done :
                   (λ d. overlay-other p q κ held k d ∙ sym (overlay-other p q κ′ held k d))
                   (decide (samePair q p)));
               top = A .top;
-              tidy = A .tidy;
               lists = A .lists;
               counts = A .counts;
               counted = A .counted;
@@ -195,7 +201,7 @@ module _ {T : Case} {p : Pair} {held : Pair → Marks} {l₀ : List ℕ} {done :
       }
 
   -- what settling p asks
-  pub going-open : {i : ℕ} → i ≡ cellAt (T .m) p → Open c l n i
+  pub going-open : {i : ℕ} → i ≡ cellAt (T .m) p → Open c n i
   unfolding Unsettled
   going-open {i} e =
       let A = G .areas in
@@ -203,13 +209,12 @@ module _ {T : Case} {p : Pair} {held : Pair → Marks} {l₀ : List ℕ} {done :
       let u : verd (getD c i 0) ≡ 0 = ap (λ (x : ℕ). verd (getD c x 0)) e ∙ going-unsettled in
       let s = settled-room c i (omega arith) u in
       let q = A .counted in
-      let r = A .room in
       let w = A .long in
       record {
         in-cells = omega arith;
         unsettled = u;
-        in-list = omega arith;
         narrow = omega (arith, pairs-few (T .n) (T .m) (G .fit .rows .few) (G .fit .few));
+        few = omega (arith, pairs-few (T .n) (T .m) (G .fit .rows .few) (G .fit .few));
       }
 
 -- ---- the steps of a clause
@@ -218,20 +223,28 @@ module _ (T : Case) (p : Pair) (cl : ℕ) where
   abbrev pub aims : ℕ → Pair
   aims i = aimOf (T .doc) p (beforeOf T p cl) (clauseAt T p cl) i
 
+  -- a step goes by the marks
+  abbrev pub fresh : Marks → ℕ → Bool
+  fresh κ i = goOf (T .doc) p (beforeOf T p cl) (clauseAt T p cl) i (κ (aims i .row))
+
+  -- and is still taken, if no failure has stopped the clause
+  abbrev pub still : ℕ → Bool
+  still i = stillBy (wayOf (T .way) (clauseAt T p cl)) (truthOf T) aims i
+
   abbrev pub goes : Marks → ℕ → Bool
-  goes κ i = goOf (T .doc) p (beforeOf T p cl) (clauseAt T p cl) i (κ (aims i .row))
+  goes κ i = still i && fresh κ i
 
   abbrev pub many : ℕ
   many = stepsOf (T .doc) p (beforeOf T p cl) (clauseAt T p cl)
 
 -- i steps of the clause were taken, `misses` of which applied a pair that failed
-pub record Stepped (T : Case) (p : Pair) (cl : ℕ) (c₀ l₀ : List ℕ) (n₀ i : ℕ) (cells list : List ℕ) (count misses : ℕ) : Type 0 where
+pub record Stepped (T : Case) (p : Pair) (cl : ℕ) (d₀ : List Pair) (c₀ l₀ : List ℕ) (i : ℕ) (cells list : List ℕ) (count misses : ℕ) : Type 0 where
   pub going :
-      Going T p (bitsOf (T .m) c₀) l₀ (doneBy (settleOf T) (goes T p cl (bitsOf (T .m) c₀ p)) (aims T p cl) (doneOf (T .m) l₀ n₀) i)
+      Going T p (bitsOf (T .m) c₀) l₀ (doneBy (settleOf T) (goes T p cl (bitsOf (T .m) c₀ p)) (aims T p cl) d₀ i)
       (marksBy (truthOf T) p (goes T p cl (bitsOf (T .m) c₀ p)) (aims T p cl) (bitsOf (T .m) c₀ p) i) cells list count
   pub missed : hitsBy (truthOf T) (goes T p cl (bitsOf (T .m) c₀ p)) (aims T p cl) i + misses ≡ i
 
-pub stepped-none : {T : Case} {p : Pair} {cl : ℕ} {c l : List ℕ} {n : ℕ} → Ready T (rankOf T p) p c l n → Unsettled (T .m) p c → Stepped T p cl c l n 0 c l n 0
+pub stepped-none : {T : Case} {p : Pair} {cl : ℕ} {c l : List ℕ} {n : ℕ} (a : Ready T (rankOf T p) p c l n) → Unsettled (T .m) p c → Stepped T p cl (a .done) c l 0 c l n 0
 unfolding doneBy marksBy hitsBy
 stepped-none a u = record { going = going-clause a u; missed = refl }
 
@@ -259,31 +272,35 @@ unfolding plus
 one-more true x y i e = omega arith
 one-more false x y i e = omega arith
 
-module _ {T : Case} {p : Pair} {cl : ℕ} {c₀ l₀ : List ℕ} {n₀ i : ℕ} {c l : List ℕ} {n misses : ℕ} (S : Stepped T p cl c₀ l₀ n₀ i c l n misses) where
+module _ {T : Case} {p : Pair} {cl : ℕ} {d₀ : List Pair} {c₀ l₀ : List ℕ} {i : ℕ} {c l : List ℕ} {n misses : ℕ} (S : Stepped T p cl d₀ c₀ l₀ i c l n misses) where
   abbrev κ₀ : Marks
   κ₀ = bitsOf (T .m) c₀ p
 
   pub stepped-few : misses ≤ i
   stepped-few = let e = S .missed in omega arith
 
+  -- the clause is still on as long as no failure has stopped it
+  pub stepped-still : still T p cl i ≡ not (stopsBy (wayOf (T .way) (clauseAt T p cl)) misses)
+  stepped-still = let G = S .going in still-on (T .doc) (T .rules) (T .n) (T .m) (G .fit) p (G .inside .row-in) (beforeOf T p cl) κ₀ (truthOf T) (T .way) (clauseAt T p cl) i misses (S .missed)
+
   -- a step that looks at the cells sees what it would have seen before the clause
   pub stepped-go : {g : Bool} → i < many T p cl
-      → g ≡ goOf (T .doc) p (beforeOf T p cl) (clauseAt T p cl) i (column (T .m) c (p .rule) (aims T p cl i .row)) → g ≡ goes T p cl κ₀ i
+      → g ≡ goOf (T .doc) p (beforeOf T p cl) (clauseAt T p cl) i (column (T .m) c (p .rule) (aims T p cl i .row)) → g ≡ fresh T p cl κ₀ i
   stepped-go h w =
       let G = S .going in
       w
       ∙ go-same (T .doc) (T .rules) (T .n) (T .m) (G .fit) p (G .inside .row-in) (beforeOf T p cl) κ₀ (clauseAt T p cl) i _ _ h
       (λ ch. open-bits T c p (aims T p cl i .row) (going-bits G (aims T p cl i .row) ch))
-      ∙ go-is (T .doc) (T .rules) (T .n) (T .m) (G .fit) p (G .inside .row-in) (beforeOf T p cl) κ₀ (truthOf T) (clauseAt T p cl) i h
+      ∙ go-is (T .doc) (T .rules) (T .n) (T .m) (G .fit) p (G .inside .row-in) (beforeOf T p cl) κ₀ (truthOf T) (clauseAt T p cl) (goes T p cl κ₀) i h
 
   -- where a step that is applied leads
-  pub stepped-aim : i < many T p cl → Has (clauseAt T p cl) (clausesOf T p) → true ≡ goes T p cl κ₀ i → Aim T p (aims T p cl i)
+  pub stepped-aim : i < many T p cl → Has (clauseAt T p cl) (clausesOf T p) → true ≡ fresh T p cl κ₀ i → Aim T p (aims T p cl i)
   stepped-aim h has w =
       let G = S .going in
       aimed (T .doc) (T .rules) (T .n) (T .m) (G .fit) p (G .inside .row-in) (beforeOf T p cl) κ₀ (G .inside .rule-in) (clauseAt T p cl) i has h (sym w)
 
   -- a step that applies nothing
-  pub stepped-skip : false ≡ goes T p cl κ₀ i → Stepped T p cl c₀ l₀ n₀ (i + 1) c l n misses
+  pub stepped-skip : false ≡ goes T p cl κ₀ i → Stepped T p cl d₀ c₀ l₀ (i + 1) c l n misses
   unfolding doneBy marksBy hitsBy plus
   stepped-skip d =
       let z : goes T p cl κ₀ i ≡ false = sym d in
@@ -303,13 +320,13 @@ module _ {T : Case} {p : Pair} {cl : ℕ} {c₀ l₀ : List ℕ} {n₀ i : ℕ} 
       → Aim T p q → Judged T q c l n c₁ l₁ n₁ → v ≡ verd (getD c₁ (cellAt (T .m) q) 0)
       → Marked (T .m) (firstKid T p) (kidCount T p) (p .rule) (handedOn (T .m) c₁ (p .row) (p .rule) (q .row) (q .rule)) c₁ c₂
       → h ≡ plus misses (not (eqb v 1))
-      → Stepped T p cl c₀ l₀ n₀ (i + 1) c₂ l₁ n₁ h
+      → Stepped T p cl d₀ c₀ l₀ (i + 1) c₂ l₁ n₁ h
   unfolding doneBy marksBy hitsBy
   stepped-went {v} {h} {q} {c₁} {c₂} {l₁} {n₁} d same z j read M u =
       let w : goes T p cl κ₀ i ≡ true = sym d in
       let κ = marksBy (truthOf T) p (goes T p cl κ₀) (aims T p cl) κ₀ i in
       let G = going-apply (S .going) z j in
-      let D = doneBy (settleOf T) (goes T p cl κ₀) (aims T p cl) (doneOf (T .m) l₀ n₀) i in
+      let D = doneBy (settleOf T) (goes T p cl κ₀) (aims T p cl) d₀ i in
       let H = going-mark G (λ k. κ k || (goes T p cl κ₀ i && gives (truthOf T) p (aims T p cl i) k)) M
       (λ k ch.
       handed-gives G (z .inside) (settle-self T (S .going .fit) q D) k ch ∙ ap (λ (x : Pair). κ k || gives (truthOf T) p x k) same ∙ sym (rw w)) in
@@ -322,15 +339,28 @@ module _ {T : Case} {p : Pair} {cl : ℕ} {c₀ l₀ : List ℕ} {n₀ i : ℕ} 
         missed = rw (w, e) (one-more ((truthOf T (aims T p cl i)) .holds) _ misses i (S .missed));
       })
 
+no-go : (a : Bool) {b : Bool} → b ≡ false → (a && b) ≡ false
+no-go true e = e
+no-go false e = refl
+
 -- steps that apply nothing
-pub stepped-skips : {T : Case} {p : Pair} {cl : ℕ} {c₀ l₀ : List ℕ} {n₀ x : ℕ} {c l : List ℕ} {n misses : ℕ} (d : ℕ) → Stepped T p cl c₀ l₀ n₀ x c l n misses
+pub stepped-skips : {T : Case} {p : Pair} {cl : ℕ} {d₀ : List Pair} {c₀ l₀ : List ℕ} {x : ℕ} {c l : List ℕ} {n misses : ℕ} (d : ℕ) → Stepped T p cl d₀ c₀ l₀ x c l n misses
     → x + d ≤ many T p cl → Skipped (T .doc) p (beforeOf T p cl) (clauseAt T p cl) (column (T .m) c (p .rule)) x (x + d)
-    → Stepped T p cl c₀ l₀ n₀ (x + d) c l n misses
-stepped-skips {T} {p} {cl} {c₀} {l₀} {n₀} {x} {c} {l} {n} {misses} zero S h f = subst (λ (y : ℕ). Stepped T p cl c₀ l₀ n₀ y c l n misses) (omega arith) S
-stepped-skips {T} {p} {cl} {c₀} {l₀} {n₀} {x} {c} {l} {n} {misses} (suc d) S h f =
+    → Stepped T p cl d₀ c₀ l₀ (x + d) c l n misses
+stepped-skips {T} {p} {cl} {d₀} {c₀} {l₀} {x} {c} {l} {n} {misses} zero S h f = subst (λ (y : ℕ). Stepped T p cl d₀ c₀ l₀ y c l n misses) (omega arith) S
+stepped-skips {T} {p} {cl} {d₀} {c₀} {l₀} {x} {c} {l} {n} {misses} (suc d) S h f =
     let R = stepped-skips d S (omega arith) (record { idle = λ k a b. f .idle k a (omega arith) }) in
-    let g : false ≡ goes T p cl (bitsOf (T .m) c₀ p) (x + d) = stepped-go R (omega arith) (sym (f .idle (x + d) (omega arith) (omega arith))) in
-    subst (λ (y : ℕ). Stepped T p cl c₀ l₀ n₀ y c l n misses) (omega arith) (stepped-skip R g)
+    let g : false ≡ fresh T p cl (bitsOf (T .m) c₀ p) (x + d) = stepped-go R (omega arith) (sym (f .idle (x + d) (omega arith) (omega arith))) in
+    subst (λ (y : ℕ). Stepped T p cl d₀ c₀ l₀ y c l n misses) (omega arith) (stepped-skip R (sym (no-go (still T p cl (x + d)) (sym g))))
+
+-- steps that are not taken, since a failure has stopped the clause
+pub stepped-stops : {T : Case} {p : Pair} {cl : ℕ} {d₀ : List Pair} {c₀ l₀ : List ℕ} {x : ℕ} {c l : List ℕ} {n misses : ℕ} (d : ℕ) → Stepped T p cl d₀ c₀ l₀ x c l n misses
+    → still T p cl x ≡ false → Stepped T p cl d₀ c₀ l₀ (x + d) c l n misses
+stepped-stops {T} {p} {cl} {d₀} {c₀} {l₀} {x} {c} {l} {n} {misses} zero S e = subst (λ (y : ℕ). Stepped T p cl d₀ c₀ l₀ y c l n misses) (omega arith) S
+stepped-stops {T} {p} {cl} {d₀} {c₀} {l₀} {x} {c} {l} {n} {misses} (suc d) S e =
+    let g : still T p cl (x + d) ≡ false = still-later (truthOf T) (aims T p cl) (wayOf (T .way) (clauseAt T p cl)) x d e in
+    subst (λ (y : ℕ). Stepped T p cl d₀ c₀ l₀ y c l n misses) (omega arith)
+    (stepped-skip (stepped-stops d S e) (sym (ap (λ (b : Bool). b && fresh T p cl (bitsOf (T .m) c₀ p) (x + d)) g)))
 
 -- what handing on asks
 pub stepped-hands : {T : Case} {p q : Pair} {held : Pair → Marks} {l₀ : List ℕ} {done : List Pair} {κ : Marks} {c l : List ℕ} {n : ℕ}
@@ -341,25 +371,41 @@ stepped-hands {T} {p} {q} G z =
       child = λ f. let k = z .child f in (k .after, k .within);
     }
 
--- all steps were taken
-pub stepped-end : {T : Case} {p : Pair} {cl : ℕ} {c₀ l₀ : List ℕ} {n₀ : ℕ} {c l : List ℕ} {n misses : ℕ} {r : Done}
-    → Stepped T p cl c₀ l₀ n₀ (many T p cl) c l n misses
+-- all steps were taken: what that comes to
+module _ {T : Case} {p : Pair} {cl : ℕ} {d₀ : List Pair} {c₀ l₀ : List ℕ} {c l : List ℕ} {n misses : ℕ} (S : Stepped T p cl d₀ c₀ l₀ (many T p cl) c l n misses) where
+  abbrev J₀ : Judgement
+  J₀ = clause (T .doc) (T .way) p (beforeOf T p cl) (bitsOf (T .m) c₀ p) (clauseAt T p cl)
+
+  ended-areas : Areas T (inTurn (settleOf T) (applied (truthOf T) J₀) d₀) (overlay p (bitsOf (T .m) c₀ p ∪ (answer (truthOf T) J₀) .marks) (bitsOf (T .m) c₀)) l₀ c l n
+  unfolding _∪_
+  ended-areas =
+      let G = S .going in
+      let κ = bitsOf (T .m) c₀ p in
+      let bf = beforeOf T p cl in
+      let cls = clauseAt T p cl in
+      let H = going-as G (λ k. κ k || (answer (truthOf T) J₀) .marks k)
+      (λ k ch. sym (marks-is (T .doc) (T .rules) (T .n) (T .m) (G .fit) p (G .inside .row-in) bf κ (truthOf T) (T .way) cls k)) in
+      let d : doneBy (settleOf T) (goes T p cl κ) (aims T p cl) d₀ (many T p cl) ≡ inTurn (settleOf T) (applied (truthOf T) J₀) d₀ =
+      sym (ap (λ x. inTurn (settleOf T) x d₀) (applied-is (T .doc) (T .rules) (T .n) (T .m) (G .fit) p (G .inside .row-in) bf κ (truthOf T) (T .way) cls)
+      ∙ done-picked (settleOf T) (goes T p cl κ) (aims T p cl) d₀ (many T p cl)) in
+      rw (← d) (H .areas)
+
+  ended-said : finishOf (T .doc) p (clauseAt T p cl) (many T p cl - misses) (many T p cl) ≡ (answer (truthOf T) J₀) .holds
+  ended-said =
+      let G = S .going in
+      let κ = bitsOf (T .m) c₀ p in
+      let e = S .missed in
+      let h : many T p cl - misses ≡ hitsBy (truthOf T) (goes T p cl κ) (aims T p cl) (many T p cl) = omega arith in
+      ap (λ (x : ℕ). finishOf (T .doc) p (clauseAt T p cl) x (many T p cl)) h
+      ∙ sym (holds-is (T .doc) (T .rules) (T .n) (T .m) (G .fit) p (G .inside .row-in) (beforeOf T p cl) κ (truthOf T) (T .way) (clauseAt T p cl))
+
+pub stepped-end : {T : Case} {t : ℕ} {p : Pair} {cl : ℕ} {c₀ l₀ : List ℕ} {n₀ : ℕ} {c l : List ℕ} {n misses : ℕ} {r : Done}
+    → Ready T t p c₀ l₀ n₀ → WhereDone T c₀ l₀ n₀ (λ d₀. Stepped T p cl d₀ c₀ l₀ (many T p cl) c l n misses)
     → r .ok ≡ finishOf (T .doc) p (clauseAt T p cl) (many T p cl - misses) (many T p cl) → r .count ≡ n → ClauseJudged T p cl c₀ l₀ n₀ c l r
-unfolding _∪_
-stepped-end {T} {p} {cl} {c₀} {l₀} {n₀} {misses = misses} S f q =
-    let G = S .going in
-    let κ = bitsOf (T .m) c₀ p in
-    let bf = beforeOf T p cl in
-    let cls = clauseAt T p cl in
-    let H = going-as G (λ k. κ k || (answer (truthOf T) (clause (T .doc) p bf κ cls)) .marks k)
-    (λ k ch. sym (marks-is (T .doc) (T .rules) (T .n) (T .m) (G .fit) p (G .inside .row-in) bf κ (truthOf T) cls k)) in
-    let d : doneBy (settleOf T) (goes T p cl κ) (aims T p cl) (doneOf (T .m) l₀ n₀) (many T p cl) ≡ inTurn (settleOf T) (applied (truthOf T) (clause (T .doc) p bf κ cls)) (doneOf (T .m) l₀ n₀) =
-    sym (ap (λ x. inTurn (settleOf T) x (doneOf (T .m) l₀ n₀)) (applied-is (T .doc) (T .rules) (T .n) (T .m) (G .fit) p (G .inside .row-in) bf κ (truthOf T) cls)
-    ∙ done-picked (settleOf T) (goes T p cl κ) (aims T p cl) (doneOf (T .m) l₀ n₀) (many T p cl)) in
-    let e = S .missed in
-    let h : many T p cl - misses ≡ hitsBy (truthOf T) (goes T p cl κ) (aims T p cl) (many T p cl) = omega arith in
+stepped-end R S f q =
+    let one = S (R .done) (R .areas) in
     record {
-      areas = rw (← d, q) (H .areas);
-      said = f ∙ ap (λ (x : ℕ). finishOf (T .doc) p cls x (many T p cl)) h ∙ sym (holds-is (T .doc) (T .rules) (T .n) (T .m) (G .fit) p (G .inside .row-in) bf κ (truthOf T) cls);
-      free = going-unsettled G;
+      areas = λ d A. rw q (ended-areas (S d A));
+      said = f ∙ ended-said one;
+      free = going-unsettled (one .going);
     }

@@ -1,4 +1,5 @@
 pub mod State
+pub mod Ways
 pub mod Pairs
 pub mod Going
 pub mod Claused

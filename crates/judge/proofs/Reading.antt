@@ -1,11 +1,13 @@
 -- What the proof of the cycle asks besides: the sheets that were read and the case that they are, cell numbers, and a clause and a step as they were read.
 -- Assumes nothing.
 use mathlib.Core.List.{List, [], List·Memᴰ as Has, List·Memᴰ·head as at-head, List·Memᴰ·tail as in-tail, _∷_}
+use mathlib.Core.Bool.{cond}
 use mathlib.Core.Logic.{⊎-elim}
 use mathlib.Core.Path.{_≡_, refl, sym, _∙_}
 use Prim.Native.Nat.{ℕ, zero, suc, _+_, _-_, _*_, _≤_, _<_}
 use native.Mathlib.Omega.{arith}
 use denote.Ref.{RefT}
+use lib.Dec.{eqb}
 use lib.ListN.{length, getD}
 use Rattle.sheet.specs.declared.record.RecordForm.{RecordForm}
 use Rattle.sheet.specs.declared.record.Children.{Children}
@@ -22,10 +24,13 @@ use Rattle.rulesheet.specs.Sheet.{schemasWord, schemaAt}
 use Rattle.rulesheet.specs.Read.{RulesFormed}
 use Rattle.rulesheet.proofs.Trailers.{facts, form-m, form-c, form-e}
 use Rattle.rulesheet.proofs.Items.{clauses-long}
-use Rattle.meaning.specs.Rules.{Pair}
+use Rattle.meaning.specs.Rules.{Pair, Way, whole, cut}
 use Rattle.areas.specs.Cells.{cellOf, cellAt}
-use Rattle.judge.specs.State.{Case, caseOf, Sheets, lent, formsOf, recordFormIn, ruleFormIn, FormsFit, Lent, lentCase, Fits, InCase, firstKid, kidCount, clausesOf, clauseAt, rankOf, Reads, ReadsClause}
-use Rattle.judge.proofs.Going.{Aim, pairs-few}
+use Rattle.judge.specs.State.{Case, caseOf, Sheets, lent, formsOf, wayWord, wayLent, recordFormIn, ruleFormIn, FormsFit, Lent, lentCase, Fits, InCase, firstKid, kidCount, clausesOf, clauseAt, Reads, ReadsClause}
+use Rattle.sheet.specs.Doc.{Doc}
+use Rattle.meaning.specs.Fit.{rank}
+use Rattle.steps.proofs.Plans.{Aimed}
+use Rattle.judge.proofs.Going.{pairs-few}
 
 -- a cell by its numbers
 pub cell-by : {m k row rule : ℕ} {p : Pair} → m ≡ k → row ≡ p .row → rule ≡ p .rule → cellOf m row rule ≡ cellAt k p
@@ -33,7 +38,7 @@ cell-by u v w = rw (u, v, w)
 
 module _ {ws ts rs us : List ℕ} {form : RecordForm} {rform : RuleForm} (S : Sheets ws ts rs us form rform) where
   abbrev T : Case
-  T = caseOf ws ts rs us
+  T = caseOf whole ws ts rs us
 
   formed : RulesFormed rs rform
   formed = S .rules-read .laid .clauses-laid .schemas-laid .formed
@@ -83,16 +88,24 @@ lent-sheets S e f = rw (e, f) S
 
 -- ---- the forms that are lent
 
-pub lent-schemas : {ws ts rs us forms : List ℕ} {form : RecordForm} {rform : RuleForm} → Sheets ws ts rs us form rform → forms ≡ formsOf form rform → getD forms 5 0 ≡ schemasWord rs
-lent-schemas S e = rw e (schemas-are S)
+pub lent-schemas : {ws ts rs us forms : List ℕ} {form : RecordForm} {rform : RuleForm} (w : Way) → Sheets ws ts rs us form rform → forms ≡ formsOf form rform w → getD forms 5 0 ≡ schemasWord rs
+lent-schemas w S e = rw e (schemas-are S)
 
-pub lends : {words texts : List (RefT (List ℕ))} {forms : List ℕ} {form : RecordForm} {rform : RuleForm} → Sheets (lent words 0) (lent texts 0) (lent words 1) (lent texts 1) form rform
-    → forms ≡ formsOf form rform → Lent words texts forms
-lends S e = record { sheets = own-sheets S; forms-are = e ∙ rw (S .record-read .laid .formed .same-form, formed S .same-form) }
+-- whether judging is cut, as it is lent
+way-read : (w : Way) → cond (eqb (wayWord w) 0) whole cut ≡ w
+way-read whole = refl
+way-read cut = refl
+
+pub way-lent : {forms : List ℕ} {form : RecordForm} {rform : RuleForm} (w : Way) → forms ≡ formsOf form rform w → wayLent forms ≡ w
+way-lent w e = rw e (way-read w)
+
+pub lends : {words texts : List (RefT (List ℕ))} {forms : List ℕ} {form : RecordForm} {rform : RuleForm} (w : Way) → Sheets (lent words 0) (lent texts 0) (lent words 1) (lent texts 1) form rform
+    → forms ≡ formsOf form rform w → Lent words texts forms
+lends w S e = record { sheets = own-sheets S; forms-are = e ∙ rw (S .record-read .laid .formed .same-form, formed S .same-form, way-lent w e) }
 
 module _ {words texts : List (RefT (List ℕ))} {forms : List ℕ} (all : Lent words texts forms) where
-  pub schemas-lent : getD forms 5 0 ≡ lentCase words texts .m
-  schemas-lent = lent-schemas (all .sheets) (all .forms-are)
+  pub schemas-lent : getD forms 5 0 ≡ lentCase words texts forms .m
+  schemas-lent = lent-schemas (wayLent forms) (all .sheets) (all .forms-are)
 
   pub forms-fit : FormsFit forms
   forms-fit =
@@ -111,16 +124,16 @@ module _ {words texts : List (RefT (List ℕ))} {forms : List ℕ} (all : Lent w
   pub formed-lent : RulesFormed (lent words 1) (ruleFormIn forms)
   formed-lent = rw (rules-lent refl) (formed (all .sheets))
 
-  pub reads-by : {p : Pair} → InCase (lentCase words texts) p → Reads words texts forms p
+  pub reads-by : {p : Pair} → InCase (lentCase words texts forms) p → Reads words texts forms p
   reads-by inside = record { all = all; inside = inside }
 
-  pub reads-clause : {p : Pair} {i : ℕ} → InCase (lentCase words texts) p → i < schemaAt (lent words 1) (p .rule) .count → ReadsClause words texts forms p i
+  pub reads-clause : {p : Pair} {i : ℕ} → InCase (lentCase words texts forms) p → i < schemaAt (lent words 1) (p .rule) .count → ReadsClause words texts forms p i
   reads-clause inside h = record { reads = reads-by inside; clause-in = h }
 
 -- ---- the writers, by the numbers that were read
 
 -- the children of a row end within the rows
-pub kids-small : {ws rs us : List ℕ} (ts : List ℕ) {p : Pair} {form : RecordForm} {rform : RuleForm} {kids : Children} → Sheets ws ts rs us form rform → InCase (caseOf ws ts rs us) p
+pub kids-small : {ws rs us : List ℕ} (ts : List ℕ) {p : Pair} {form : RecordForm} {rform : RuleForm} {kids : Children} → Sheets ws ts rs us form rform → InCase (caseOf whole ws ts rs us) p
     → ChildrenRead ws (p .row) kids → kids .first < 4294967296 → kids .first + kids .count < 4294967296
 kids-small {ws} ts {p} {form} {kids = kids} S inside K fits =
     ⊎-elim (λ (z : kids .count ≤ 0). omega arith)
@@ -136,7 +149,7 @@ pub lt-by : {i n k : ℕ} → i < n → n ≡ k → i < k
 lt-by h e = omega arith
 
 -- the cycle's falling number, from a clause to a pair of lower rank
-pub falls-by : {T : Case} {p q : Pair} {t : ℕ} → 3 * rankOf T p + 0 ≡ t → Aim T p q → 3 * rankOf T q + 2 < t
+pub falls-by : {D : Doc} {R : R.Ruleset} {n m : ℕ} {p q : Pair} {t : ℕ} → 3 * rank D R p + 0 ≡ t → Aimed D R n m p q → 3 * rank D R q + 2 < t
 falls-by e z = let g = z .lower in omega arith
 
 pub le-by : {i n k : ℕ} → n ≡ i → n ≤ k → i ≤ k
@@ -148,7 +161,7 @@ module _ {ws ts rs us : List ℕ} {form : RecordForm} {rform : RuleForm} (S : Sh
   pub size-is : {a b : ℕ} → a ≡ form .rows → b ≡ rform .m → a * b ≡ rowsWord ws * schemasWord rs
   size-is e f = rw (e, f, rows-are S, schemas-are S)
 
-  pub size-fits : {a b : ℕ} → Fits (caseOf ws ts rs us) → a ≡ form .rows → b ≡ rform .m → a * b < 18446744073709551616
+  pub size-fits : {a b : ℕ} → Fits (caseOf whole ws ts rs us) → a ≡ form .rows → b ≡ rform .m → a * b < 18446744073709551616
   size-fits fit e f =
       let few = pairs-few (rowsWord ws) (schemasWord rs) (fit .rows .few) (fit .few) in
       rw (size-is e f) (omega arith)

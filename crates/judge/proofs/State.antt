@@ -1,29 +1,29 @@
 -- The areas while a record is judged: each step of the judging loops is one of these laws.
---     areas-self, areas-done, areas-bits, areas-marks, areas-listed, areas-free, areas-said    what the areas show
+--     written-…        words written over a list
+--     areas-self, areas-bits, areas-marks, areas-listed, areas-free, areas-said    what the areas show
 --     areas-then       one run after another
 --     areas-mark       marks were written
 --     areas-settle     a pair was settled
 -- Assumes nothing.
 use mathlib.Core.Bool.{Bool, true, false, cond, true≢false}
-use mathlib.Core.List.{List, [], _∷_, _++_, map, append-assoc, List·Memᴰ as Has, List·Memᴰ·head as at-head, List·Memᴰ·tail as in-tail}
-use mathlib.Core.List.{List·Memᴰ·append-cases, List·Memᴰ·eq-of-singleton}
+use mathlib.Core.List.{List, [], _∷_, _++_, map}
 use mathlib.Core.Logic.{_⊎_, ⊎-elim}
 use mathlib.Core.Path.{_≡_, refl, sym, ap, _∙_, subst}
 use Prim.Native.Nat.{ℕ, suc, _+_, _*_, _-_, _<_, _≤_}
 use native.Mathlib.Omega.{arith}
-use lib.ListN.{length, getD, set, take, drop, length-append, length-map, length-set, length-drop, take-append-drop}
-use lib.Seq.{getD-set-same, getD-set-other, take-at, drop-append-add, drop-drop, drop-cons, set-at}
+use lib.ListN.{length, getD, set, drop, length-append, length-map, length-set}
+use lib.Seq.{getD-set-same, getD-set-other}
 use borrow.Author.Tests.{eq-eqb}
 use Rattle.laws.proofs.Tests.{decide}
 use Rattle.meaning.specs.Rules.{Pair, Marks}
-use Rattle.meaning.specs.Settling.{samePair, listed}
-use Rattle.meaning.proofs.Words.{row-of, rule-of, row-inside, word-inside}
+use Rattle.meaning.specs.Settling.{samePair, listed, shown}
+use Rattle.meaning.proofs.Words.{row-inside, word-inside}
 use Rattle.meaning.proofs.Settled.{same-pair, self, in-listed, last-in}
 use Rattle.steps.proofs.Folds.{map-append, eq-or}
-use Rattle.areas.specs.Cells.{verd, bit, settledAs, column, settledOf, cellAt, Unsettled}
+use Rattle.areas.specs.Cells.{verd, bit, settledAs, column, cellAt, Unsettled}
 use Rattle.areas.specs.Writers.{Open, Shut, Writes, Marked}
 use Rattle.areas.proofs.Cells.{settledAs-some, same-row, same-rule, verd-settle, bit-settle, settle-small, settled-set, settled-same}
-use Rattle.judge.specs.State.{Case, Fits, InCase, Kid, firstKid, kidCount, truthOf, pairOf, bitsOf, overlay, doneOf, Areas}
+use Rattle.judge.specs.State.{Case, Fits, InCase, Kid, firstKid, kidCount, truthOf, bitsOf, overlay, written, Areas}
 
 -- ---- tests
 
@@ -64,26 +64,47 @@ unfolding listed
 listed-other [] p q e = rw e
 listed-other (x ∷ xs) p q e = rw (listed-other xs p q e)
 
-words-back : (T : Case) (done : List Pair) → ((p : Pair) → Has p done → InCase T p) → map (pairOf (T .m)) (map (cellAt (T .m)) done) ≡ done
-words-back T [] h = refl
-words-back T (p ∷ ps) h =
-    rw (row-of (T .m) (p .row) (p .rule) (h p (at-head refl) .rule-in), rule-of (T .m) (p .row) (p .rule) (h p (at-head refl) .rule-in))
-    (ap (λ l. p ∷ l) (words-back T ps (λ q i. h q (in-tail i))))
+-- ---- words written over a list
 
-drop-later : (xs l : List ℕ) (n n′ : ℕ) → length xs ≡ n → n ≤ n′ → drop n′ (xs ++ drop n l) ≡ drop n′ l
-drop-later xs l n n′ e h =
-    let d : n′ ≡ length xs + (n′ - n) = omega arith in
-    let g : n + (n′ - n) ≡ n′ = omega arith in
-    ap (λ (x : ℕ). drop x (xs ++ drop n l)) d ∙ drop-append-add xs (drop n l) (n′ - n) ∙ drop-drop (n′ - n) n l ∙ ap (λ (x : ℕ). drop x l) g
+written-long : (ws l : List ℕ) → length (written ws l) ≡ length l
+unfolding written
+written-long [] l = refl
+written-long (w ∷ ws) [] = refl
+written-long (w ∷ ws) (x ∷ l) = ap suc (written-long ws l)
+
+-- more words, written over these
+written-later : (ws vs l : List ℕ) → length ws ≤ length vs → written vs (written ws l) ≡ written vs l
+unfolding written
+written-later [] vs l h = refl
+written-later (w ∷ ws) [] l h = absurd (omega arith)
+written-later (w ∷ ws) (v ∷ vs) [] h = refl
+written-later (w ∷ ws) (v ∷ vs) (x ∷ l) h = ap (λ y. v ∷ y) (written-later ws vs l (omega arith))
+
+-- one more, at the place after them
+written-one : (ws l : List ℕ) (k : ℕ) → set (written ws l) (length ws) k ≡ written (ws ++ k ∷ []) l
+unfolding written
+written-one [] [] k = refl
+written-one [] (x ∷ l) k = refl
+written-one (w ∷ ws) [] k = refl
+written-one (w ∷ ws) (x ∷ l) k = ap (λ y. w ∷ y) (written-one ws l k)
+
+written-again : (ws l : List ℕ) → written ws (written ws l) ≡ written ws l
+written-again ws l = written-later ws ws l (omega arith)
+
+-- where there are places for all of them
+pub written-room : (ws l : List ℕ) → length ws ≤ length l → written ws l ≡ ws ++ drop (length ws) l
+unfolding written
+written-room [] l h = refl
+written-room (w ∷ ws) [] h = absurd (omega arith)
+written-room (w ∷ ws) (x ∷ l) h = ap (λ y. w ∷ y) (written-room ws l (omega arith))
+
+pub written-none : (ws l : List ℕ) → length l ≡ 0 → written ws l ≡ l
+unfolding written
+written-none [] l h = refl
+written-none (w ∷ ws) [] h = refl
+written-none (w ∷ ws) (x ∷ l) h = absurd (omega arith)
 
 module _ {T : Case} {done : List Pair} {held : Pair → Marks} {l₀ c l : List ℕ} {n : ℕ} (A : Areas T done held l₀ c l n) where
-  taken-words : take n l ≡ map (cellAt (T .m)) done
-  taken-words = ap (take n) (A .lists) ∙ take-at (map (cellAt (T .m)) done) (drop (length done) l₀) n (length-map done (cellAt (T .m)) ∙ sym (A .counts))
-
-  pub areas-done : doneOf (T .m) l n ≡ done
-  unfolding doneOf
-  areas-done = ap (map (pairOf (T .m))) taken-words ∙ words-back T done (A .tidy)
-
   pub areas-bits : (q : Pair) (k : ℕ) → InCase T q → Kid T (q .row) k → listed q done ≡ false → bitsOf (T .m) c q k ≡ held q k
   unfolding bitsOf
   areas-bits q k i ch e = A .shown q k i ch ∙ rw e
@@ -93,20 +114,18 @@ module _ {T : Case} {done : List Pair} {held : Pair → Marks} {l₀ c l : List 
   areas-marks q k i ch e = A .shown q k i ch ∙ rw e
 
   -- the areas by themselves
-  pub areas-self : Areas T (doneOf (T .m) l n) (bitsOf (T .m) c) l c l n
+  pub areas-self : Areas T done (bitsOf (T .m) c) l c l n
   unfolding bitsOf
-  areas-self = rw areas-done (record {
+  areas-self = record {
     long = A .long;
-    room = A .room;
     small = A .small;
     said = A .said;
     shown = λ q k i ch. cond-idem (listed q done) ((truthOf T q) .marks k) (held q k) _ (A .shown q k i ch);
     top = A .top;
-    tidy = A .tidy;
-    lists = sym (take-append-drop n l) ∙ rw taken-words (ap (λ (x : ℕ). map (cellAt (T .m)) done ++ drop x l) (A .counts));
+    lists = A .lists ∙ sym (ap (written (map (cellAt (T .m)) done)) (A .lists) ∙ written-again (map (cellAt (T .m)) done) l₀);
     counts = A .counts;
     counted = A .counted;
-  })
+  }
 
   pub areas-listed : (q : Pair) → InCase T q → (verd (getD c (cellAt (T .m) q) 0) ≡ 0 → ⊥) → listed q done ≡ true
   areas-listed q i f = ⊎-elim (λ e. e) (λ e. absurd (f (A .said q i ∙ rw e))) (decide (listed q done))
@@ -124,19 +143,21 @@ module _ {T : Case} {done : List Pair} {held : Pair → Marks} {l₀ c l : List 
   pub areas-cell : (q : Pair) → InCase T q → cellAt (T .m) q < length c
   areas-cell q i = let h = word-inside (T .n) (T .m) (q .row) (q .rule) (i .row-in) (i .rule-in) in let e = A .long in omega arith
 
+  pub areas-long : length l ≡ length l₀
+  areas-long = ap length (A .lists) ∙ written-long (map (cellAt (T .m)) done) l₀
+
   -- one run after another
   pub areas-then : {d′ : List Pair} {held′ held₂ : Pair → Marks} {c₂ l₂ : List ℕ} {n₂ : ℕ} → Areas T d′ held′ l c₂ l₂ n₂ → length done ≤ length d′
       → ((q : Pair) (k : ℕ) → InCase T q → Kid T (q .row) k → listed q d′ ≡ false → held′ q k ≡ held₂ q k)
       → Areas T d′ held₂ l₀ c₂ l₂ n₂
   areas-then {d′} {held′} {held₂} B g f = record {
     long = B .long;
-    room = B .room;
     small = B .small;
     said = B .said;
     shown = λ q k i ch. B .shown q k i ch ∙ cond-else (listed q d′) _ (held′ q k) (held₂ q k) (f q k i ch);
     top = B .top;
-    tidy = B .tidy;
-    lists = B .lists ∙ ap (λ x. map (cellAt (T .m)) d′ ++ drop (length d′) x) (A .lists) ∙ ap (λ x. map (cellAt (T .m)) d′ ++ x) (drop-later (map (cellAt (T .m)) done) l₀ (length done) (length d′) (length-map done (cellAt (T .m))) g);
+    lists = B .lists ∙ ap (written (map (cellAt (T .m)) d′)) (A .lists)
+        ∙ written-later (map (cellAt (T .m)) done) (map (cellAt (T .m)) d′) l₀ (let x = length-map done (cellAt (T .m)) in let y = length-map d′ (cellAt (T .m)) in omega arith);
     counts = B .counts;
     counted = B .counted;
   }
@@ -150,7 +171,6 @@ pub areas-mark : {T : Case} {done : List Pair} (held : Pair → Marks) {l₀ c c
     → Areas T done (overlay p κ′ held) l₀ c′ l n
 areas-mark {T} {done} held {l₀} {c} {c′} {p = p} κ κ′ {to} fit inside A free M f = record {
   long = M .len ∙ A .long;
-  room = A .room ∙ sym (M .len);
   small = M .small (A .small);
   said = λ q i. M .verdicts (cellAt (T .m) q) ∙ A .said q i;
   shown = λ q k i ch. ⊎-elim (λ e. mine q k i ch (same-pair q p e)) (λ e. other q k i ch e) (decide (samePair q p));
@@ -158,7 +178,6 @@ areas-mark {T} {done} held {l₀} {c} {c′} {p = p} κ κ′ {to} fit inside A 
       let z : 0 * T .m + s ≡ s = omega arith in
       let w = M .there 0 s h (λ e u v. let y = fit .rows .child-after (p .row) 0 (inside .row-in) (record { after = u; within = v }) in omega arith) in
       ap bit (ap (λ (x : ℕ). getD c′ x 0) (sym z) ∙ w ∙ ap (λ (x : ℕ). getD c x 0) z) ∙ A .top s h;
-  tidy = A .tidy;
   lists = A .lists;
   counts = A .counts;
   counted = settled-same c′ c (M .len) (M .verdicts) ∙ A .counted;
@@ -181,19 +200,15 @@ areas-mark {T} {done} held {l₀} {c} {c′} {p = p} κ κ′ {to} fit inside A 
 
 -- ---- a pair is settled
 
-plus-one : (y : ℕ) → y + 1 ≡ suc y
-plus-one y = omega arith
-
 pub areas-settle : {T : Case} {done : List Pair} (held : Pair → Marks) {l₀ c c′ l l′ : List ℕ} {n r i : ℕ} {p : Pair} (κ : Marks) {ok : Bool} → InCase T p
     → Areas T done (overlay p κ held) l₀ c l n → listed p done ≡ false
     → ((k : ℕ) → Kid T (p .row) k → κ k ≡ (truthOf T p) .marks k)
     → ok ≡ (truthOf T p) .holds
     → i ≡ cellAt (T .m) p
-    → Open c l n i → Shut c l n i ok c′ l′ r
+    → Open c n i → Shut c l n i ok c′ l′ r
     → Areas T (done ++ p ∷ []) held l₀ c′ l′ r
 areas-settle {T} {done} held {l₀} {c} {c′} {l} {l′} {n} {r} {i} {p} κ {ok} inside A free f e at O S = record {
   long = ap length (S .cell) ∙ length-set c i _ ∙ A .long;
-  room = ap length (S .entry) ∙ length-set l n i ∙ A .room ∙ sym (ap length (S .cell) ∙ length-set c i _);
   small = λ j. ⊎-elim (λ d. let a = cell-same j d in let b = settle-small x ok (O .unsettled) (A .small i) in omega arith) (λ d. let a = cell-other j d in let b = A .small j in omega arith) (eq-or j i);
   said = λ q h. ⊎-elim
       (λ d. subst (λ (y : Pair). verd (getD c′ (cellAt (T .m) y) 0) ≡ cond (listed y (done ++ p ∷ [])) (settledAs ((truthOf T y) .holds)) 0) (sym (same-pair q p d)) said-p)
@@ -204,10 +219,9 @@ areas-settle {T} {done} held {l₀} {c} {c′} {l} {l′} {n} {r} {i} {p} κ {ok
       (λ d. bits _ ∙ A .shown q k h ch ∙ rw (listed-other done p q d, overlay-other p q κ held k d))
       (decide (samePair q p));
   top = λ s h. bits s ∙ A .top s h;
-  tidy = λ q i. ⊎-elim (λ j. A .tidy q j) (λ j. subst (InCase T) (sym (List·Memᴰ·eq-of-singleton j)) inside) (List·Memᴰ·append-cases done i);
   lists = S .entry ∙ listing;
   counts = S .one-more ∙ ap (λ (y : ℕ). y + 1) (A .counts) ∙ sym (length-append done (p ∷ []));
-  counted = ap settledOf (S .cell) ∙ settled-set c i (x + settledAs ok) (O .in-cells) (O .unsettled) (λ z. settledAs-some ok (sym (verd-settle x ok (O .unsettled)) ∙ z)) ∙ ap (λ (y : ℕ). y + 1) (A .counted) ∙ sym (S .one-more);
+  counted = ap shown (S .cell) ∙ settled-set c i (x + settledAs ok) (O .in-cells) (O .unsettled) (λ z. settledAs-some ok (sym (verd-settle x ok (O .unsettled)) ∙ z)) ∙ ap (λ (y : ℕ). y + 1) (A .counted) ∙ sym (S .one-more);
 }
   where
     x : ℕ
@@ -231,21 +245,13 @@ areas-settle {T} {done} held {l₀} {c} {c′} {l} {l′} {n} {r} {i} {p} κ {ok
     shown-p : (k : ℕ) → Kid T (p .row) k → column (T .m) c′ (p .rule) k ≡ cond (listed p (done ++ p ∷ [])) ((truthOf T p) .marks k) (held p k)
     shown-p k ch = bits _ ∙ A .shown p k inside ch ∙ rw (free, listed-last done p) (overlay-self p κ held k ∙ f k ch)
 
-    long-enough : length done < length l₀
-    long-enough =
-        let a = A .counts in
-        let b = O .in-list in
-        let g : length l ≡ length done + (length l₀ - length done) = ap length (A .lists) ∙ length-append (map (cellAt (T .m)) done) (drop (length done) l₀) ∙ rw (length-map done (cellAt (T .m)), length-drop (length done) l₀) in
-        omega arith
-
-    listing : set l n i ≡ map (cellAt (T .m)) (done ++ p ∷ []) ++ drop (length (done ++ p ∷ [])) l₀
+    listing : set l n i ≡ written (map (cellAt (T .m)) (done ++ p ∷ [])) l₀
     listing =
-        let a = drop-cons l₀ (length done) 0 long-enough in
-        let z : length (map (cellAt (T .m)) done) ≡ n = length-map done (cellAt (T .m)) ∙ sym (A .counts) in
-        let w : length (done ++ p ∷ []) ≡ suc (length done) = length-append done (p ∷ []) ∙ plus-one (length done) in
-        ap (λ (y : List ℕ). set y n i) (A .lists ∙ ap (λ (y : List ℕ). map (cellAt (T .m)) done ++ y) a)
-        ∙ set-at (map (cellAt (T .m)) done) (getD l₀ (length done) 0) (drop (suc (length done)) l₀) i n z
-        ∙ rw (map-append (cellAt (T .m)) done (p ∷ []), w, append-assoc (map (cellAt (T .m)) done) (cellAt (T .m) p ∷ []) (drop (suc (length done)) l₀), at)
+        let z : n ≡ length (map (cellAt (T .m)) done) = A .counts ∙ sym (length-map done (cellAt (T .m))) in
+        ap (λ (y : List ℕ). set y n i) (A .lists)
+        ∙ ap (λ (y : ℕ). set (written (map (cellAt (T .m)) done) l₀) y i) z
+        ∙ written-one (map (cellAt (T .m)) done) l₀ i
+        ∙ ap (λ (y : List ℕ). written y l₀) (ap (λ (y : ℕ). map (cellAt (T .m)) done ++ y ∷ []) at ∙ sym (map-append (cellAt (T .m)) done (p ∷ [])))
 
 -- the rows of the children of a row, in the cells
 pub areas-writes : {T : Case} {done : List Pair} {held : Pair → Marks} {l₀ c l : List ℕ} {n : ℕ} {p : Pair} → Areas T done held l₀ c l n → Fits T → InCase T p → Writes (T .m) (firstKid T p) (kidCount T p) (p .rule) (p .rule) c

@@ -4,62 +4,63 @@
 --     part-exact, part-judged     the same in longer areas, of which the run takes the first n × m places
 -- Assumes nothing.
 use mathlib.Core.Bool.{Bool, true, false, _&&_, cond}
-use mathlib.Core.List.{List, [], _∷_, _++_, append-assoc, append-nil}
+use mathlib.Core.List.{List, [], _∷_, _++_, map, append-assoc, append-nil}
 use mathlib.Core.Logic.{⊎-elim}
 use mathlib.Core.Path.{_≡_, refl, sym, ap, _∙_}
 use Prim.Native.Nat.{ℕ, zero, suc, _+_, _*_, _-_, _<_, _≤_}
 use native.Mathlib.Omega.{arith}
 use lib.Dec.{eqb, ltb}
-use lib.ListN.{length, getD, take, drop, length-drop, take-append-drop}
+use lib.ListN.{length, getD, take, drop, length-map, length-drop, take-append-drop}
 use lib.Seq.{ext-getD, length-take-le}
 use borrow.Author.Tests.{lt-ltb, le-ltb}
 use Rattle.laws.proofs.Tests.{le-or-lt}
 use Rattle.meaning.specs.Lists.{range, keep}
-use Rattle.meaning.specs.Rules.{Pair}
+use Rattle.sheet.specs.Doc.{Doc}
+use Rattle.rulesheet.specs.Ruleset.{Ruleset}
+use Rattle.meaning.specs.Rules.{Pair, Way, whole, cut}
+use Rattle.meaning.specs.Fit.{Fit}
 use Rattle.meaning.specs.Settling.{listed, root, settled, word, list, cell, cells, marked}
-use Rattle.meaning.specs.Answer.{Left, verdict, judged}
+use Rattle.meaning.specs.Answer.{Left, verdict, listRoom, listLeft, judged}
 use Rattle.meaning.proofs.Trees.{once}
 use Rattle.meaning.proofs.Rows.{by-rows}
 use Rattle.areas.specs.Cells.{cellOf, verd, bit, four, settledAs, column, markedBy, Cleared, cellAt}
 use Rattle.areas.specs.Writers.{Writes}
-use Rattle.areas.proofs.Cells.{settledAs-read, whole, zero-verd, zero-bit, settled-blank}
+use Rattle.areas.proofs.Cells.{settledAs-read, whole as both-parts, zero-verd, zero-bit, settled-blank}
 use Rattle.judge.specs.declared.cycle.Verdict.{Verdict}
-use Rattle.judge.specs.State.{pair, Case, Fits, InCase, firstKid, kidCount, truthOf, settleOf, bitsOf, doneOf, Areas, Quiet, Ready, Judged}
+use Rattle.judge.specs.State.{pair, Case, Fits, InCase, firstKid, kidCount, truthOf, settleOf, bitsOf, written, Areas, Quiet, Ready, Judged}
 use Rattle.judge.specs.Whole.{Exact, Fresh, Roomy, leftBy, judgedOf}
 use Rattle.judge.proofs.Pairs.{settle-self}
-use Rattle.judge.proofs.State.{areas-marks, areas-writes}
+use Rattle.judge.proofs.State.{written-room, written-none, areas-marks, areas-writes}
 use Rattle.judge.proofs.Going.{open-bits}
 
 -- ---- the run begins
 
-none-done : (m : ℕ) (l : List ℕ) → doneOf m l 0 ≡ []
-unfolding doneOf
-none-done m l = refl
-
-pub root-in : {T : Case} → Fits T → InCase T root
+pub root-in : (T : Case) → Fits T → InCase T root
 unfolding root
-root-in fit = record { row-in = fit .rows .some; rule-in = fit .some }
+root-in T fit = record { row-in = fit .rows .some; rule-in = fit .some }
+
+fresh-areas : {T : Case} {c l : List ℕ} → Fresh T c l → Areas T [] (bitsOf (T .m) c) l c l 0
+unfolding bitsOf listed written
+fresh-areas {T} {c} {l} F =
+    record {
+      long = F .exact .cells-long;
+      counts = refl;
+      counted = settled-blank c (F .blank);
+      small = λ i. let z = F .blank i in omega arith;
+      said = λ p h. zero-verd _ (F .blank _);
+      shown = λ p k h ch. refl;
+      top = λ s h. zero-bit _ (F .blank s);
+      lists = refl;
+    }
 
 pub fresh-ready : {T : Case} {c l : List ℕ} {t : ℕ} → Fresh T c l → Ready T t root c l 0
-unfolding Quiet bitsOf listed
+unfolding Quiet bitsOf
 fresh-ready {T} {c} {l} F =
     record {
       fit = F .exact .fit;
-      inside = root-in (F .exact .fit);
-      areas =
-          rw (none-done (T .m) l)
-          (record {
-            long = F .exact .cells-long;
-            room = F .exact .list-long ∙ sym (F .exact .cells-long);
-            small = λ i. let z = F .blank i in omega arith;
-            said = λ p h. zero-verd _ (F .blank _);
-            shown = λ p k h ch. refl;
-            top = λ s h. zero-bit _ (F .blank s);
-            tidy = λ p i. elim i [ ];
-            lists = refl;
-            counts = refl;
-            counted = settled-blank c (F .blank);
-          });
+      inside = root-in T (F .exact .fit);
+      done = [];
+      areas = fresh-areas F;
       quiet = λ q k h g e ch. zero-bit _ (F .blank _);
     }
 
@@ -101,12 +102,38 @@ celled-at {T} {done} {c₀} {c = c} F A j s h g =
     (A .shown up j (record { row-in = omega arith; rule-in = g }) (F .exact .fit .rows .placed j z h)
     ∙ ap (cond (listed up done) ((truthOf T up) .marks j)) (zero-bit _ (F .blank _))))
     (le-or-lt j 0) in
-    whole x (A .small _) ∙ rw (a, b)
+    both-parts x (A .small _) ∙ rw (a, b)
 
 kept-same : (g h : ℕ → Bool) (x n : ℕ) → ((k : ℕ) → x ≤ k → k < x + n → g k ≡ h k) → keep g (range x n) ≡ keep h (range x n)
 unfolding keep range
 kept-same g h x zero f = refl
 kept-same g h x (suc n) f = rw (f x (omega arith) (omega arith), kept-same g h (suc x) n (λ k a b. f k (omega arith) (omega arith)))
+
+-- the places of a part, and then those after it
+drop-part : (i k : ℕ) (l : List ℕ) → i ≤ k → k ≤ length l → drop i (take k l) ++ drop k l ≡ drop i l
+drop-part zero k l h g = take-append-drop k l
+drop-part (suc i) zero l h g = absurd (omega arith)
+drop-part (suc i) (suc k) [] h g = absurd (omega arith)
+drop-part (suc i) (suc k) (x ∷ l) h g = drop-part i k l (omega arith) (omega arith)
+
+-- ---- the list
+
+module _ (D : Doc) (R : Ruleset) (n m : ℕ) (fit : Fit D R n m) where
+  list-left : (w : Way) (l : List ℕ) → length l ≡ listRoom w (n * m) → written (map (cellAt m) (settled D R w)) l ≡ listLeft w D R n m l
+  unfolding list word
+  list-left whole l e =
+      let k = length-map (settled D R whole) (cellAt m) in
+      let few = once D R n m fit .at-most in
+      written-room (map (cellAt m) (settled D R whole)) l (omega arith) ∙ ap (λ (x : ℕ). map (cellAt m) (settled D R whole) ++ drop x l) k
+  list-left cut l e = written-none (map (cellAt m) (settled D R cut)) l e
+
+  -- in a part of a longer list, and then what is after it
+  list-part : (w : Way) (k : ℕ) (l : List ℕ) → k ≡ listRoom w (n * m) → k ≤ length l → listLeft w D R n m (take k l) ++ drop k l ≡ listLeft w D R n m l
+  list-part whole k l e room =
+      let few = once D R n m fit .at-most in
+      append-assoc (list D R n m) (drop (length (settled D R whole)) (take k l)) (drop k l)
+      ∙ ap (λ y. list D R n m ++ y) (drop-part (length (settled D R whole)) k l (omega arith) room)
+  list-part cut k l e room = take-append-drop k l
 
 -- ---- all that is left, in areas of exactly n × m places
 
@@ -122,9 +149,9 @@ none-after k l e = ext-getD 0 (drop k l) [] (length-drop k l ∙ (let z : length
 pub judged-all : {T : Case} {c₀ l₀ c l : List ℕ} {n : ℕ} (r : Verdict) {x y : ℕ} → Fresh T c₀ l₀ → Judged T root c₀ l₀ 0 c l n
     → r .ok ≡ (truthOf T root) .holds → r .count ≡ n → x ≡ firstKid T root → y ≡ kidCount T root → r .marked ≡ markedBy (T .m) c x y
     → leftBy r c l ≡ judgedOf T c₀ l₀
-unfolding judged settled settleOf list word cells markedBy marked root
+unfolding judged settled settleOf cells markedBy marked root
 judged-all {T} {c₀} {l₀} {c} {l} {n} r {x} {y} F j e f u v w =
-    let A : Areas T (settleOf T root []) (bitsOf (T .m) c₀) l₀ c l n = rw (none-done (T .m) l₀) at (j .areas) in
+    let A = j .areas [] (fresh-areas F) in
     let done = settleOf T root [] in
     let fit = F .exact .fit in
     let marks : r .marked ≡ marked (T .doc) (T .rules) (T .n) (T .m) =
@@ -132,48 +159,41 @@ judged-all {T} {c₀} {l₀} {c} {l} {n} r {x} {y} F j e f u v w =
     ∙ rw (u, v)
     (ap length
     (kept-same (column (T .m) c 0) ((truthOf T root) .marks) (firstKid T root) (kidCount T root)
-    (λ k a b. open-bits T c root k (areas-marks A root k (root-in fit) (record { after = a; within = b }) (settle-self T fit root []))))) in
-    let cellsAre : c ≡ cells (T .doc) (T .rules) (T .n) (T .m) ++ drop (T .n * T .m) c₀ =
+    (λ k a b. open-bits T c root k (areas-marks A root k (root-in T fit) (record { after = a; within = b }) (settle-self T fit root []))))) in
+    let cellsAre : c ≡ cells (T .doc) (T .rules) (T .n) (T .m) (T .way) ++ drop (T .n * T .m) c₀ =
     by-rows (λ i s. cell (T .doc) (T .rules) (T .n) (T .m) done (record { row = i; rule = s })) (T .m) 0 (T .n) c (A .long)
     (λ i s h g. let z : 0 + i ≡ i = omega arith in rw z (celled-at F A i s h g))
     ∙ sym (rw (none-after (T .n * T .m) c₀ (F .exact .cells-long)) (append-nil _)) in
     let answers : verdict (r .ok) (r .count) (r .marked) ≡ verdict ((truthOf T root) .holds) (length done) (marked (T .doc) (T .rules) (T .n) (T .m)) =
     verdict-by _ _ _ _ _ _ e (f ∙ A .counts) marks in
-    λ i. record { answer = answers i; cells = cellsAre i; list = A .lists i }
+    let listIs : l ≡ listLeft (T .way) (T .doc) (T .rules) (T .n) (T .m) l₀ = A .lists ∙ list-left (T .doc) (T .rules) (T .n) (T .m) fit (T .way) l₀ (F .exact .list-long) in
+    λ i. record { answer = answers i; cells = cellsAre i; list = listIs i }
 
 -- ---- in longer areas
 
-pub part-exact : {T : Case} {k : ℕ} {c l : List ℕ} → k ≡ T .n * T .m → Roomy T c l → Exact T (take k c) (take k l)
-part-exact {T} {k} {c} {l} e a =
+pub part-exact : {T : Case} {k q : ℕ} {c l : List ℕ} → k ≡ T .n * T .m → q ≡ listRoom (T .way) k → Roomy T c l → Exact T (take k c) (take q l)
+part-exact {T} {k} {q} {c} {l} e f a =
+    let g : q ≡ listRoom (T .way) (T .n * T .m) = f ∙ ap (listRoom (T .way)) e in
     record {
       fit = a .fit;
       cells-long = length-take-le k c (let z = a .cells-long in omega arith) ∙ e;
-      list-long = length-take-le k l (let z = a .list-long in omega arith) ∙ e;
+      list-long = length-take-le q l (let z = a .list-long in omega arith) ∙ g;
     }
 
--- the places of a part, and then those after it
-drop-part : (i k : ℕ) (l : List ℕ) → i ≤ k → k ≤ length l → drop i (take k l) ++ drop k l ≡ drop i l
-drop-part zero k l h g = take-append-drop k l
-drop-part (suc i) zero l h g = absurd (omega arith)
-drop-part (suc i) (suc k) [] h g = absurd (omega arith)
-drop-part (suc i) (suc k) (x ∷ l) h g = drop-part i k l (omega arith) (omega arith)
-
-pub part-judged : {T : Case} {k : ℕ} {c₀ l₀ c l : List ℕ} (r : Verdict) → k ≡ T .n * T .m → Roomy T c₀ l₀ → leftBy r c l ≡ judgedOf T (take k c₀) (take k l₀)
-    → leftBy r (c ++ drop k c₀) (l ++ drop k l₀) ≡ judgedOf T c₀ l₀
+pub part-judged : {T : Case} {k q : ℕ} {c₀ l₀ c l : List ℕ} (r : Verdict) → k ≡ T .n * T .m → q ≡ listRoom (T .way) k → Roomy T c₀ l₀
+    → leftBy r c l ≡ judgedOf T (take k c₀) (take q l₀) → leftBy r (c ++ drop k c₀) (l ++ drop q l₀) ≡ judgedOf T c₀ l₀
 unfolding judged
-part-judged {T} {k} {c₀} {l₀} {c} {l} r e a h =
+part-judged {T} {k} {q} {c₀} {l₀} {c} {l} r e f a h =
     let D = T .doc in
     let R = T .rules in
-    let few = once D R (T .n) (T .m) (a .fit) .at-most in
+    let g : q ≡ listRoom (T .way) (T .n * T .m) = f ∙ ap (listRoom (T .way)) e in
     let room : k ≤ length c₀ = (let z = a .cells-long in omega arith) in
-    let room′ : k ≤ length l₀ = (let z = a .list-long in omega arith) in
+    let room′ : q ≤ length l₀ = (let z = a .list-long in omega arith) in
     let none : drop (T .n * T .m) (take k c₀) ≡ [] = rw (← e) (none-after k (take k c₀) (length-take-le k c₀ room)) in
-    let cs : c ++ drop k c₀ ≡ cells D R (T .n) (T .m) ++ drop (T .n * T .m) c₀ =
-    ap (λ (x : Left). x .cells ++ drop k c₀) h ∙ rw none (rw append-nil (ap (λ (i : ℕ). cells D R (T .n) (T .m) ++ drop i c₀) e)) in
-    let ls : l ++ drop k l₀ ≡ list D R (T .n) (T .m) ++ drop (length (settled D R)) l₀ =
-    ap (λ (x : Left). x .list ++ drop k l₀) h
-    ∙ append-assoc (list D R (T .n) (T .m)) (drop (length (settled D R)) (take k l₀)) (drop k l₀)
-    ∙ ap (λ y. list D R (T .n) (T .m) ++ y) (drop-part (length (settled D R)) k l₀ (omega arith) room′) in
+    let cs : c ++ drop k c₀ ≡ cells D R (T .n) (T .m) (T .way) ++ drop (T .n * T .m) c₀ =
+    ap (λ (x : Left). x .cells ++ drop k c₀) h ∙ rw none (rw append-nil (ap (λ (i : ℕ). cells D R (T .n) (T .m) (T .way) ++ drop i c₀) e)) in
+    let ls : l ++ drop q l₀ ≡ listLeft (T .way) D R (T .n) (T .m) l₀ =
+    ap (λ (x : Left). x .list ++ drop q l₀) h ∙ list-part D R (T .n) (T .m) (a .fit) (T .way) q l₀ g room′ in
     let answers = ap (λ (x : Left). x .answer) h in
     λ i. record { answer = answers i; cells = cs i; list = ls i }
 
@@ -187,7 +207,7 @@ root-ready F = fresh-ready F
 same-left : (T : Case) (c c₀ l₀ : List ℕ) → length c ≡ T .n * T .m → length c₀ ≡ T .n * T .m → judgedOf T c₀ l₀ ≡ judgedOf T c l₀
 unfolding judged
 same-left T c c₀ l₀ a b =
-    ap (λ rest. record { answer = verdict ((truthOf T root) .holds) (length (settled (T .doc) (T .rules))) (marked (T .doc) (T .rules) (T .n) (T .m)); cells = cells (T .doc) (T .rules) (T .n) (T .m) ++ rest; list = list (T .doc) (T .rules) (T .n) (T .m) ++ drop (length (settled (T .doc) (T .rules))) l₀ })
+    ap (λ rest. record { answer = verdict ((truthOf T root) .holds) (length (settled (T .doc) (T .rules) (T .way))) (marked (T .doc) (T .rules) (T .n) (T .m)); cells = cells (T .doc) (T .rules) (T .n) (T .m) (T .way) ++ rest; list = listLeft (T .way) (T .doc) (T .rules) (T .n) (T .m) l₀ })
     (none-after (T .n * T .m) c₀ b ∙ sym (none-after (T .n * T .m) c a))
 
 pub root-judged : {T : Case} {c₁ c₀ l₀ c l : List ℕ} {n z : ℕ} (r : Verdict) {x y k : ℕ} → Exact T c₁ l₀ → Fresh T c₀ l₀ → Judged T (pair 0 0) c₀ l₀ 0 c l n
@@ -197,5 +217,9 @@ unfolding root
 root-judged {T} {c₁} {c₀} {l₀} {c} {z = z} r {x} {y} E F j read e f u v m w =
     judged-all r F j (e ∙ settledAs-read ((truthOf T (pair 0 0)) .holds) z (read ∙ j .settled)) f u v (w ∙ ap (λ (i : ℕ). markedBy i c x y) m) ∙ same-left T c₁ c₀ l₀ (E .cells-long) (F .exact .cells-long)
 
-pub root-writes : {T : Case} {c₀ l₀ c l : List ℕ} {n : ℕ} → Judged T (pair 0 0) c₀ l₀ 0 c l n → Fits T → Writes (T .m) (firstKid T (pair 0 0)) (kidCount T (pair 0 0)) 0 0 c
-root-writes j fit = areas-writes (j .areas) fit (record { row-in = fit .rows .some; rule-in = fit .some })
+-- what is left is what the areas of a run show
+pub root-areas : {T : Case} {c₀ l₀ c l : List ℕ} {n : ℕ} → Fresh T c₀ l₀ → Judged T (pair 0 0) c₀ l₀ 0 c l n → Areas T (settleOf T (pair 0 0) []) (bitsOf (T .m) c₀) l₀ c l n
+root-areas F j = j .areas [] (fresh-areas F)
+
+pub root-writes : {T : Case} {c₀ l₀ c l : List ℕ} {n : ℕ} → Fresh T c₀ l₀ → Judged T (pair 0 0) c₀ l₀ 0 c l n → Fits T → Writes (T .m) (firstKid T (pair 0 0)) (kidCount T (pair 0 0)) 0 0 c
+root-writes F j fit = areas-writes (j .areas [] (fresh-areas F)) fit (record { row-in = fit .rows .some; rule-in = fit .some })

@@ -6,6 +6,9 @@
 // 1,024 pairs can be open at once, so an open pair keeps little: sheets, texts and forms lie behind one
 // address each, and what is read of them is read in `read`, where no pair is open.
 //
+// One cycle serves both calls: whether judging goes on after a failure, in whole, or stops, cut, is
+// asked of `read::next_clause` and `read::next_step`.
+//
 // The contracts cite `specs/State.antt`.
 ghost use Prim.Native.Nat.{_+_, _<_};
 ghost use Rattle.rulesheet.specs.Sheet.{schemaAt};
@@ -16,6 +19,8 @@ use crate::read::clauses_of;
 use crate::read::finish;
 use crate::read::give;
 use crate::read::more;
+use crate::read::next_clause;
+use crate::read::next_step;
 use crate::read::schemas_of;
 use crate::read::shut;
 use crate::read::start;
@@ -45,15 +50,15 @@ pub struct Verdict {
 pub(crate) fn apply<'a, 'b>(
     sheets: &'a [&'b [u32]; 2],
     texts: &'a [&'b [u8]; 2],
-    forms: &'a [usize; 8],
+    forms: &'a [usize; 9],
     cells: &mut [u8],
     list: &mut [u32],
     count: usize,
     p: Pair,
 ) -> usize
     requires { ⌜ Lent (now sheets) (now texts) (now forms) ⌝ }
-    requires { ⌜ Ready (lentCase (now sheets) (now texts)) (rankOf (lentCase (now sheets) (now texts)) (pairIs p) + 1) (pairIs p) (now cells) (now list) count ⌝ }
-    ensures { λ r. ⌜ Judged (lentCase (now (sheets .entry)) (now (texts .entry))) (pairIs p) (now (cells .entry)) (now (list .entry)) count (now (cells .exit)) (now (list .exit)) r ⌝ }
+    requires { ⌜ Ready (lentCase (now sheets) (now texts) (now forms)) (rankOf (lentCase (now sheets) (now texts) (now forms)) (pairIs p) + 1) (pairIs p) (now cells) (now list) count ⌝ }
+    ensures { λ r. ⌜ Judged (lentCase (now (sheets .entry)) (now (texts .entry)) (now (forms .entry))) (pairIs p) (now (cells .entry)) (now (list .entry)) count (now (cells .exit)) (now (list .exit)) r ⌝ }
 {
     if verdict_of(forms, cells, p) != 0 {
         return count;
@@ -65,16 +70,16 @@ pub(crate) fn apply<'a, 'b>(
 fn judge_pair<'a, 'b>(
     sheets: &'a [&'b [u32]; 2],
     texts: &'a [&'b [u8]; 2],
-    forms: &'a [usize; 8],
+    forms: &'a [usize; 9],
     cells: &mut [u8],
     list: &mut [u32],
     count: usize,
     p: Pair,
 ) -> usize
     requires { ⌜ Lent (now sheets) (now texts) (now forms) ⌝ }
-    requires { ⌜ Ready (lentCase (now sheets) (now texts)) (rankOf (lentCase (now sheets) (now texts)) (pairIs p) + 1) (pairIs p) (now cells) (now list) count ⌝ }
-    requires { ⌜ Unsettled (lentCase (now sheets) (now texts) .m) (pairIs p) (now cells) ⌝ }
-    ensures { λ r. ⌜ Judged (lentCase (now (sheets .entry)) (now (texts .entry))) (pairIs p) (now (cells .entry)) (now (list .entry)) count (now (cells .exit)) (now (list .exit)) r ⌝ }
+    requires { ⌜ Ready (lentCase (now sheets) (now texts) (now forms)) (rankOf (lentCase (now sheets) (now texts) (now forms)) (pairIs p) + 1) (pairIs p) (now cells) (now list) count ⌝ }
+    requires { ⌜ Unsettled (lentCase (now sheets) (now texts) (now forms) .m) (pairIs p) (now cells) ⌝ }
+    ensures { λ r. ⌜ Judged (lentCase (now (sheets .entry)) (now (texts .entry)) (now (forms .entry))) (pairIs p) (now (cells .entry)) (now (list .entry)) count (now (cells .exit)) (now (list .exit)) r ⌝ }
 {
     let many = clauses_of(sheets[RULES], forms, p.rule);
     let mut ok = true;
@@ -91,7 +96,7 @@ fn judge_pair<'a, 'b>(
                 ok = ok & d.ok;
             }
         }
-        i += 1;
+        i = next_clause(forms, many, i, ok);
     }
     shut(sheets, texts, forms, cells, p, ok);
     settle(cells, list, schemas_of(forms), p, ok, now)
@@ -101,7 +106,7 @@ fn judge_pair<'a, 'b>(
 fn judge_clause<'a, 'b>(
     sheets: &'a [&'b [u32]; 2],
     texts: &'a [&'b [u8]; 2],
-    forms: &'a [usize; 8],
+    forms: &'a [usize; 9],
     cells: &mut [u8],
     list: &mut [u32],
     count: usize,
@@ -109,10 +114,10 @@ fn judge_clause<'a, 'b>(
     i: u32,
 ) -> Done
     requires { ⌜ Lent (now sheets) (now texts) (now forms) ⌝ }
-    requires { ⌜ Ready (lentCase (now sheets) (now texts)) (rankOf (lentCase (now sheets) (now texts)) (pairIs p)) (pairIs p) (now cells) (now list) count ⌝ }
-    requires { ⌜ Unsettled (lentCase (now sheets) (now texts) .m) (pairIs p) (now cells) ⌝ }
-    requires { ⌜ (i < schemaAt (lent (now sheets) 1) (p .rule .0) .count) × Applying (lentCase (now sheets) (now texts)) (pairIs p) i ⌝ }
-    ensures { λ r. ⌜ ClauseJudged (lentCase (now (sheets .entry)) (now (texts .entry))) (pairIs p) i (now (cells .entry)) (now (list .entry)) count (now (cells .exit)) (now (list .exit)) r ⌝ }
+    requires { ⌜ Ready (lentCase (now sheets) (now texts) (now forms)) (rankOf (lentCase (now sheets) (now texts) (now forms)) (pairIs p)) (pairIs p) (now cells) (now list) count ⌝ }
+    requires { ⌜ Unsettled (lentCase (now sheets) (now texts) (now forms) .m) (pairIs p) (now cells) ⌝ }
+    requires { ⌜ (i < schemaAt (lent (now sheets) 1) (p .rule .0) .count) × Applying (lentCase (now sheets) (now texts) (now forms)) (pairIs p) i ⌝ }
+    ensures { λ r. ⌜ ClauseJudged (lentCase (now (sheets .entry)) (now (texts .entry)) (now (forms .entry))) (pairIs p) i (now (cells .entry)) (now (list .entry)) count (now (cells .exit)) (now (list .exit)) r ⌝ }
 {
     let from = start(sheets, texts, forms, p, i);
     let mut misses = 0;
@@ -129,6 +134,6 @@ fn judge_clause<'a, 'b>(
         now = apply(sheets, texts, forms, cells, list, now, at.pair);
         misses = more(misses, verdict_of(forms, cells, at.pair) != 1);
         give(sheets, texts, forms, cells, p, at.pair);
-        x = at.step + 1;
+        x = next_step(sheets, texts, forms, p, i, at.step, misses);
     }
 }

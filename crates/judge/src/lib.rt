@@ -1,7 +1,7 @@
 // The judge: a record sheet and a rule sheet with their texts, and two lent areas, cells and list.
 //
-// `judge` is checks (`sheet`, `rules`), areas, clearing and judging (`run`, `cycle`). Its contract cites
-// `specs/Call.antt`.
+// Both calls are checks (`sheet`, `rules`), areas, clearing and judging (`run`, `cycle`): `judge` judges
+// in whole, and `verdict`, which has no list, cut. Their contracts cite `specs/Call.antt`.
 pub mod answer;
 mod cycle;
 mod read;
@@ -11,7 +11,8 @@ ghost use mathlib.Core.Path.{_≡_};
 ghost use Rattle.sheet.specs.Refusals.{accepted};
 ghost use Rattle.sheet.specs.Faults.{recordOutcome};
 ghost use Rattle.rules.specs.Check.{rulesOutcome};
-ghost use Rattle.judge.specs.Call.{callLeaves};
+ghost use Rattle.judge.specs.State.{wayBy};
+ghost use Rattle.judge.specs.Call.{leaves, callLeaves, verdictLeaves};
 use answer::Answer;
 use recordcheck::check_record;
 use rules::check_rules;
@@ -34,8 +35,39 @@ pub fn judge<'a>(
 ) -> Answer
     ensures { λ r. ⌜ callLeaves (now («record» .entry)) (now (text .entry)) (now (rules .entry)) (now («rule_text» .entry)) (now (cells .entry)) (now (list .entry)) r (now (cells .exit)) (now (list .exit)) ⌝ }
 {
+    judge_by_record(record, text, rules, rule_text, cells, list, false)
+}
+
+// Judges a record by rules as far as the verdict needs: a schema judges no clause after its first that
+// fails, and allOf applies no entry after its first that fails. The verdict and the marked children of
+// the root are those of `judge`; the cells tell of the pairs settled here, which are counted.
+pub fn verdict<'a>(
+    record: &'a [u32],
+    text: &'a [u8],
+    rules: &'a [u32],
+    rule_text: &'a [u8],
+    cells: &mut [u8],
+) -> Answer
+    ensures { λ r. ⌜ verdictLeaves (now («record» .entry)) (now (text .entry)) (now (rules .entry)) (now («rule_text» .entry)) (now (cells .entry)) r (now (cells .exit)) ⌝ }
+{
+    let mut list = [0; 1];
+    judge_by_record(record, text, rules, rule_text, cells, &mut list[..0], true)
+}
+
+// Both calls: in whole, or cut.
+fn judge_by_record<'a>(
+    record: &'a [u32],
+    text: &'a [u8],
+    rules: &'a [u32],
+    rule_text: &'a [u8],
+    cells: &mut [u8],
+    list: &mut [u32],
+    cut: bool,
+) -> Answer
+    ensures { λ r. ⌜ leaves (wayBy cut) (now («record» .entry)) (now (text .entry)) (now (rules .entry)) (now («rule_text» .entry)) (now (cells .entry)) (now (list .entry)) r (now (cells .exit)) (now (list .exit)) ⌝ }
+{
     match check_record(record, text) {
-        Checked::Accepted(n) => judge_by_rules(record, text, rules, rule_text, cells, list, n),
+        Checked::Accepted(n) => judge_by_rules(record, text, rules, rule_text, cells, list, cut, n),
         Checked::Refused(refusal, place) => Answer::Refused(refusal, place),
     }
 }
@@ -48,13 +80,24 @@ fn judge_by_rules<'a>(
     rule_text: &'a [u8],
     cells: &mut [u8],
     list: &mut [u32],
+    cut: bool,
     n: u32,
 ) -> Answer
     requires { ⌜ recordOutcome (now «record») (now text) ≡ accepted n ⌝ }
-    ensures { λ r. ⌜ callLeaves (now («record» .entry)) (now (text .entry)) (now (rules .entry)) (now («rule_text» .entry)) (now (cells .entry)) (now (list .entry)) r (now (cells .exit)) (now (list .exit)) ⌝ }
+    ensures { λ r. ⌜ leaves (wayBy cut) (now («record» .entry)) (now (text .entry)) (now (rules .entry)) (now («rule_text» .entry)) (now (cells .entry)) (now (list .entry)) r (now (cells .exit)) (now (list .exit)) ⌝ }
 {
     match check_rules(rules, rule_text) {
-        Checked::Accepted(m) => judge_in_areas(record, text, rules, rule_text, cells, list, n, m),
+        Checked::Accepted(m) => judge_in_areas(
+            record,
+            text,
+            rules,
+            rule_text,
+            cells,
+            list,
+            cut,
+            n,
+            m,
+        ),
         Checked::Refused(refusal, place) => Answer::Refused(refusal, place),
     }
 }
@@ -67,23 +110,34 @@ pub fn judge_in_areas<'a>(
     rule_text: &'a [u8],
     cells: &mut [u8],
     list: &mut [u32],
+    cut: bool,
     n: u32,
     m: u32,
 ) -> Answer
     requires { ⌜ recordOutcome (now «record») (now text) ≡ accepted n ⌝ }
     requires { ⌜ rulesOutcome (now rules) (now «rule_text») ≡ accepted m ⌝ }
-    ensures { λ r. ⌜ callLeaves (now («record» .entry)) (now (text .entry)) (now (rules .entry)) (now («rule_text» .entry)) (now (cells .entry)) (now (list .entry)) r (now (cells .exit)) (now (list .exit)) ⌝ }
+    ensures { λ r. ⌜ leaves (wayBy cut) (now («record» .entry)) (now (text .entry)) (now (rules .entry)) (now («rule_text» .entry)) (now (cells .entry)) (now (list .entry)) r (now (cells .exit)) (now (list .exit)) ⌝ }
 {
     let size = wide(n * m);
     if cells.len() < size {
         return Answer::Refused(Refusal::FewCells, n * m);
     }
-    if list.len() < size {
+    if list.len() < run::list_room(size, cut) {
         return Answer::Refused(Refusal::ShortList, n * m);
     }
     let form = RecordForm::of(record);
     let rule_form = RuleForm::of(rules);
-    let v = run::run(record, text, rules, rule_text, cells, list, form, rule_form);
+    let v = run::run(
+        record,
+        text,
+        rules,
+        rule_text,
+        cells,
+        list,
+        form,
+        rule_form,
+        cut,
+    );
     let count = v.count;
     let marked = v.marked;
     if v.ok {

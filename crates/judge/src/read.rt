@@ -5,7 +5,8 @@
 //
 // The contracts cite `specs/State.antt`.
 ghost use mathlib.Core.Path.{_≡_};
-ghost use Prim.Native.Nat.{_≤_, _<_};
+ghost use mathlib.Core.Bool.{cond};
+ghost use Prim.Native.Nat.{_+_, _≤_, _<_};
 ghost use lib.ListN.{length, getD};
 ghost use Rattle.rulesheet.specs.Read.{RulesFormed};
 ghost use Rattle.rulesheet.specs.Sheet.{schemaAt};
@@ -13,7 +14,7 @@ ghost use Rattle.areas.specs.Cells.{pairIs, cellAt, verd, Unsettled, plus};
 ghost use Rattle.areas.specs.Writers.{kept, handedOn};
 ghost use Rattle.clause.specs.Read.{Tries};
 ghost use Rattle.steps.specs.Read.{Started};
-ghost use Rattle.judge.specs.State.{lentCase, formsOf, recordFormIn, ruleFormIn, FormsFit, clauseAt, beforeOf, Reads, ReadsClause, Applying, manySteps};
+ghost use Rattle.judge.specs.State.{lentCase, wayBy, wayWord, wayLent, goesOn, nextAt, formsOf, recordFormIn, ruleFormIn, FormsFit, clauseAt, beforeOf, Reads, ReadsClause, Applying, manySteps};
 ghost use Rattle.judge.specs.State.{Turns, TurnsTo, finishAt, WritesMarks, Hands, MarksWritten};
 use areas::hand_on;
 use areas::shut_marks;
@@ -27,6 +28,7 @@ use sheet::record::RuleRow;
 use sheet::record::children_of;
 use sheet::record::wide;
 use steps::before::start_of;
+use steps::finish::after_miss;
 use steps::finish::finish_of;
 use steps::turn::Turn;
 use steps::turn::turn_of;
@@ -46,9 +48,16 @@ pub(crate) fn more(n: u32, so: bool) -> u32
 
 // ---- the forms
 
-// Both forms as numbers.
-pub(crate) fn forms_of(form: RecordForm, rule_form: RuleForm) -> [usize; 8]
-    ensures { λ r. ⌜ r ≡ formsOf form «rule_form» ⌝ }
+// 1 if judging is cut.
+fn way_number(cut: bool) -> usize
+    ensures { λ r. ⌜ r ≡ wayWord (wayBy cut) ⌝ }
+{
+    if cut { 1 } else { 0 }
+}
+
+// Both forms as numbers, and whether judging is cut.
+pub(crate) fn forms_of(form: RecordForm, rule_form: RuleForm, cut: bool) -> [usize; 9]
+    ensures { λ r. ⌜ r ≡ formsOf form «rule_form» (wayBy cut) ⌝ }
 {
     [
         form.start,
@@ -59,11 +68,12 @@ pub(crate) fn forms_of(form: RecordForm, rule_form: RuleForm) -> [usize; 8]
         wide(rule_form.m),
         wide(rule_form.c),
         wide(rule_form.e),
+        way_number(cut),
     ]
 }
 
 // The record's form.
-fn record_form(forms: &[usize; 8]) -> RecordForm
+fn record_form(forms: &[usize; 9]) -> RecordForm
     requires { ⌜ FormsFit (now forms) ⌝ }
     ensures { λ r. ⌜ r ≡ recordFormIn (now (forms .entry)) ⌝ }
 {
@@ -74,7 +84,7 @@ fn record_form(forms: &[usize; 8]) -> RecordForm
 }
 
 // The rules' form.
-fn rules_form(forms: &[usize; 8]) -> RuleForm
+fn rules_form(forms: &[usize; 9]) -> RuleForm
     requires { ⌜ FormsFit (now forms) ⌝ }
     ensures { λ r. ⌜ r ≡ ruleFormIn (now (forms .entry)) ⌝ }
 {
@@ -89,16 +99,59 @@ fn rules_form(forms: &[usize; 8]) -> RuleForm
 }
 
 // How many schemas there are.
-pub(crate) fn schemas_of(forms: &[usize; 8]) -> usize
+pub(crate) fn schemas_of(forms: &[usize; 9]) -> usize
     ensures { λ r. ⌜ r ≡ getD (now (forms .entry)) 5 0 ⌝ }
 {
     forms[5]
 }
 
+// ---- after a failure
+
+// Whether judging goes on after what is `ok` or not: always in whole, and else where it is. Here alone
+// it is asked whether judging is cut.
+fn goes_on(forms: &[usize; 9], ok: bool) -> bool
+    ensures { λ r. ⌜ r ≡ goesOn (wayLent (now (forms .entry))) ok ⌝ }
+{
+    if ok {
+        return true;
+    }
+    forms[8] == 0
+}
+
+// The clause after clause i of `many`, where those up to it hold or not; none if judging stops.
+pub(crate) fn next_clause(forms: &[usize; 9], many: u32, i: u32, ok: bool) -> u32
+    requires { ⌜ i < many ⌝ }
+    ensures { λ r. ⌜ r ≡ cond (goesOn (wayLent (now (forms .entry))) ok) (i + 1) many ⌝ }
+    ensures { λ r. ⌜ (i < r) × (r ≤ many) ⌝ }
+{
+    if goes_on(forms, ok) { i + 1 } else { many }
+}
+
+// The step of clause i of the pair after one of its steps, where `misses` so far applied a pair that
+// failed; none of allOf if judging stops.
+pub(crate) fn next_step<'a, 'b>(
+    sheets: &'a [&'b [u32]; 2],
+    texts: &'a [&'b [u8]; 2],
+    forms: &'a [usize; 9],
+    p: Pair,
+    i: u32,
+    step: u32,
+    misses: u32,
+) -> u32
+    requires { ⌜ ReadsClause (now sheets) (now texts) (now forms) (pairIs p) i × (step < 4294967295) ⌝ }
+    ensures { λ r. ⌜ r ≡ nextAt (lentCase (now (sheets .entry)) (now (texts .entry)) (now (forms .entry))) (pairIs p) i step misses ⌝ }
+{
+    if goes_on(forms, misses == 0) {
+        return step + 1;
+    }
+    let rule_form = rules_form(forms);
+    after_miss(sheets[RULES], texts[RULES], rule_form, p.rule, i, step)
+}
+
 // ---- a pair
 
 // The verdict in the pair's cell.
-pub(crate) fn verdict_of(forms: &[usize; 8], cells: &[u8], p: Pair) -> u8
+pub(crate) fn verdict_of(forms: &[usize; 9], cells: &[u8], p: Pair) -> u8
     requires { ⌜ (cellAt (getD (now forms) 5 0) (pairIs p) < length (now cells)) × (length (now cells) < 4294967296) ⌝ }
     ensures { λ r. ⌜ r ≡ verd (getD (now (cells .entry)) (cellAt (getD (now (forms .entry)) 5 0) (pairIs p)) 0) ⌝ }
 {
@@ -106,7 +159,7 @@ pub(crate) fn verdict_of(forms: &[usize; 8], cells: &[u8], p: Pair) -> u8
 }
 
 // How many clauses the schema has.
-pub(crate) fn clauses_of(rules: &[u32], forms: &[usize; 8], s: RuleRow) -> u32
+pub(crate) fn clauses_of(rules: &[u32], forms: &[usize; 9], s: RuleRow) -> u32
     requires { ⌜ FormsFit (now forms) × (s .0 < getD (now forms) 5 0) × RulesFormed (now rules) (ruleFormIn (now forms)) ⌝ }
     ensures { λ r. ⌜ r ≡ schemaAt (now (rules .entry)) (s .0) .count ⌝ }
 {
@@ -117,14 +170,14 @@ pub(crate) fn clauses_of(rules: &[u32], forms: &[usize; 8], s: RuleRow) -> u32
 pub(crate) fn tried<'a, 'b>(
     sheets: &'a [&'b [u32]; 2],
     texts: &'a [&'b [u8]; 2],
-    forms: &'a [usize; 8],
+    forms: &'a [usize; 9],
     cells: &[u8],
     p: Pair,
     i: u32,
 ) -> Tried
     requires { ⌜ ReadsClause (now sheets) (now texts) (now forms) (pairIs p) i ⌝ }
-    requires { ⌜ Unsettled (lentCase (now sheets) (now texts) .m) (pairIs p) (now cells) ⌝ }
-    ensures { λ r. ⌜ Tries (lentCase (now (sheets .entry)) (now (texts .entry)) .doc) (p .row .0) (clauseAt (lentCase (now (sheets .entry)) (now (texts .entry))) (pairIs p) i) r ⌝ }
+    requires { ⌜ Unsettled (lentCase (now sheets) (now texts) (now forms) .m) (pairIs p) (now cells) ⌝ }
+    ensures { λ r. ⌜ Tries (lentCase (now (sheets .entry)) (now (texts .entry)) (now (forms .entry)) .doc) (p .row .0) (clauseAt (lentCase (now (sheets .entry)) (now (texts .entry)) (now (forms .entry))) (pairIs p) i) r ⌝ }
 {
     let form = record_form(forms);
     let rule_form = rules_form(forms);
@@ -147,12 +200,12 @@ pub(crate) fn tried<'a, 'b>(
 pub(crate) fn start<'a, 'b>(
     sheets: &'a [&'b [u32]; 2],
     texts: &'a [&'b [u8]; 2],
-    forms: &'a [usize; 8],
+    forms: &'a [usize; 9],
     p: Pair,
     i: u32,
 ) -> u32
     requires { ⌜ ReadsClause (now sheets) (now texts) (now forms) (pairIs p) i ⌝ }
-    ensures { λ r. ⌜ Started (beforeOf (lentCase (now (sheets .entry)) (now (texts .entry))) (pairIs p) i) (clauseAt (lentCase (now (sheets .entry)) (now (texts .entry))) (pairIs p) i) r ⌝ }
+    ensures { λ r. ⌜ Started (beforeOf (lentCase (now (sheets .entry)) (now (texts .entry)) (now (forms .entry))) (pairIs p) i) (clauseAt (lentCase (now (sheets .entry)) (now (texts .entry)) (now (forms .entry))) (pairIs p) i) r ⌝ }
 {
     let rule_form = rules_form(forms);
     start_of(sheets[RULES], texts[RULES], rule_form, p.rule, i)
@@ -162,7 +215,7 @@ pub(crate) fn start<'a, 'b>(
 pub(crate) fn turn<'a, 'b>(
     sheets: &'a [&'b [u32]; 2],
     texts: &'a [&'b [u8]; 2],
-    forms: &'a [usize; 8],
+    forms: &'a [usize; 9],
     cells: &[u8],
     p: Pair,
     i: u32,
@@ -170,8 +223,8 @@ pub(crate) fn turn<'a, 'b>(
     x: u32,
 ) -> Turn
     requires { ⌜ ReadsClause (now sheets) (now texts) (now forms) (pairIs p) i ⌝ }
-    requires { ⌜ Turns (lentCase (now sheets) (now texts)) (pairIs p) i from (now cells) ⌝ }
-    ensures { λ r. ⌜ TurnsTo (lentCase (now (sheets .entry)) (now (texts .entry))) (pairIs p) i x (now (cells .entry)) r ⌝ }
+    requires { ⌜ Turns (lentCase (now sheets) (now texts) (now forms)) (pairIs p) i from (now cells) ⌝ }
+    ensures { λ r. ⌜ TurnsTo (lentCase (now (sheets .entry)) (now (texts .entry)) (now (forms .entry))) (pairIs p) i x (now (cells .entry)) r ⌝ }
 {
     let form = record_form(forms);
     let rule_form = rules_form(forms);
@@ -194,14 +247,14 @@ pub(crate) fn turn<'a, 'b>(
 pub(crate) fn give<'a, 'b>(
     sheets: &'a [&'b [u32]; 2],
     texts: &'a [&'b [u8]; 2],
-    forms: &'a [usize; 8],
+    forms: &'a [usize; 9],
     cells: &mut [u8],
     p: Pair,
     q: Pair,
 )
     requires { ⌜ Reads (now sheets) (now texts) (now forms) (pairIs p) ⌝ }
-    requires { ⌜ Hands (lentCase (now sheets) (now texts)) (pairIs p) (pairIs q) (now cells) ⌝ }
-    ensures { λ r. ⌜ MarksWritten (lentCase (now (sheets .entry)) (now (texts .entry))) (pairIs p) (handedOn (lentCase (now (sheets .entry)) (now (texts .entry)) .m) (now (cells .entry)) (p .row .0) (p .rule .0) (q .row .0) (q .rule .0)) (now (cells .entry)) (now (cells .exit)) ⌝ }
+    requires { ⌜ Hands (lentCase (now sheets) (now texts) (now forms)) (pairIs p) (pairIs q) (now cells) ⌝ }
+    ensures { λ r. ⌜ MarksWritten (lentCase (now (sheets .entry)) (now (texts .entry)) (now (forms .entry))) (pairIs p) (handedOn (lentCase (now (sheets .entry)) (now (texts .entry)) (now (forms .entry)) .m) (now (cells .entry)) (p .row .0) (p .rule .0) (q .row .0) (q .rule .0)) (now (cells .entry)) (now (cells .exit)) ⌝ }
 {
     let form = record_form(forms);
     let kids = children_of(sheets[RECORD], form, p.row);
@@ -213,14 +266,14 @@ pub(crate) fn give<'a, 'b>(
 pub(crate) fn finish<'a, 'b>(
     sheets: &'a [&'b [u32]; 2],
     texts: &'a [&'b [u8]; 2],
-    forms: &'a [usize; 8],
+    forms: &'a [usize; 9],
     p: Pair,
     i: u32,
     misses: u32,
 ) -> bool
-    requires { ⌜ ReadsClause (now sheets) (now texts) (now forms) (pairIs p) i × Applying (lentCase (now sheets) (now texts)) (pairIs p) i ⌝ }
-    requires { ⌜ misses ≤ manySteps (lentCase (now sheets) (now texts)) (pairIs p) i ⌝ }
-    ensures { λ r. ⌜ r ≡ finishAt (lentCase (now (sheets .entry)) (now (texts .entry))) (pairIs p) i misses ⌝ }
+    requires { ⌜ ReadsClause (now sheets) (now texts) (now forms) (pairIs p) i × Applying (lentCase (now sheets) (now texts) (now forms)) (pairIs p) i ⌝ }
+    requires { ⌜ misses ≤ manySteps (lentCase (now sheets) (now texts) (now forms)) (pairIs p) i ⌝ }
+    ensures { λ r. ⌜ r ≡ finishAt (lentCase (now (sheets .entry)) (now (texts .entry)) (now (forms .entry))) (pairIs p) i misses ⌝ }
 {
     let rule_form = rules_form(forms);
     finish_of(sheets[RULES], texts[RULES], rule_form, p.rule, i, misses)
@@ -230,14 +283,14 @@ pub(crate) fn finish<'a, 'b>(
 pub(crate) fn shut<'a, 'b>(
     sheets: &'a [&'b [u32]; 2],
     texts: &'a [&'b [u8]; 2],
-    forms: &'a [usize; 8],
+    forms: &'a [usize; 9],
     cells: &mut [u8],
     p: Pair,
     ok: bool,
 )
     requires { ⌜ Reads (now sheets) (now texts) (now forms) (pairIs p) ⌝ }
-    requires { ⌜ WritesMarks (lentCase (now sheets) (now texts)) (pairIs p) (now cells) ⌝ }
-    ensures { λ r. ⌜ MarksWritten (lentCase (now (sheets .entry)) (now (texts .entry))) (pairIs p) (kept (lentCase (now (sheets .entry)) (now (texts .entry)) .m) (now (cells .entry)) (p .rule .0) ok) (now (cells .entry)) (now (cells .exit)) ⌝ }
+    requires { ⌜ WritesMarks (lentCase (now sheets) (now texts) (now forms)) (pairIs p) (now cells) ⌝ }
+    ensures { λ r. ⌜ MarksWritten (lentCase (now (sheets .entry)) (now (texts .entry)) (now (forms .entry))) (pairIs p) (kept (lentCase (now (sheets .entry)) (now (texts .entry)) (now (forms .entry)) .m) (now (cells .entry)) (p .rule .0) ok) (now (cells .entry)) (now (cells .exit)) ⌝ }
 {
     let form = record_form(forms);
     let kids = children_of(sheets[RECORD], form, p.row);

@@ -1,6 +1,7 @@
 // The run after both checks: the cells are cleared, the root pair is applied, its marks are counted.
 ghost use mathlib.Core.Path.{_≡_};
-ghost use Rattle.judge.specs.State.{caseOf, Sheets};
+ghost use Rattle.judge.specs.State.{caseOf, wayBy, Sheets};
+ghost use Rattle.meaning.specs.Answer.{listRoom};
 ghost use Rattle.judge.specs.Whole.{Exact, Roomy, leftBy, judgedOf};
 use crate::cycle::Verdict;
 use crate::cycle::apply;
@@ -16,6 +17,13 @@ use sheet::record::RuleRow;
 use sheet::record::children_of;
 use sheet::record::wide;
 
+// How many places of the list are asked, for so many pairs: none if judging is cut.
+pub(crate) fn list_room(pairs: usize, cut: bool) -> usize
+    ensures { λ r. ⌜ r ≡ listRoom (wayBy cut) pairs ⌝ }
+{
+    if cut { 0 } else { pairs }
+}
+
 // In areas of exactly as many places as there are pairs.
 fn run_exact<'a>(
     record: &'a [u32],
@@ -26,10 +34,11 @@ fn run_exact<'a>(
     list: &mut [u32],
     form: RecordForm,
     rule_form: RuleForm,
+    cut: bool,
 ) -> Verdict
     requires { ⌜ Sheets (now «record») (now text) (now rules) (now «rule_text») form «rule_form» ⌝ }
-    requires { ⌜ Exact (caseOf (now «record») (now text) (now rules) (now «rule_text»)) (now cells) (now list) ⌝ }
-    ensures { λ r. ⌜ leftBy r (now (cells .exit)) (now (list .exit)) ≡ judgedOf (caseOf (now («record» .entry)) (now (text .entry)) (now (rules .entry)) (now («rule_text» .entry))) (now (cells .entry)) (now (list .entry)) ⌝ }
+    requires { ⌜ Exact (caseOf (wayBy cut) (now «record») (now text) (now rules) (now «rule_text»)) (now cells) (now list) ⌝ }
+    ensures { λ r. ⌜ leftBy r (now (cells .exit)) (now (list .exit)) ≡ judgedOf (caseOf (wayBy cut) (now («record» .entry)) (now (text .entry)) (now (rules .entry)) (now («rule_text» .entry))) (now (cells .entry)) (now (list .entry)) ⌝ }
 {
     clear(cells);
     let sheets = [record, rules];
@@ -38,7 +47,7 @@ fn run_exact<'a>(
         row: RecordRow(0),
         rule: RuleRow(0),
     };
-    let forms = forms_of(form, rule_form);
+    let forms = forms_of(form, rule_form, cut);
     let count = apply(&sheets, &texts, &forms, cells, list, 0, root);
     let ok = verdict_of(&forms, cells, root) == 1;
     let kids = children_of(record, form, RecordRow(0));
@@ -60,10 +69,11 @@ pub(crate) fn run<'a>(
     list: &mut [u32],
     form: RecordForm,
     rule_form: RuleForm,
+    cut: bool,
 ) -> Verdict
     requires { ⌜ Sheets (now «record») (now text) (now rules) (now «rule_text») form «rule_form» ⌝ }
-    requires { ⌜ Roomy (caseOf (now «record») (now text) (now rules) (now «rule_text»)) (now cells) (now list) ⌝ }
-    ensures { λ r. ⌜ leftBy r (now (cells .exit)) (now (list .exit)) ≡ judgedOf (caseOf (now («record» .entry)) (now (text .entry)) (now (rules .entry)) (now («rule_text» .entry))) (now (cells .entry)) (now (list .entry)) ⌝ }
+    requires { ⌜ Roomy (caseOf (wayBy cut) (now «record») (now text) (now rules) (now «rule_text»)) (now cells) (now list) ⌝ }
+    ensures { λ r. ⌜ leftBy r (now (cells .exit)) (now (list .exit)) ≡ judgedOf (caseOf (wayBy cut) (now («record» .entry)) (now (text .entry)) (now (rules .entry)) (now («rule_text» .entry))) (now (cells .entry)) (now (list .entry)) ⌝ }
 {
     let k = wide(form.rows) * wide(rule_form.m);
     run_exact(
@@ -72,8 +82,9 @@ pub(crate) fn run<'a>(
         rules,
         rule_text,
         &mut cells[..k],
-        &mut list[..k],
+        &mut list[..list_room(k, cut)],
         form,
         rule_form,
+        cut,
     )
 }

@@ -26,7 +26,8 @@ use Rattle.rulesheet.proofs.Naming.{named-inside}
 use Rattle.rules.specs.Check.{ruleLines, rulesOutcome}
 use Rattle.rules.specs.Accepted.{AcceptedRules}
 use Rattle.rules.proofs.Acceptance.{accepted-facts}
-use Rattle.meaning.specs.Answer.{refuses, Left, areaLines, table, judged, unless, judge}
+use Rattle.meaning.specs.Rules.{Way}
+use Rattle.meaning.specs.Answer.{refuses, Left, listRoom, areaLines, table, judged, unless, judge}
 use Rattle.meaning.specs.Fit.{Fit}
 
 -- ---- a table after a table
@@ -59,7 +60,7 @@ first-accepted (line ∷ lines) more rows rest k e =
 
 -- ---- the call
 
-module _ (ws ts rs us cs ls : List ℕ) where
+module _ (w : Way) (ws ts rs us cs ls : List ℕ) where
   abbrev same : ℕ → ℕ → Left
   same number place = record { answer = refuses number place; cells = cs; list = ls }
 
@@ -67,22 +68,22 @@ module _ (ws ts rs us cs ls : List ℕ) where
   size = rowsWord ws * schemasWord rs
 
   abbrev areas : List Line
-  areas = areaLines size (length cs) (length ls)
+  areas = areaLines w size (length cs) (length ls)
 
   abbrev rest : Left
-  rest = judged (docOf ws ts) (rulesOf rs us) (rowsWord ws) (schemasWord rs) cs ls
+  rest = judged w (docOf ws ts) (rulesOf rs us) (rowsWord ws) (schemasWord rs) cs ls
 
-  pub by-lines : (o : Outcome) → firstLine (table ws ts rs us cs ls) 0 ≡ o → judge ws ts rs us cs ls ≡ unless o cs ls rest
+  pub by-lines : (o : Outcome) → firstLine (table w ws ts rs us cs ls) 0 ≡ o → judge w ws ts rs us cs ls ≡ unless o cs ls rest
   unfolding judge
   by-lines o e = ap (λ x. unless x cs ls rest) e
 
-  pub record-refused : (number place : ℕ) → recordOutcome ws ts ≡ refused number place → judge ws ts rs us cs ls ≡ same number place
+  pub record-refused : (number place : ℕ) → recordOutcome ws ts ≡ refused number place → judge w ws ts rs us cs ls ≡ same number place
   unfolding recordOutcome
   record-refused number place e =
       by-lines (refused number place) (first-refused (recordLines ws ts) (ruleLines rs us ++ areas) (rowsWord ws) 0 number place e)
 
   module _ (n : ℕ) (good : recordOutcome ws ts ≡ accepted n) where
-    past-record : firstLine (table ws ts rs us cs ls) 0 ≡ firstLine (ruleLines rs us ++ areas) 0
+    past-record : firstLine (table w ws ts rs us cs ls) 0 ≡ firstLine (ruleLines rs us ++ areas) 0
     unfolding recordOutcome
     past-record = first-accepted (recordLines ws ts) (ruleLines rs us ++ areas) (rowsWord ws) 0 n good
 
@@ -90,13 +91,13 @@ module _ (ws ts rs us cs ls : List ℕ) where
     unfolding recordOutcome
     rows-are = given (recordLines ws ts) (rowsWord ws) n good
 
-    pub rules-refused : (number place : ℕ) → rulesOutcome rs us ≡ refused number place → judge ws ts rs us cs ls ≡ same number place
+    pub rules-refused : (number place : ℕ) → rulesOutcome rs us ≡ refused number place → judge w ws ts rs us cs ls ≡ same number place
     unfolding rulesOutcome
     rules-refused number place e =
         by-lines (refused number place) (past-record ∙ first-refused (ruleLines rs us) areas (schemasWord rs) 0 number place e)
 
     module _ (m : ℕ) (fine : rulesOutcome rs us ≡ accepted m) where
-      past-rules : firstLine (table ws ts rs us cs ls) 0 ≡ firstLine areas 0
+      past-rules : firstLine (table w ws ts rs us cs ls) 0 ≡ firstLine areas 0
       unfolding rulesOutcome
       past-rules = past-record ∙ first-accepted (ruleLines rs us) areas (schemasWord rs) 0 m fine
 
@@ -107,7 +108,7 @@ module _ (ws ts rs us cs ls : List ℕ) where
       size-is : size ≡ n * m
       size-is = rw (rows-are, schemas-are)
 
-      pub cells-short : length cs < n * m → judge ws ts rs us cs ls ≡ same 10 (n * m)
+      pub cells-short : length cs < n * m → judge w ws ts rs us cs ls ≡ same 10 (n * m)
       unfolding firstLine
       cells-short h =
           let t = lt-ltb (length cs) size (rw size-is h) in
@@ -117,16 +118,16 @@ module _ (ws ts rs us cs ls : List ℕ) where
         cells-enough : ltb (length cs) size ≡ false
         cells-enough = le-ltb (length cs) size (rw size-is roomy)
 
-        pub list-short : length ls < n * m → judge ws ts rs us cs ls ≡ same 11 (n * m)
+        pub list-short : length ls < listRoom w (n * m) → judge w ws ts rs us cs ls ≡ same 11 (n * m)
         unfolding firstLine
         list-short h =
-            let t = lt-ltb (length ls) size (rw size-is h) in
+            let t = lt-ltb (length ls) (listRoom w size) (rw size-is h) in
             by-lines (refused 11 size) (past-rules ∙ rw (cells-enough, t)) ∙ ap (same 11) size-is
 
-        pub call-judged : n * m ≤ length ls → judge ws ts rs us cs ls ≡ judged (docOf ws ts) (rulesOf rs us) n m cs ls
+        pub call-judged : listRoom w (n * m) ≤ length ls → judge w ws ts rs us cs ls ≡ judged w (docOf ws ts) (rulesOf rs us) n m cs ls
         unfolding firstLine
         call-judged h =
-            let t = le-ltb (length ls) size (rw size-is h) in
+            let t = le-ltb (length ls) (listRoom w size) (rw size-is h) in
             by-lines (accepted 0) (past-rules ∙ rw (cells-enough, t)) ∙ rw (rows-are, schemas-are)
 
       -- ---- what the checks give

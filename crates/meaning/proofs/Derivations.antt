@@ -11,7 +11,7 @@ use native.Mathlib.Omega.{arith}
 use Rattle.sheet.specs.Doc.{Doc}
 use Rattle.rulesheet.specs.Ruleset.{Clause, asserts, inPlace, takes, Ruleset}
 use Rattle.meaning.specs.Rules.{Pair, Marks, nothing, _∪_, Result, joined, here, taken}
-use Rattle.meaning.specs.Rules.{Judgement, found, answer, applied, each, clause, clauses, judgement, derive}
+use Rattle.meaning.specs.Rules.{Judgement, found, answer, applied, whole, stops, each, wayIn, clause, clauses, judgement, derive}
 use Rattle.meaning.specs.Derivation.{Schema, schema-true, schema-false, Clauses, klist-0, klist-n, Keyword, assertion, in-place, children, Each, no-more, one-more}
 use Rattle.meaning.proofs.Lists.{Every, every-nil, every-cons, every-map, every-left, every-right}
 use Rattle.meaning.proofs.Judgements.{answer-each, applied-each, answer-then, applied-then}
@@ -30,26 +30,26 @@ module _ (D : Doc) (R : Ruleset) (sub : Pair → Result) where
   each-derived every-nil = no-more
   each-derived (every-cons h hs) = one-more h (each-derived hs)
 
-  asked : (ps : List Pair) (k : List Result → Judgement) → Every Known (applied sub (each ps k)) → Each D R ps (map sub ps)
+  asked : (ps : List Pair) (k : List Result → Judgement) → Every Known (applied sub (each whole ps k)) → Each D R ps (map sub ps)
   asked ps k h = each-derived (every-left ps (applied sub (k (map sub ps))) (subst (Every Known) (applied-each sub ps k) h))
 
-  keyword-derived : (p : Pair) (cs : List Clause) (μ : Marks) (c : Clause) → Every Known (applied sub (clause D p cs μ c))
-      → Keyword D R p cs μ c (answer sub (clause D p cs μ c))
-  unfolding clause answer joined
+  keyword-derived : (p : Pair) (cs : List Clause) (μ : Marks) (c : Clause) → Every Known (applied sub (clause D whole p cs μ c))
+      → Keyword D R p cs μ c (answer sub (clause D whole p cs μ c))
+  unfolding clause answer joined wayIn
   keyword-derived p cs μ (asserts t) h = assertion refl refl
   keyword-derived p cs μ (inPlace m ss) h = rw answer-each (in-place (asked (here p ss) _ h) refl refl)
   keyword-derived p cs μ (takes c) h = rw answer-each (children (asked (taken D p cs μ c) _ h) refl refl)
 
   clauses-derived : (p : Pair) (before : List Clause) (r : Result) (cs : List Clause) → Clauses D R p before r
-      → Every Known (applied sub (clauses D p before r cs)) → Clauses D R p (before ++ cs) (answer sub (clauses D p before r cs))
-  unfolding clauses answer
+      → Every Known (applied sub (clauses D whole p before r cs)) → Clauses D R p (before ++ cs) (answer sub (clauses D whole p before r cs))
+  unfolding clauses answer stops
   clauses-derived p before r [] d h = rw append-nil d
   clauses-derived p before r (c ∷ cs) d h =
-      let J = clause D p before (r .marks) c in
-      let next : Result → Judgement = λ q. clauses D p (before ++ c ∷ []) (record { holds = r .holds && q .holds; marks = r .marks ∪ q .marks }) cs in
+      let J = clause D whole p before (r .marks) c in
+      let next : Result → Judgement = λ q. clauses D whole p (before ++ c ∷ []) (record { holds = r .holds && q .holds; marks = r .marks ∪ q .marks }) cs in
       let both = subst (Every Known) (applied-then sub J next) h in
       let k = keyword-derived p before (r .marks) c (every-left (applied sub J) (applied sub (next (answer sub J))) both) in
-      subst (λ l. Clauses D R p l (answer sub (clauses D p before r (c ∷ cs)))) (append-assoc before (c ∷ []) cs)
+      subst (λ l. Clauses D R p l (answer sub (clauses D whole p before r (c ∷ cs)))) (append-assoc before (c ∷ []) cs)
       (rw (answer-then sub J next)
       (clauses-derived p (before ++ c ∷ []) _ cs (klist-n d k refl refl refl) (every-right (applied sub J) (applied sub (next (answer sub J))) both)))
 
@@ -60,17 +60,17 @@ module _ (D : Doc) (R : Ruleset) (sub : Pair → Result) where
   closed p true κ d = schema-true d refl refl refl
   closed p false κ d = schema-false d refl refl refl
 
-  schema-derived : (p : Pair) → Every Known (applied sub (judgement D R p)) → Schema D R p (answer sub (judgement D R p))
+  schema-derived : (p : Pair) → Every Known (applied sub (judgement D R whole p)) → Schema D R p (answer sub (judgement D R whole p))
   unfolding judgement answer
   schema-derived p h =
-      let J = clauses D p [] start (R .clauses (p .rule)) in
+      let J = clauses D whole p [] start (R .clauses (p .rule)) in
       let last : Result → Judgement = λ r. found (record { holds = r .holds; marks = λ k. r .holds && r .marks k }) in
       let both = subst (Every Known) (applied-then sub J last) h in
       let d = clauses-derived p [] start (R .clauses (p .rule)) (klist-0 refl refl) (every-left (applied sub J) (applied sub (last (answer sub J))) both) in
       rw (answer-then sub J last) (closed p ((answer sub J) .holds) ((answer sub J) .marks) d)
 
 module _ (D : Doc) (R : Ruleset) (rank : Pair → ℕ)
-    (falls : (sub : Pair → Result) (p : Pair) → Every (λ q. rank q < rank p) (applied sub (judgement D R p))) where
+    (falls : (sub : Pair → Result) (p : Pair) → Every (λ q. rank q < rank p) (applied sub (judgement D R whole p))) where
   pub derived : (f : ℕ) (p : Pair) → rank p < f → Schema D R p (derive D R f p)
   unfolding derive
   derived zero p h = absurd (not-suc-le-zero h)
@@ -92,32 +92,32 @@ module _ (D : Doc) (R : Ruleset) where
 
   -- the clauses of two lists, one after the other
   clauses-append : (sub : Pair → Result) (p : Pair) (before : List Clause) (r : Result) (cs ds : List Clause)
-      → answer sub (clauses D p before r (cs ++ ds)) ≡ answer sub (clauses D p (before ++ cs) (answer sub (clauses D p before r cs)) ds)
-  unfolding clauses answer
+      → answer sub (clauses D whole p before r (cs ++ ds)) ≡ answer sub (clauses D whole p (before ++ cs) (answer sub (clauses D whole p before r cs)) ds)
+  unfolding clauses answer stops
   clauses-append sub p before r [] ds = rw append-nil
   clauses-append sub p before r (c ∷ cs) ds = simp answer-then (clauses-append sub p (before ++ c ∷ []) _ cs ds ∙ simp append-assoc)
 
   -- a step from the results found to a rule's result
   step : (f : ℕ) (ps : List Pair) (rs : List Result) (g : List Result → Result) → map (at f) ps ≡ rs
-      → answer (at f) (each ps (λ qs. found (g qs))) ≡ g rs
+      → answer (at f) (each whole ps (λ qs. found (g qs))) ≡ g rs
   unfolding answer
   step f ps rs g e = answer-each (at f) ps (λ qs. found (g qs)) ∙ ap g e
 
   pub klist-step : (sub : Pair → Result) (p : Pair) (cs : List Clause) (c : Clause) (q q′ : Result)
-      → answer sub (clauses D p [] start cs) ≡ q
-      → answer sub (clause D p cs (q .marks) c) ≡ q′
-      → answer sub (clauses D p [] start (cs ++ c ∷ [])) ≡ record { holds = q .holds && q′ .holds; marks = q .marks ∪ q′ .marks }
-  unfolding clauses answer
+      → answer sub (clauses D whole p [] start cs) ≡ q
+      → answer sub (clause D whole p cs (q .marks) c) ≡ q′
+      → answer sub (clauses D whole p [] start (cs ++ c ∷ [])) ≡ record { holds = q .holds && q′ .holds; marks = q .marks ∪ q′ .marks }
+  unfolding clauses answer stops
   klist-step sub p cs c q q′ e e′ =
       clauses-append sub p [] start cs (c ∷ [])
-      ∙ ap (λ x. answer sub (clauses D p cs x (c ∷ []))) e
+      ∙ ap (λ x. answer sub (clauses D whole p cs x (c ∷ []))) e
       ∙ simp answer-then (ap (λ x. record { holds = q .holds && x .holds; marks = q .marks ∪ x .marks }) e′)
 
-  schema-step : (f : ℕ) (p : Pair) (q : Result) → answer (at f) (clauses D p [] start (R .clauses (p .rule))) ≡ q
+  schema-step : (f : ℕ) (p : Pair) (q : Result) → answer (at f) (clauses D whole p [] start (R .clauses (p .rule))) ≡ q
       → at (suc f) p ≡ record { holds = q .holds; marks = λ k. q .holds && q .marks k }
   unfolding derive judgement answer
   schema-step f p q e =
-      answer-then (at f) (clauses D p [] start (R .clauses (p .rule))) (λ r. found (record { holds = r .holds; marks = λ k. r .holds && r .marks k }))
+      answer-then (at f) (clauses D whole p [] start (R .clauses (p .rule))) (λ r. found (record { holds = r .holds; marks = λ k. r .holds && r .marks k }))
       ∙ ap (λ x. record { holds = x .holds; marks = λ k. x .holds && x .marks k }) e
 
   deeper : (p : Pair) (r : Result) (n : ℕ) → ((g : ℕ) → n ≤ g → at (suc g) p ≡ r) → (f : ℕ) → suc n ≤ f → at f p ≡ r
@@ -125,7 +125,7 @@ module _ (D : Doc) (R : Ruleset) where
   deeper p r n k (suc f) h = k f (le-of-suc-le-suc h)
 
   mutual
-    unfolding derive judgement answer nothing clauses clause joined
+    unfolding derive judgement answer nothing clauses clause joined wayIn stops
 
     schema-found : {p : Pair} {r : Result} → Schema D R p r → Finds (λ f. at f p) r
     schema-found {p} {r} (schema-true {q = q} d a b c) =
@@ -136,17 +136,17 @@ module _ (D : Doc) (R : Ruleset) where
         (suc (n .0), deeper p r (n .0) (λ g h. schema-step g p q (n .1 g h) ∙ alike (a ∙ sym b) (ap (λ x k. x && q .marks k) a ∙ sym c)))
 
     clauses-found : {p : Pair} {cs : List Clause} {r : Result} → Clauses D R p cs r
-        → Finds (λ f. answer (at f) (clauses D p [] (record { holds = true; marks = nothing }) cs)) r
+        → Finds (λ f. answer (at f) (clauses D whole p [] (record { holds = true; marks = nothing }) cs)) r
     clauses-found (klist-0 a b) = (0, λ f h. alike (sym a) (sym b))
     clauses-found {p} (klist-n {cs = cs} {c = c} {q = q} {q′ = q′} d k a x y) =
         let n = clauses-found d in
         let m = keyword-found k in (
           max (n .0) (m .0),
-          λ f h. ap (λ l. answer (at f) (clauses D p [] start l)) a ∙ klist-step (at f) p cs c q q′ (n .1 f (omega arith)) (m .1 f (omega arith)) ∙ alike (sym x) (sym y),
+          λ f h. ap (λ l. answer (at f) (clauses D whole p [] start l)) a ∙ klist-step (at f) p cs c q q′ (n .1 f (omega arith)) (m .1 f (omega arith)) ∙ alike (sym x) (sym y),
         )
 
     keyword-found : {p : Pair} {cs : List Clause} {μ : Marks} {c : Clause} {r : Result} → Keyword D R p cs μ c r
-        → Finds (λ f. answer (at f) (clause D p cs μ c)) r
+        → Finds (λ f. answer (at f) (clause D whole p cs μ c)) r
     keyword-found (assertion a b) = (0, λ f h. alike (sym a) (sym b))
     keyword-found {p} (in-place {ss = ss} e a b) = let n = each-found e in (n .0, λ f h. step f (here p ss) _ _ (n .1 f h) ∙ alike (sym a) (sym b))
     keyword-found {p} {cs} {μ} (children {c = c} e a b) = let n = each-found e in (n .0, λ f h. step f (taken D p cs μ c) _ _ (n .1 f h) ∙ alike (sym a) (sym b))

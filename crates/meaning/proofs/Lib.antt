@@ -16,7 +16,10 @@ pub mod Marks
 pub mod Words
 pub mod Distinct
 pub mod Settled
+pub mod Cuts
 pub mod Trees
+pub mod Shown
 pub mod Answers
+pub mod Verdicts
 pub mod Refused
 pub mod Demands

@@ -62,3 +62,9 @@ pub every-concat : {A B : Type 0} (P : B → Type 0) (f : A → List B) (xs : Li
 unfolding concatMap
 every-concat P f [] g = every-nil
 every-concat P f (x ∷ xs) g = every-append (g x (at-head refl)) (every-concat P f xs (λ y i. g y (in-tail i)))
+
+-- ---- what a test picks
+
+pub by-test : {A : Type 0} (P : A → Type 0) (b : Bool) (x y : A) → (b ≡ true → P x) → (b ≡ false → P y) → P (cond b x y)
+by-test P true x y f g = f refl
+by-test P false x y f g = g refl

@@ -13,7 +13,7 @@ use Rattle.laws.proofs.Tests.{either, right}
 use Rattle.sheet.specs.Doc.{Doc, Child}
 use Rattle.rulesheet.specs.Ruleset.{Clause, asserts, inPlace, takes, Mode, guarded, Ruleset}
 use Rattle.meaning.specs.Lists.{elem}
-use Rattle.meaning.specs.Rules.{Pair, Marks, nothing, _∪_, these, unions, Result, to, here, taken, found, answer, clause, clauses, depth, judgement, derive, truth}
+use Rattle.meaning.specs.Rules.{Pair, Marks, nothing, _∪_, these, unions, Result, to, here, taken, found, answer, whole, stops, wayIn, clause, clauses, depth, judgement, derive, truth}
 use Rattle.meaning.proofs.Lists.{Every, every-nil, every-cons, every-map, every-image}
 use Rattle.meaning.proofs.Judgements.{answer-each, answer-then}
 use Rattle.meaning.proofs.Steps.{Taken, taken-steps}
@@ -38,34 +38,34 @@ module _ (D : Doc) (R : Ruleset) where
         ⊎-elim (λ a. known (to p (p .row) s) k a) (λ a. unions-in p ss k a)
         (either ((sub (to p (p .row) s)) .marks k) (unions (map sub (here p ss)) k) e)
 
-    clause-in : (p : Pair) (before : List Clause) (κ : Marks) (c : Clause) → Within (p .row) (answer sub (clause D p before κ c))
-    unfolding clause answer nothing these
+    clause-in : (p : Pair) (before : List Clause) (κ : Marks) (c : Clause) → Within (p .row) (answer sub (clause D whole p before κ c))
+    unfolding clause answer nothing these wayIn
     clause-in p before κ (asserts t) = λ k e. absurd (true≢false (sym e))
     clause-in p before κ (inPlace m ss) = rw answer-each (λ k e. unions-in p ss k e)
     clause-in p before κ (takes c) =
         rw answer-each
         (λ k e. elem-every (Child D (p .row)) k (every-image (λ (q : Pair). q .row) (λ q (t : Taken D p (guarded c) q). t .child) (taken-steps D p before κ c)) e)
 
-    clauses-in : (p : Pair) (before : List Clause) (r : Result) (cs : List Clause) → Within (p .row) r → Within (p .row) (answer sub (clauses D p before r cs))
-    unfolding clauses answer _∪_
+    clauses-in : (p : Pair) (before : List Clause) (r : Result) (cs : List Clause) → Within (p .row) r → Within (p .row) (answer sub (clauses D whole p before r cs))
+    unfolding clauses answer _∪_ stops
     clauses-in p before r [] h = h
     clauses-in p before r (c ∷ cs) h =
         rw answer-then
         (clauses-in p (before ++ c ∷ []) _ cs
-        (λ k e. ⊎-elim (h k) (clause-in p before (r .marks) c k) (either (r .marks k) ((answer sub (clause D p before (r .marks) c)) .marks k) e)))
+        (λ k e. ⊎-elim (h k) (clause-in p before (r .marks) c k) (either (r .marks k) ((answer sub (clause D whole p before (r .marks) c)) .marks k) e)))
 
-    judgement-in : (p : Pair) → Within (p .row) (answer sub (judgement D R p))
+    judgement-in : (p : Pair) → Within (p .row) (answer sub (judgement D R whole p))
     unfolding judgement answer nothing
     judgement-in p =
         rw answer-then
         (λ k e. clauses-in p [] (record { holds = true; marks = nothing }) (R .clauses (p .rule)) (λ i a. absurd (true≢false (sym a))) k
-        (right ((answer sub (clauses D p [] (record { holds = true; marks = nothing }) (R .clauses (p .rule)))) .holds) _ e))
+        (right ((answer sub (clauses D whole p [] (record { holds = true; marks = nothing }) (R .clauses (p .rule)))) .holds) _ e))
 
-    judgement-none : (p : Pair) → answer sub (judgement D R p) .holds ≡ false → (k : ℕ) → answer sub (judgement D R p) .marks k ≡ false
+    judgement-none : (p : Pair) → answer sub (judgement D R whole p) .holds ≡ false → (k : ℕ) → answer sub (judgement D R whole p) .marks k ≡ false
     unfolding judgement answer
     judgement-none p =
         rw answer-then
-        (λ e k. ap (λ b. b && answer sub (clauses D p [] (record { holds = true; marks = nothing }) (R .clauses (p .rule))) .marks k) e)
+        (λ e k. ap (λ b. b && answer sub (clauses D whole p [] (record { holds = true; marks = nothing }) (R .clauses (p .rule))) .marks k) e)
 
   derive-in : (f : ℕ) (p : Pair) → Within (p .row) (derive D R f p)
   unfolding derive nothing

@@ -32,8 +32,8 @@ use Rattle.unguarded.specs.Graph.{chain-steps, OnLoop, Chain, chain, onLoop}
 use Rattle.unguarded.proofs.Agreement.{loop-at, loop-first, chain-at, chain-first}
 use Rattle.rules.specs.Check.{ruleLines}
 use Rattle.rules.proofs.Checks.{schemas-laid, clauses-laid, rules-laid, words-in-order}
-use Rattle.meaning.specs.Rules.{truth}
 use Rattle.meaning.specs.Settling.{root, settled, marked}
+use Rattle.meaning.specs.Rules.{Way, truth}
 use Rattle.meaning.specs.Answer.{Answer, valid, invalid, refuses, verdict, Left, areaLines, table, judged, unless, judge}
 use Rattle.meaning.specs.Demands.{First, NoneOf, NoneBefore, LowestOf, Total}
 use Rattle.meaning.specs.Lists.{all}
@@ -160,9 +160,9 @@ steps-in [] t i = elim i [ ]
 steps-in (c ∷ cs) t i =
     ⊎-elim (λ j. (c, at-head refl, j)) (λ j. let w = steps-in cs t j in (w .0, in-tail (w .1), w .2)) (List·Memᴰ·append-cases (unguarded c) i)
 
-module _ (ws ts rs us cs ls : List ℕ) where
+module _ (w : Way) (ws ts rs us cs ls : List ℕ) where
   abbrev lines : List Line
-  lines = table ws ts rs us cs ls
+  lines = table w ws ts rs us cs ls
 
   abbrev m : ℕ
   m = schemasWord rs
@@ -173,18 +173,18 @@ module _ (ws ts rs us cs ls : List ℕ) where
   abbrev R : Ruleset
   R = rulesOf rs us
 
-  by-outcome : (o : Outcome) → firstLine lines 0 ≡ o → (number place : ℕ) → judge ws ts rs us cs ls .answer ≡ refuses number place → firstLine lines 0 ≡ refused number place
+  by-outcome : (o : Outcome) → firstLine lines 0 ≡ o → (number place : ℕ) → judge w ws ts rs us cs ls .answer ≡ refuses number place → firstLine lines 0 ≡ refused number place
   unfolding judged
   by-outcome (accepted k) e number place f =
-      absurd (verdict-given (truth D R root .holds) (length (settled D R)) (marked D R (rowsWord ws) m) number place (sym (ap (λ (x : Left). x .answer) (by-lines ws ts rs us cs ls (accepted k) e)) ∙ f))
+      absurd (verdict-given (truth D R root .holds) (length (settled D R w)) (marked D R (rowsWord ws) m) number place (sym (ap (λ (x : Left). x .answer) (by-lines w ws ts rs us cs ls (accepted k) e)) ∙ f))
   by-outcome (refused a b) e number place f =
-      let s = same-answer (sym (ap (λ (x : Left). x .answer) (by-lines ws ts rs us cs ls (refused a b) e)) ∙ f) in
+      let s = same-answer (sym (ap (λ (x : Left). x .answer) (by-lines w ws ts rs us cs ls (refused a b) e)) ∙ f) in
       e ∙ rw (s .0, s .1)
 
-  answer-refused : (number place : ℕ) → (judge ws ts rs us cs ls .answer ≡ refuses number place) ↔ (firstLine lines 0 ≡ refused number place)
+  answer-refused : (number place : ℕ) → (judge w ws ts rs us cs ls .answer ≡ refuses number place) ↔ (firstLine lines 0 ≡ refused number place)
   answer-refused number place = (
     by-outcome (firstLine lines 0) refl number place,
-    λ e. ap (λ (x : Left). x .answer) (by-lines ws ts rs us cs ls (refused number place) e),
+    λ e. ap (λ (x : Left). x .answer) (by-lines w ws ts rs us cs ls (refused number place) e),
   )
 
   -- the lines before 8, and those after it
@@ -205,7 +205,7 @@ module _ (ws ts rs us cs ls : List ℕ) where
   line8 = lowestLine 8 0 m (onLoop m (next R))
 
   abbrev areas : List Line
-  areas = areaLines (rowsWord ws * m) (length cs) (length ls)
+  areas = areaLines w (rowsWord ws * m) (length cs) (length ls)
 
   abbrev after8 : List Line
   after8 = lowestLine 9 0 m (chain (next R) chain-steps) ∷ areas
@@ -258,12 +258,12 @@ module _ (ws ts rs us cs ls : List ℕ) where
         lowest-refused 9 m (chain (next R) chain-steps) (Chain (next R) chain-steps) (chain-at m (next R)) (chain-first m (next R))
         (before8 ++ line8 ∷ []) areas none9 high9
 
-  pub total : (left : Left) → left ≡ judge ws ts rs us cs ls → Total ws ts rs us cs ls left
+  pub total : (left : Left) → left ≡ judge w ws ts rs us cs ls → Total w ws ts rs us cs ls left
   total left e =
       let answered : (number place : ℕ) → (left .answer ≡ refuses number place) ↔ (firstLine lines 0 ≡ refused number place)
       = λ number place. (λ f. answer-refused number place .0 (sym (ap (λ (x : Left). x .answer) e) ∙ f), λ f. ap (λ (x : Left). x .answer) e ∙ answer-refused number place .1 f) in
       record {
-        refused = λ line f. e ∙ by-lines ws ts rs us cs ls (refused (line .number) (line .place)) (first-given lines line 0 f);
+        refused = λ line f. e ∙ by-lines w ws ts rs us cs ls (refused (line .number) (line .place)) (first-given lines line 0 f);
         only-refused = λ number place f. given-first lines 0 number place (answered number place .0 f);
         loop = λ none p. and-then (answered 8 p) (loop-is none p);
         chain = λ none p. and-then (answered 9 p) (chain-is none p);

@@ -1,4 +1,4 @@
--- The settling list, for a record and rules that fit, by the pairs that each pair applies; `Trees` says the same of derivations.
+-- The settling list, for a record and rules that fit, whole or cut, by the pairs that each pair applies; `Trees` says the same of derivations.
 --     listed-in, in-listed                the test of the list is membership
 --     all-distinct                        no pair stands in it twice
 --     reached-listed, listed-reached      it holds each pair that is reached from the root, and no other
@@ -21,11 +21,11 @@ use borrow.Author.Tests.{eqb-true, eq-eqb}
 use Rattle.laws.proofs.Tests.{decide, either, left, right}
 use Rattle.sheet.specs.Doc.{Doc}
 use Rattle.rulesheet.specs.Ruleset.{Ruleset}
-use Rattle.meaning.specs.Rules.{Pair, depth, applies}
-use Rattle.meaning.specs.Settling.{samePair, listed, inTurn, root, settle, settled, word}
+use Rattle.meaning.specs.Rules.{Pair, Way, depth, applies}
+use Rattle.meaning.specs.Settling.{samePair, listed, inTurn, root, Reached, itself, further, settle, settled, word}
 use Rattle.meaning.specs.Fit.{Fit, Inside, rank}
 use Rattle.meaning.specs.Once.{Distinct}
-use Rattle.meaning.proofs.Lists.{Every, every-nil, every-cons, every-map, every-in, in-every, every-image}
+use Rattle.meaning.proofs.Lists.{Every, every-nil, every-cons, every-map, every-in, in-every, every-image, by-test}
 use Rattle.meaning.proofs.Words.{row-of, rule-of, word-inside}
 use Rattle.meaning.proofs.Distinct.{distinct-last, distinct-image, few}
 use Rattle.meaning.proofs.Steps.{deep}
@@ -95,133 +95,123 @@ parted {A} (a ∷ l) (x ∷ xs) ys p r e =
     more : a ∷ (l ++ p ∷ []) ≡ x ∷ (xs ++ r ∷ ys) → (zs : List A) → l ≡ xs ++ r ∷ zs → a ∷ l ≡ x ∷ (xs ++ r ∷ zs)
     more f zs g = cc
 
--- q is applied by p, or by a pair that p applies, or is p
-pub data Reached (D : Doc) (R : Ruleset) (q : Pair) : Pair → Type 0 where
-  itself : Reached D R q q
-  further : {p o : Pair} → In o (applies D R p) → Reached D R q o → Reached D R q p
-
 -- each pair stands after all those that it applies
-abbrev Ordered : Doc → Ruleset → List Pair → Type 0
-Ordered D R l = (before after : List Pair) (p q : Pair) → l ≡ before ++ p ∷ after → In q (applies D R p) → In q before
+abbrev Ordered : Doc → Ruleset → Way → List Pair → Type 0
+Ordered D R w l = (before after : List Pair) (p q : Pair) → l ≡ before ++ p ∷ after → In q (applies D R w p) → In q before
 
-module _ (D : Doc) (R : Ruleset) where
-  ordered-last : (l : List Pair) (p : Pair) → Ordered D R l → ((q : Pair) → In q (applies D R p) → In q l) → Ordered D R (l ++ p ∷ [])
+module _ (D : Doc) (R : Ruleset) (w : Way) where
+  ordered-last : (l : List Pair) (p : Pair) → Ordered D R w l → ((q : Pair) → In q (applies D R w p) → In q l) → Ordered D R w (l ++ p ∷ [])
   ordered-last l p h all before after r q e i =
       ⊎-elim (λ s. rw (s .1) (all q (rw (← s .0) i))) (λ s. h before (s .0) r q (s .1) i) (parted l before after p r e)
 
   -- ---- settling, by what the list shows
 
-  -- the pair that a test picks
-  pub by-test : {A : Type 0} (P : A → Type 0) (b : Bool) (x y : A) → (b ≡ true → P x) → (b ≡ false → P y) → P (cond b x y)
-  by-test P true x y f g = f refl
-  by-test P false x y f g = g refl
-
   abbrev turn : ℕ → List Pair → List Pair → List Pair
-  turn f ps done = inTurn (λ q d. settle D R f q d) ps done
+  turn f ps done = inTurn (λ q d. settle D R w f q d) ps done
 
   pub settle-cases : (f : ℕ) (p : Pair) (done : List Pair) (P : List Pair → Type 0)
       → (listed p done ≡ true → P done)
-      → (listed p done ≡ false → P (turn f (applies D R p) done ++ p ∷ []))
-      → P (settle D R (suc f) p done)
+      → (listed p done ≡ false → P (turn f (applies D R w p) done ++ p ∷ []))
+      → P (settle D R w (suc f) p done)
   unfolding settle
   settle-cases f p done P a b = by-test P (listed p done) done _ a b
 
   -- what is listed stays
-  turn-kept : (f : ℕ) → ((p : Pair) (done : List Pair) (q : Pair) → In q done → In q (settle D R f p done))
+  turn-kept : (f : ℕ) → ((p : Pair) (done : List Pair) (q : Pair) → In q done → In q (settle D R w f p done))
       → (ps done : List Pair) (q : Pair) → In q done → In q (turn f ps done)
   unfolding inTurn
   turn-kept f one [] done q h = h
-  turn-kept f one (p ∷ ps) done q h = turn-kept f one ps (settle D R f p done) q (one p done q h)
+  turn-kept f one (p ∷ ps) done q h = turn-kept f one ps (settle D R w f p done) q (one p done q h)
 
-  pub kept : (f : ℕ) (p : Pair) (done : List Pair) (q : Pair) → In q done → In q (settle D R f p done)
+  pub kept : (f : ℕ) (p : Pair) (done : List Pair) (q : Pair) → In q done → In q (settle D R w f p done)
   unfolding settle
   kept zero p done q h = h
   kept (suc f) p done q h =
-      settle-cases f p done (λ l. In q l) (λ e. h) (λ e. Memᴰ·append-left (p ∷ []) (turn-kept f (kept f) (applies D R p) done q h))
+      settle-cases f p done (λ l. In q l) (λ e. h) (λ e. Memᴰ·append-left (p ∷ []) (turn-kept f (kept f) (applies D R w p) done q h))
 
   -- what is new is reached
   abbrev New : (Pair → Type 0) → List Pair → List Pair → Type 0
   New P done l = (q : Pair) → In q l → In q done ⊎ P q
 
   turn-new : (f : ℕ) (P : Pair → Type 0) {ps : List Pair} (done : List Pair)
-      → Every (λ p. (d : List Pair) → New P d (settle D R f p d)) ps → New P done (turn f ps done)
+      → Every (λ p. (d : List Pair) → New P d (settle D R w f p d)) ps → New P done (turn f ps done)
   unfolding inTurn
   turn-new f P done every-nil q h = inl h
-  turn-new f P done (every-cons {x = p} one ls) q h = ⊎-elim (λ i. one done q i) (λ i. inr i) (turn-new f P (settle D R f p done) ls q h)
+  turn-new f P done (every-cons {x = p} one ls) q h = ⊎-elim (λ i. one done q i) (λ i. inr i) (turn-new f P (settle D R w f p done) ls q h)
 
-  pub new : (f : ℕ) (p : Pair) (done : List Pair) → New (λ q. Reached D R q p) done (settle D R f p done)
+  pub new : (f : ℕ) (p : Pair) (done : List Pair) → New (λ q. Reached D R w q p) done (settle D R w f p done)
   unfolding settle
   new zero p done = λ q h. inl h
   new (suc f) p done =
-      settle-cases f p done (New (λ q. Reached D R q p) done) (λ e q h. inl h)
+      settle-cases f p done (New (λ q. Reached D R w q p) done) (λ e q h. inl h)
       (λ e q h.
       ⊎-elim
       (λ i.
-      turn-new f (λ x. Reached D R x p) done
-      (every-in _ (applies D R p) (λ o j d x k. ⊎-map (λ y. y) (λ y. further j y) (new f o d x k))) q i)
+      turn-new f (λ x. Reached D R w x p) done
+      (every-in _ (applies D R w p) (λ o j d x k. ⊎-map (λ y. y) (λ y. further j y) (new f o d x k))) q i)
       (λ i. inr (rw i itself))
-      (in-last (turn f (applies D R p) done) p h))
+      (in-last (turn f (applies D R w p) done) p h))
 
   module _ (n m : ℕ) (fit : Fit D R n m) where
     abbrev rk : Pair → ℕ
     rk = rank D R
 
-    pub reached-low : {q p : Pair} → Reached D R q p → rk q ≤ rk p
+    pub reached-low : {q p : Pair} → Reached D R w q p → rk q ≤ rk p
     reached-low itself = omega arith
-    reached-low (further {p = p} {o = o} i r) = let l : rk o < rk p = in-every (applies-fall D R n m fit p) i in omega (arith, reached-low r)
+    reached-low (further {p = p} {o = o} i r) = let l : rk o < rk p = in-every (applies-fall D R n m fit w p) i in omega (arith, reached-low r)
 
-    reached-inside : {q p : Pair} → Reached D R q p → Inside n m p → Inside n m q
+    reached-inside : {q p : Pair} → Reached D R w q p → Inside n m p → Inside n m q
     reached-inside itself h = h
-    reached-inside (further {p = p} i r) h = reached-inside r (in-every (applies-inside D R n m fit p h) i)
+    reached-inside (further {p = p} i r) h = reached-inside r (in-every (applies-inside D R n m fit w p h) i)
 
     -- a pair is not listed while those that it applies are settled
-    not-yet : (f : ℕ) (p : Pair) (done : List Pair) → (In p done → ⊥) → In p (turn f (applies D R p) done) → ⊥
+    not-yet : (f : ℕ) (p : Pair) (done : List Pair) → (In p done → ⊥) → In p (turn f (applies D R w p) done) → ⊥
     not-yet f p done out h =
         ⊎-elim out (λ (l : rk p < rk p). omega arith)
         (turn-new f (λ x. rk x < rk p) done
-        (every-in _ (applies D R p)
-        (λ o j d x k. ⊎-map (λ y. y) (λ y. let l : rk o < rk p = in-every (applies-fall D R n m fit p) j in omega (arith, reached-low y)) (new f o d x k))) p h)
+        (every-in _ (applies D R w p)
+        (λ o j d x k. ⊎-map (λ y. y) (λ y. let l : rk o < rk p = in-every (applies-fall D R n m fit w p) j in omega (arith, reached-low y)) (new f o d x k))) p h)
 
-    turn-distinct : (f : ℕ) → ((p : Pair) (done : List Pair) → Distinct done → Distinct (settle D R f p done))
+    turn-distinct : (f : ℕ) → ((p : Pair) (done : List Pair) → Distinct done → Distinct (settle D R w f p done))
         → (ps done : List Pair) → Distinct done → Distinct (turn f ps done)
     unfolding inTurn
     turn-distinct f one [] done d = d
-    turn-distinct f one (p ∷ ps) done d = turn-distinct f one ps (settle D R f p done) (one p done d)
+    turn-distinct f one (p ∷ ps) done d = turn-distinct f one ps (settle D R w f p done) (one p done d)
 
-    distinct : (f : ℕ) (p : Pair) (done : List Pair) → Distinct done → Distinct (settle D R f p done)
+    distinct : (f : ℕ) (p : Pair) (done : List Pair) → Distinct done → Distinct (settle D R w f p done)
     unfolding settle
     distinct zero p done d = d
     distinct (suc f) p done d =
         settle-cases f p done Distinct (λ e. d)
-        (λ e. distinct-last (turn f (applies D R p) done) p (turn-distinct f (distinct f) (applies D R p) done d) (not-yet f p done (not-listed p done e)))
+        (λ e. distinct-last (turn f (applies D R w p) done) p (turn-distinct f (distinct f) (applies D R w p) done d) (not-yet f p done (not-listed p done e)))
 
     -- with depth enough a pair is listed once it is settled
-    pub settles : (f : ℕ) (p : Pair) (done : List Pair) → rk p < f → In p (settle D R f p done)
+    pub settles : (f : ℕ) (p : Pair) (done : List Pair) → rk p < f → In p (settle D R w f p done)
     settles zero p done h = absurd (not-suc-le-zero h)
     settles (suc f) p done h =
-        settle-cases f p done (λ l. In p l) (λ e. listed-in p done e) (λ e. last-in (turn f (applies D R p) done) p)
+        settle-cases f p done (λ l. In p l) (λ e. listed-in p done e) (λ e. last-in (turn f (applies D R w p) done) p)
 
     turn-settles : (f : ℕ) {ps : List Pair} (done : List Pair) → Every (λ q. rk q < f) ps → Every (λ q. In q (turn f ps done)) ps
     unfolding inTurn
     turn-settles f done every-nil = every-nil
     turn-settles f done (every-cons {x = p} {xs = ps} l ls) =
-        every-cons (turn-kept f (kept f) ps (settle D R f p done) p (settles f p done l)) (turn-settles f (settle D R f p done) ls)
+        every-cons (turn-kept f (kept f) ps (settle D R w f p done) p (settles f p done l)) (turn-settles f (settle D R w f p done) ls)
 
-    lower : (f : ℕ) (p : Pair) → rk p < suc f → Every (λ q. rk q < f) (applies D R p)
-    lower f p h = every-map (λ q (l : rk q < rk p). omega arith) (applies-fall D R n m fit p)
+    lower : (f : ℕ) (p : Pair) → rk p < suc f → Every (λ q. rk q < f) (applies D R w p)
+    lower f p h = every-map (λ q (l : rk q < rk p). omega arith) (applies-fall D R n m fit w p)
 
-    turn-ordered : (f : ℕ) → ((p : Pair) (done : List Pair) → rk p < f → Ordered D R done → Ordered D R (settle D R f p done))
-        → {ps : List Pair} (done : List Pair) → Every (λ q. rk q < f) ps → Ordered D R done → Ordered D R (turn f ps done)
+    turn-ordered : (f : ℕ) → ((p : Pair) (done : List Pair) → rk p < f → Ordered D R w done → Ordered D R w (settle D R w f p done))
+        → {ps : List Pair} (done : List Pair) → Every (λ q. rk q < f) ps → Ordered D R w done → Ordered D R w (turn f ps done)
     unfolding inTurn
     turn-ordered f one done every-nil c = c
-    turn-ordered f one done (every-cons {x = p} l ls) c = turn-ordered f one (settle D R f p done) ls (one p done l c)
+    turn-ordered f one done (every-cons {x = p} l ls) c = turn-ordered f one (settle D R w f p done) ls (one p done l c)
 
-    ordered : (f : ℕ) (p : Pair) (done : List Pair) → rk p < f → Ordered D R done → Ordered D R (settle D R f p done)
+    ordered : (f : ℕ) (p : Pair) (done : List Pair) → rk p < f → Ordered D R w done → Ordered D R w (settle D R w f p done)
     ordered zero p done h c = absurd (not-suc-le-zero h)
     ordered (suc f) p done h c =
-        settle-cases f p done (Ordered D R) (λ e. c)
+        settle-cases f p done (Ordered D R w) (λ e. c)
         (λ e.
-        ordered-last (turn f (applies D R p) done) p (turn-ordered f (ordered f) done (lower f p h) c)
+        ordered-last (turn f (applies D R w p) done) p (turn-ordered f (ordered f) done (lower f p h) c)
         (λ q i. in-every (turn-settles f done (lower f p h)) i))
 
     -- ---- the whole list
@@ -231,9 +221,9 @@ module _ (D : Doc) (R : Ruleset) where
     inside-root = record { row-in = fit .rows .some; rule-in = fit .some }
 
     abbrev all : List Pair
-    all = settled D R
+    all = settled D R w
 
-    pub all-ordered : Ordered D R all
+    pub all-ordered : Ordered D R w all
     unfolding settled
     all-ordered =
         ordered depth root [] (deep D R n m fit root) (λ before after p q e i. absurd (nothing-before before after p e))
@@ -247,19 +237,19 @@ module _ (D : Doc) (R : Ruleset) where
     placed (at-head {x = x} {xs = xs} e) = ([], xs, rw e)
     placed (in-tail {x = x} i) = let r = placed i in (x ∷ r .0, r .1, ap (λ y. x ∷ y) (r .2))
 
-    closed : (p q : Pair) → In p all → In q (applies D R p) → In q all
+    closed : (p q : Pair) → In p all → In q (applies D R w p) → In q all
     closed p q i a =
         let w = placed i in
         rw (w .2) (Memᴰ·append-left (p ∷ w .1) (all-ordered (w .0) (w .1) p q (w .2) a))
 
-    reached-in : {q p : Pair} → Reached D R q p → In p all → In q all
+    reached-in : {q p : Pair} → Reached D R w q p → In p all → In q all
     reached-in itself h = h
     reached-in (further {p = p} {o = o} i r) h = reached-in r (closed p o h i)
 
-    pub reached-listed : {q : Pair} → Reached D R q root → In q all
+    pub reached-listed : {q : Pair} → Reached D R w q root → In q all
     reached-listed r = reached-in r has-root
 
-    pub listed-reached : (q : Pair) → In q all → Reached D R q root
+    pub listed-reached : (q : Pair) → In q all → Reached D R w q root
     unfolding settled
     listed-reached q i = ⊎-elim (λ j. elim j [ ]) (λ r. r) (new depth root [] q i)
 
@@ -293,23 +283,23 @@ module _ (D : Doc) (R : Ruleset) where
 
     -- ---- any depth above the rank gives the same list
 
-    turn-enough : (f g : ℕ) → ((p : Pair) (done : List Pair) → rk p < f → rk p < g → settle D R f p done ≡ settle D R g p done)
+    turn-enough : (f g : ℕ) → ((p : Pair) (done : List Pair) → rk p < f → rk p < g → settle D R w f p done ≡ settle D R w g p done)
         → {ps : List Pair} (done : List Pair) → Every (λ q. (rk q < f) × (rk q < g)) ps → turn f ps done ≡ turn g ps done
     unfolding inTurn
     turn-enough f g one done every-nil = refl
     turn-enough f g one done (every-cons {x = p} {xs = ps} l ls) =
-        turn-enough f g one (settle D R f p done) ls ∙ ap (λ d. turn g ps d) (one p done (l .0) (l .1))
+        turn-enough f g one (settle D R w f p done) ls ∙ ap (λ d. turn g ps d) (one p done (l .0) (l .1))
 
-    settle-enough : (f g : ℕ) (p : Pair) (done : List Pair) → rk p < f → rk p < g → settle D R f p done ≡ settle D R g p done
+    settle-enough : (f g : ℕ) (p : Pair) (done : List Pair) → rk p < f → rk p < g → settle D R w f p done ≡ settle D R w g p done
     unfolding settle
     settle-enough zero g p done hf hg = absurd (not-suc-le-zero hf)
     settle-enough (suc f) zero p done hf hg = absurd (not-suc-le-zero hg)
     settle-enough (suc f) (suc g) p done hf hg =
         ap (λ l. cond (listed p done) done (l ++ p ∷ []))
         (turn-enough f g (λ q d a b. settle-enough f g q d a b) done
-        (every-map (λ q (l : rk q < rk p). (omega arith, omega arith)) (applies-fall D R n m fit p)))
+        (every-map (λ q (l : rk q < rk p). (omega arith, omega arith)) (applies-fall D R n m fit w p)))
 
     pub settle-is : (f : ℕ) (p : Pair) (done : List Pair) → rk p < f
-        → settle D R f p done ≡ cond (listed p done) done (turn f (applies D R p) done ++ p ∷ [])
+        → settle D R w f p done ≡ cond (listed p done) done (turn f (applies D R w p) done ++ p ∷ [])
     unfolding settle
     settle-is f p done h = settle-enough f (suc f) p done h (omega arith)

@@ -23,10 +23,10 @@ use Rattle.rulesheet.proofs.Naming.{steps-named}
 use Rattle.unguarded.specs.Graph.{chain-steps, longest}
 use Rattle.meaning.specs.Lists.{range, concatMap}
 use Rattle.meaning.specs.Tests.{elements?, members?, rows}
-use Rattle.meaning.specs.Rules.{Pair, Marks, nothing, Result, found, applied, each, to, here, under, across, membersOf, elementsOf, prefixOf, taken, clause, clauses, depth, judgement}
+use Rattle.meaning.specs.Rules.{Pair, Marks, nothing, Result, found, applied, Way, whole, stops, each, wayIn, to, here, under, across, membersOf, elementsOf, prefixOf, taken, clause, clauses, depth, judgement}
 use Rattle.meaning.specs.Fit.{Fit, Inside, levelsLeft, rank}
-use Rattle.meaning.proofs.Lists.{Every, every-nil, every-cons, every-map, every-in, every-append, every-image, every-keep, every-drop, every-concat}
-use Rattle.meaning.proofs.Judgements.{applied-each, applied-then}
+use Rattle.meaning.proofs.Lists.{Every, every-nil, every-cons, every-map, every-in, every-append, every-image, every-keep, every-drop, every-concat, by-test}
+use Rattle.meaning.proofs.Judgements.{applied-then}
 
 -- ---- the children of a row
 
@@ -101,32 +101,37 @@ module _ (D : Doc) (R : Ruleset) where
     stays : (c : Clause) → In c (R .clauses (p .rule)) → In (q .rule) (unguarded c) → q .row ≡ p .row → Step p q
     descends : (c : Clause) → In c (R .clauses (p .rule)) → In (q .rule) (named c) → Child D (p .row) (q .row) → Step p q
 
-  module _ (sub : Pair → Result) (p : Pair) where
-    each-steps : (ps : List Pair) (g : List Result → Result) → Every (Step p) ps → Every (Step p) (applied sub (each ps (λ rs. found (g rs))))
-    unfolding applied
-    each-steps ps g h = rw (applied-each sub ps (λ rs. found (g rs))) (every-append h every-nil)
+  module _ (sub : Pair → Result) (w : Way) (p : Pair) where
+    -- whether whole or cut, only these are applied
+    each-steps : (w : Way) {ps : List Pair} (g : List Result → Result) → Every (Step p) ps → Every (Step p) (applied sub (each w ps (λ rs. found (g rs))))
+    unfolding applied each
+    each-steps w g every-nil = every-nil
+    each-steps w g (every-cons {x = q} h hs) =
+        every-cons h (by-test (λ J. Every (Step p) (applied sub J)) (stops w (sub q)) _ _ (λ e. every-nil) (λ e. each-steps w (λ rs. g (sub q ∷ rs)) hs))
 
     here-steps : (c : Clause) (ss : List ℕ) → In c (R .clauses (p .rule)) → ((s : ℕ) → In s ss → In s (unguarded c)) → Every (Step p) (here p ss)
     unfolding here to
     here-steps c ss i h = every-image (λ s. to p (p .row) s) (λ s (j : In s (unguarded c)). stays c i j refl) (every-in _ ss h)
 
-    pub clause-steps : (before : List Clause) (κ : Marks) (c : Clause) → In c (R .clauses (p .rule)) → Every (Step p) (applied sub (clause D p before κ c))
+    pub clause-steps : (before : List Clause) (κ : Marks) (c : Clause) → In c (R .clauses (p .rule)) → Every (Step p) (applied sub (clause D w p before κ c))
     unfolding clause applied
     clause-steps before κ (asserts t) i = every-nil
-    clause-steps before κ (inPlace m ss) i = each-steps (here p ss) _ (here-steps (inPlace m ss) ss i (λ s j. j))
+    clause-steps before κ (inPlace m ss) i = each-steps (wayIn w m) _ (here-steps (inPlace m ss) ss i (λ s j. j))
     clause-steps before κ (takes c) i =
-        each-steps (taken D p before κ c) _
+        each-steps whole _
         (every-map (λ q (t : Taken D p (guarded c) q). descends (takes c) i (t .schema) (t .child)) (taken-steps D p before κ c))
 
     clauses-steps : (before : List Clause) (r : Result) (cs : List Clause) → ((c : Clause) → In c cs → In c (R .clauses (p .rule)))
-        → Every (Step p) (applied sub (clauses D p before r cs))
+        → Every (Step p) (applied sub (clauses D w p before r cs))
     unfolding clauses applied
     clauses-steps before r [] all = every-nil
     clauses-steps before r (c ∷ cs) all =
+        by-test (λ J. Every (Step p) (applied sub J)) (stops w r) _ _ (λ e. every-nil)
+        (λ e.
         rw applied-then
-        (every-append (clause-steps before (r .marks) c (all c (at-head refl))) (clauses-steps (before ++ c ∷ []) _ cs (λ d i. all d (in-tail i))))
+        (every-append (clause-steps before (r .marks) c (all c (at-head refl))) (clauses-steps (before ++ c ∷ []) _ cs (λ d i. all d (in-tail i)))))
 
-    pub steps : Every (Step p) (applied sub (judgement D R p))
+    pub steps : Every (Step p) (applied sub (judgement D R w p))
     unfolding judgement applied
     steps = rw applied-then (every-append (clauses-steps [] _ (R .clauses (p .rule)) (λ c i. i)) every-nil)
 

@@ -1,5 +1,6 @@
--- Demand 3, for a record and rules that fit.
+-- Demand 3, for a record and rules that fit, and what stands in its place of a call that is cut.
 --     once      the settling list holds each pair of the root's derivation once and no other, each after those it applies, at most n × m
+--     cuts      the pairs settled when cut are those that cut judgements reach, among those of the root\'s derivation
 -- Assumes nothing.
 use mathlib.Core.List.{List, [], _∷_, _++_, List·Memᴰ as In, List·Memᴰ·head as at-head, List·Memᴰ·tail as in-tail}
 use mathlib.Core.List.{List·Memᴰ·cases-cons, List·Memᴰ·append-cases, Memᴰ·append-left, Memᴰ·append-right}
@@ -8,14 +9,15 @@ use mathlib.Core.Path.{_≡_, refl, sym, subst}
 use Prim.Native.Nat.{ℕ}
 use Rattle.sheet.specs.Doc.{Doc}
 use Rattle.rulesheet.specs.Ruleset.{Clause, Ruleset}
-use Rattle.meaning.specs.Rules.{Pair, Marks, Result, applies}
+use Rattle.meaning.specs.Rules.{Pair, Marks, Result, whole, cut, applies}
 use Rattle.meaning.specs.Derivation.{Schema, schema-true, schema-false, Clauses, klist-0, klist-n, Keyword, assertion, in-place, children, Each, no-more, one-more}
 use Rattle.meaning.specs.Derivation.{eachApplies, keywordApplies, clausesApplies, schemaApplies, eachPairs, keywordPairs, clausesPairs, schemaPairs}
-use Rattle.meaning.specs.Settling.{root, settled}
+use Rattle.meaning.specs.Settling.{root, Reached, itself, further, settled}
 use Rattle.meaning.specs.Fit.{Fit}
-use Rattle.meaning.specs.Once.{Once}
+use Rattle.meaning.specs.Once.{Once, Cut}
+use Rattle.meaning.proofs.Cuts.{reached-among}
 use Rattle.meaning.proofs.Applying.{applies-derived}
-use Rattle.meaning.proofs.Settled.{Reached, itself, further, all-distinct, reached-listed, listed-reached, all-ordered, all-few}
+use Rattle.meaning.proofs.Settled.{all-distinct, reached-listed, listed-reached, all-ordered, all-few}
 
 module _ (D : Doc) (R : Ruleset) where
   -- a pair that is applied has a derivation of its own, and all its pairs are among these
@@ -60,7 +62,7 @@ module _ (D : Doc) (R : Ruleset) where
   own-pair (schema-false d a b c) = at-head refl
 
   module _ (n m : ℕ) (fit : Fit D R n m) where
-    reached-above : {q p : Pair} → Reached D R q p → {r : Result} (d : Schema D R p r) → In q (schemaPairs D R d)
+    reached-above : {q p : Pair} → Reached D R whole q p → {r : Result} (d : Schema D R p r) → In q (schemaPairs D R d)
     reached-above itself d = own-pair d
     reached-above {q} (further {o = o} i s) d =
         let a = schema-above d o (subst (λ l. In o l) (applies-derived D R n m fit d) i) in
@@ -68,7 +70,7 @@ module _ (D : Doc) (R : Ruleset) where
 
     -- one of the pairs reaches q
     abbrev Met : Pair → List Pair → Type 0
-    Met q os = (o : Pair) × In o os × Reached D R q o
+    Met q os = (o : Pair) × In o os × Reached D R whole q o
 
     meets : {q : Pair} {os all : List Pair} → ((o : Pair) → In o os → In o all) → Met q os → Met q all
     meets f a = (a .0, f (a .0) (a .1), a .2)
@@ -76,7 +78,7 @@ module _ (D : Doc) (R : Ruleset) where
     mutual
       unfolding schemaPairs schemaApplies clausesApplies keywordApplies eachApplies
 
-      schema-met : {p : Pair} {r : Result} (d : Schema D R p r) (q : Pair) → In q (schemaPairs D R d) → Reached D R q p
+      schema-met : {p : Pair} {r : Result} (d : Schema D R p r) (q : Pair) → In q (schemaPairs D R d) → Reached D R whole q p
       schema-met {p} (schema-true d a b c) q i =
           ⊎-elim (λ (s : q ≡ p). rw s itself)
           (λ j. let w = clauses-met d q j in further (subst (λ l. In (w .0) l) (sym (applies-derived D R n m fit (schema-true d a b c))) (w .1)) (w .2))
@@ -105,12 +107,23 @@ module _ (D : Doc) (R : Ruleset) where
           ⊎-elim (λ j. (p, at-head refl, schema-met d q j)) (λ j. meets (λ o l. in-tail l) (each-met e q j))
           (List·Memᴰ·append-cases (schemaPairs D R d) i)
 
-    pub once : Once D R n m (settled D R)
+    pub once : Once D R n m (settled D R whole)
     once =
         record {
-          none-twice = all-distinct D R n m fit;
-          each-applied = λ r d q i. reached-listed D R n m fit (schema-met d q i);
-          no-other = λ r d q i. reached-above (listed-reached D R n m fit q i) d;
-          after-applied = λ before after p q r d e i. all-ordered D R n m fit before after p q e (subst (λ l. In q l) (sym (applies-derived D R n m fit d)) i);
-          at-most = all-few D R n m fit;
+          none-twice = all-distinct D R whole n m fit;
+          each-applied = λ r d q i. reached-listed D R whole n m fit (schema-met d q i);
+          no-other = λ r d q i. reached-above (listed-reached D R whole n m fit q i) d;
+          after-applied = λ before after p q r d e i. all-ordered D R whole n m fit before after p q e (subst (λ l. In q l) (sym (applies-derived D R n m fit d)) i);
+          at-most = all-few D R whole n m fit;
+        }
+
+    -- the pairs that cut judgements reach
+    pub cuts : Cut D R n m (settled D R cut)
+    cuts =
+        record {
+          none-twice = all-distinct D R cut n m fit;
+          each-reached = λ q r. reached-listed D R cut n m fit r;
+          no-other = λ q i. listed-reached D R cut n m fit q i;
+          among = λ r d q i. reached-above (reached-among D R cut (listed-reached D R cut n m fit q i)) d;
+          at-most = all-few D R cut n m fit;
         }

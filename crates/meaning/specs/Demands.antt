@@ -1,5 +1,5 @@
--- The three demands, in the order and the words of the letter, said of one call: of its answer, of the cells and of the list that it leaves. The theorems
--- are `demands` (`proofs/Demands.antt`), of the answer that the specification gives; `judge-demands` (crate `judge`), of every call of the judge; and
+-- The three demands, in the order and the words of the letter, said of one call, full or for the verdict only: of its answer, of the cells and of the list
+-- that it leaves. The theorems are `demands` (`proofs/Demands.antt`), of the answer that the specification gives; `judge-demands` (crate `judge`), of every call of the judge; and
 -- `number-demands` (crate `hub`), of the number that C gets.
 -- Assumes nothing.
 use Prim.Native.Nat.{ℕ, _+_, _*_, _≤_, _<_}
@@ -17,11 +17,11 @@ use Rattle.rulesheet.specs.Ruleset.{Clause, Ruleset, next}
 use Rattle.rulesheet.specs.Sheet.{schemasWord, rulesOf}
 use Rattle.unguarded.specs.Graph.{chain-steps, OnLoop, Chain}
 use Rattle.meaning.specs.Lists.{range, keep}
-use Rattle.meaning.specs.Rules.{Pair, Marks, Result}
+use Rattle.meaning.specs.Rules.{Pair, Marks, Result, Way, whole, cut}
 use Rattle.meaning.specs.Derivation.{Schema}
 use Rattle.meaning.specs.Keywords.{WellSpelled, Assertions, Reaches, Joinings}
-use Rattle.meaning.specs.Settling.{root}
-use Rattle.meaning.specs.Once.{Distinct, Once}
+use Rattle.meaning.specs.Settling.{root, shown}
+use Rattle.meaning.specs.Once.{Distinct, Once, Cut}
 use Rattle.meaning.specs.Answer.{refuses, verdict, Left, table}
 
 -- ---- the words
@@ -76,9 +76,9 @@ pub record CellIs (settled : List Pair) (own up : Pair) (t : Pair → Result) (c
 
 -- ---- the demands
 
-module _ (ws ts rs us cells₀ list₀ : List ℕ) where
+module _ (w : Way) (ws ts rs us cells₀ list₀ : List ℕ) where
   abbrev lines : List Line
-  lines = table ws ts rs us cells₀ list₀
+  lines = table w ws ts rs us cells₀ list₀
 
   abbrev D : Doc
   D = docOf ws ts
@@ -115,16 +115,26 @@ module _ (ws ts rs us cells₀ list₀ : List ℕ) where
     pub cells-long : length (left .cells) ≡ length cells₀
 
   -- 3. "The settling list holds each pair the derivation applies, the root included, once and no other, each after all those it applies; the count is the
-  -- list's length, at most record rows × rule rows." The count is that of `verdict-is`
+  -- list's length, at most record rows × rule rows." The count is that of `verdict-is`. This is said of the full call only
   pub record Listed (left : Left) (settled : List Pair) : Type 0 where
     pub words : take (length settled) (left .list) ≡ map (λ p. p .row * m + p .rule) settled
     pub words-after : drop (length settled) (left .list) ≡ drop (length settled) list₀
     pub words-distinct : Distinct (take (length settled) (left .list))
     pub pairs : Once D R n m settled
 
+  -- of the call for the verdict only: the pairs settled are those that cut judgements reach, the count is the number of settled cells, and no list is written
+  pub record Reaching (left : Left) (settled : List Pair) : Type 0 where
+    pub cells-counted : shown (take (n * m) (left .cells)) ≡ length settled
+    pub no-list : left .list ≡ list₀
+    pub pairs : Cut D R n m settled
+
+  abbrev pub Settles : Way → Left → List Pair → Type 0
+  Settles whole left settled = Listed left settled
+  Settles cut left settled = Reaching left settled
+
   -- what a call that is not refused leaves, whatever derivations of the pairs are looked at
   abbrev pub Judged : Left → Type 0
-  Judged left = (settled : List Pair) × Listed left settled × ((t : Pair → Result) → ((p : Pair) → Schema D R p (t p)) → Right left t settled)
+  Judged left = (settled : List Pair) × Settles w left settled × ((t : Pair → Result) → ((p : Pair) → Schema D R p (t p)) → Right left t settled)
 
   -- every pair has a derivation, all of them give one result, and its marks are of children, none if it fails
   pub record Derived (p : Pair) : Type 0 where

@@ -1,7 +1,8 @@
--- The rules of judgement. Beside the line of a keyword stands 01's code, with the name that document 000 gives the rule.
+-- The rules of judgement. Beside the line of a keyword stands 01's code, with the name that document 000 gives the rule. A judgement is whole, or it is cut
+-- short after a failure (02, #105); what holds of a pair is said of whole ones.
 -- Assumes nothing.
 use Prim.Native.Nat.{ℕ, zero, suc, _+_, _*_}
-use mathlib.Core.Bool.{Bool, true, false, not, _&&_, _||_}
+use mathlib.Core.Bool.{Bool, true, false, not, _&&_, _||_, cond}
 use mathlib.Core.List.{List, [], _∷_, _++_, map}
 use lib.Dec.{eqb}
 use lib.ListN.{length, drop}
@@ -68,9 +69,29 @@ unfoldable pub andThen : Judgement → (Result → Judgement) → Judgement
 andThen (found r) f = f r
 andThen (apply p k) f = apply p (λ r. andThen (k r) f)
 
-unfoldable pub each : List Pair → (List Result → Judgement) → Judgement
-each [] k = k []
-each (p ∷ ps) k = apply p (λ r. each ps (λ rs. k (r ∷ rs)))
+-- ---- whole or cut
+
+pub data Way : Type 0 where
+  whole cut : Way
+
+-- a cut judgement stops at a result that fails
+unfoldable pub stops : Way → Result → Bool
+stops whole r = false
+stops cut r = not (r .holds)
+
+-- the pairs one after the other; a cut judgement applies none after the first that fails
+unfoldable pub each : Way → List Pair → (List Result → Judgement) → Judgement
+each w [] k = k []
+each w (p ∷ ps) k = apply p (λ r. cond (stops w r) (k (r ∷ [])) (each w ps (λ rs. k (r ∷ rs))))
+
+-- of the entries only those of allOf are cut
+unfoldable pub wayIn : Way → Mode → Way
+wayIn whole m = whole
+wayIn cut allOf = cut
+wayIn cut anyOf = whole
+wayIn cut oneOf = whole
+wayIn cut notOf = whole
+wayIn cut ref = whole
 
 -- ---- what a clause says of a row
 
@@ -173,20 +194,21 @@ module _ (D : Doc) where
   -- ---- the rules
 
   -- J : K, after the clauses `before` of the same schema, which mark κ
-  unfoldable pub clause : Pair → List Clause → Marks → Clause → Judgement
-  clause p before κ (asserts t) = found (record { holds = passes (p .row) t; marks = nothing })
-  clause p before κ (inPlace m ss) =
-      each (here p ss) (λ rs. found (record { holds = joined m (verdicts rs); marks = unions rs }))
-  clause p before κ (takes c) =
+  unfoldable pub clause : Way → Pair → List Clause → Marks → Clause → Judgement
+  clause w p before κ (asserts t) = found (record { holds = passes (p .row) t; marks = nothing })
+  clause w p before κ (inPlace m ss) =
+      each (wayIn w m) (here p ss) (λ rs. found (record { holds = joined m (verdicts rs); marks = unions rs }))
+  clause w p before κ (takes c) =
       let ps = taken p before κ c in
-      each ps (λ rs. found (record { holds = all (verdicts rs); marks = these (map (λ q. q .row) ps) }))
+      each whole ps (λ rs. found (record { holds = all (verdicts rs); marks = these (map (λ q. q .row) ps) }))
 
-  -- J : K₁ … Kₙ, after the clauses `before`, which have the result r
-  unfoldable pub clauses : Pair → List Clause → Result → List Clause → Judgement
-  clauses p before r [] = found r
-  clauses p before r (c ∷ cs) =
-      andThen (clause p before (r .marks) c)
-      (λ q. clauses p (before ++ c ∷ []) (record { holds = r .holds && q .holds; marks = r .marks ∪ q .marks }) cs)
+  -- J : K₁ … Kₙ, after the clauses `before`, which have the result r; a cut judgement judges none after the first that fails
+  unfoldable pub clauses : Way → Pair → List Clause → Result → List Clause → Judgement
+  clauses w p before r [] = found r
+  clauses w p before r (c ∷ cs) =
+      cond (stops w r) (found r)
+      (andThen (clause w p before (r .marks) c)
+      (λ q. clauses w p (before ++ c ∷ []) (record { holds = r .holds && q .holds; marks = r .marks ∪ q .marks }) cs))
 
 -- levels × schemas of a chain: every pair of accepted sheets ranks below it (`rank` in Fit)
 unfoldable pub depth : ℕ
@@ -194,25 +216,25 @@ depth = level-refused * suc chain-steps
 
 module _ (D : Doc) (R : Ruleset) where
   -- J : S; a schema that fails has no marks
-  unfoldable pub judgement : Pair → Judgement
-  judgement p =
-      andThen (clauses D p [] (record { holds = true; marks = nothing }) (R .clauses (p .rule)))
+  unfoldable pub judgement : Way → Pair → Judgement
+  judgement w p =
+      andThen (clauses D w p [] (record { holds = true; marks = nothing }) (R .clauses (p .rule)))
       (λ r. found (record { holds = r .holds; marks = λ k. r .holds && r .marks k }))
 
   -- the derivation of a pair, at most f pairs deep
   unfoldable pub derive : ℕ → Pair → Result
   derive zero p = record { holds = false; marks = nothing }
-  derive (suc f) p = answer (λ q. derive f q) (judgement p)
+  derive (suc f) p = answer (λ q. derive f q) (judgement whole p)
 
   -- what holds of a pair of accepted sheets
   unfoldable pub truth : Pair → Result
   truth p = derive depth p
 
   -- the pairs that a pair applies directly, in order
-  unfoldable pub applies : Pair → List Pair
-  applies p = applied truth (judgement p)
+  unfoldable pub applies : Way → Pair → List Pair
+  applies w p = applied truth (judgement w p)
 
 -- opens this module to a computation
 unfoldable pub rules-computes : Unit {0}
-unfolding nothing _∪_ these unions verdicts answer applied andThen each one? none? joined namesOf prefixOf to here under across called membersOf elementsOf present passes taken clause clauses depth judgement derive truth applies
+unfolding nothing _∪_ these unions verdicts answer applied andThen stops each wayIn one? none? joined namesOf prefixOf to here under across called membersOf elementsOf present passes taken clause clauses depth judgement derive truth applies
 rules-computes = tt

@@ -13,6 +13,7 @@ use lib.Seq.{take-suc-set, drop-set-lt}
 use Rattle.text.specs.declared.Range.{Range}
 use Rattle.text.specs.Part.{part}
 use Rattle.meaning.specs.Lists.{range}
+use Rattle.meaning.specs.Rules.{whole}
 use Rattle.meaning.specs.Answer as A
 use Rattle.meaning.specs.Answer.{numberForC, judge}
 use Rattle.number.specs.Called.{Called}
@@ -27,7 +28,7 @@ module _ (ws bs listing rs us : List ℕ) where
 
   -- record i, called with these areas
   abbrev one : ℕ → List ℕ → List ℕ → A.Left
-  one i cs ls = judge (part ws (wordsAt listing i)) (part bs (textAt listing i)) rs us cs ls
+  one i cs ls = judge whole (part ws (wordsAt listing i)) (part bs (textAt listing i)) rs us cs ls
 
   next : (many i : ℕ) → i < many → (cs ls : List ℕ) → Judged
   next many i h cs ls =
@@ -41,7 +42,7 @@ module _ (ws bs listing rs us : List ℕ) where
 module _ (ws bs listing : List ℕ) (i : ℕ) where
   pub called-listed : {rs us cs ls cells list words text : List ℕ} {r : ℕ} {p q : Range}
       → words ≡ part ws p → p ≡ wordsAt listing i → text ≡ part bs q → q ≡ textAt listing i
-      → Called words text rs us cs ls cells list r → Called (part ws (wordsAt listing i)) (part bs (textAt listing i)) rs us cs ls cells list r
+      → Called whole words text rs us cs ls cells list r → Called whole (part ws (wordsAt listing i)) (part bs (textAt listing i)) rs us cs ls cells list r
   called-listed e f g h c = rw (e, f, g, h) at c
 
 -- before record i: what is left to judge, from the areas as they are, gives what the whole gives from those at entry
@@ -67,7 +68,7 @@ module _ (ws bs listing rs us cells₀ list₀ answers₀ : List ℕ) (many : �
 
   module _ {cells list answers : List ℕ} {i : ℕ} (g : Going ws bs listing rs us cells₀ list₀ answers₀ many cells list answers i) where
     pub going-on : {cells′ list′ : List ℕ} {r : ℕ} → i < many → i < length answers
-        → Called (part ws (wordsAt listing i)) (part bs (textAt listing i)) rs us cells list cells′ list′ r
+        → Called whole (part ws (wordsAt listing i)) (part bs (textAt listing i)) rs us cells list cells′ list′ r
         → Going ws bs listing rs us cells₀ list₀ answers₀ many cells′ list′ (set answers i r) (i + 1)
     unfolding next
     going-on {r = r} h l c =

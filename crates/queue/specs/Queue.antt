@@ -9,6 +9,7 @@ use lib.ListN.{length, drop}
 use Rattle.text.specs.Part.{part}
 use Rattle.sheet.specs.Refusals.{Outcome, accepted, refused}
 use Rattle.meaning.specs.Lists.{range}
+use Rattle.meaning.specs.Rules.{whole}
 use Rattle.meaning.specs.Answer.{numberForC, judge}
 use Rattle.queue.specs.declared.Queued.{Queued}
 use Rattle.queue.specs.Listing.{recordsIn, wordsAt, textAt, queueOutcome, queuedOutcome}
@@ -23,7 +24,7 @@ pub record Judged : Type 0 where
 unfoldable pub oneByOne : (words bytes listing rules ruleText : List ℕ) → List ℕ → (cells list : List ℕ) → Judged
 oneByOne ws bs listing rs us [] cs ls = record { numbers = []; cells = cs; list = ls }
 oneByOne ws bs listing rs us (k ∷ ks) cs ls =
-    let left = judge (part ws (wordsAt listing k)) (part bs (textAt listing k)) rs us cs ls in
+    let left = judge whole (part ws (wordsAt listing k)) (part bs (textAt listing k)) rs us cs ls in
     let rest = oneByOne ws bs listing rs us ks (left .cells) (left .list) in
     record { numbers = numberForC (left .answer) ∷ rest .numbers; cells = rest .cells; list = rest .list }
 

@@ -6,6 +6,7 @@ ghost use lib.ListN.{length};
 ghost use Rattle.text.specs.Part.{fits, part};
 ghost use Rattle.sheet.specs.Refusals.{accepted};
 ghost use Rattle.sheet.specs.Faults.{recordOutcome};
+ghost use Rattle.meaning.specs.Rules.{whole};
 ghost use Rattle.judge.specs.Call.{callLeaves};
 ghost use Rattle.number.specs.Called.{Called};
 ghost use Rattle.queue.specs.Listing.{wordsAt, textAt};
@@ -34,7 +35,7 @@ pub(crate) fn judge_listed<'a>(
 ) -> u64
     requires { ⌜ Inside (length (now words)) (length (now bytes)) (now listing) i ⌝ }
     requires { ⌜ RulesChecked (now rules) (now «rule_text») checked ⌝ }
-    ensures { λ r. ⌜ Called (part (now (words .entry)) (wordsAt (now (listing .entry)) i)) (part (now (bytes .entry)) (textAt (now (listing .entry)) i)) (now (rules .entry)) (now («rule_text» .entry)) (now (cells .entry)) (now (list .entry)) (now (cells .exit)) (now (list .exit)) r ⌝ }
+    ensures { λ r. ⌜ Called whole (part (now (words .entry)) (wordsAt (now (listing .entry)) i)) (part (now (bytes .entry)) (textAt (now (listing .entry)) i)) (now (rules .entry)) (now («rule_text» .entry)) (now (cells .entry)) (now (list .entry)) (now (cells .exit)) (now (list .exit)) r ⌝ }
 {
     let record = words_of(words, words_at(listing, i));
     let text = bytes_of(bytes, text_at(listing, i));
@@ -96,7 +97,17 @@ fn judge_checked<'a>(
     ensures { λ r. ⌜ callLeaves (now («record» .entry)) (now (text .entry)) (now (rules .entry)) (now («rule_text» .entry)) (now (cells .entry)) (now (list .entry)) r (now (cells .exit)) (now (list .exit)) ⌝ }
 {
     match checked {
-        Checked::Accepted(m) => judge_in_areas(record, text, rules, rule_text, cells, list, n, m),
+        Checked::Accepted(m) => judge_in_areas(
+            record,
+            text,
+            rules,
+            rule_text,
+            cells,
+            list,
+            false,
+            n,
+            m,
+        ),
         Checked::Refused(refusal, place) => Answer::Refused(refusal, place),
     }
 }

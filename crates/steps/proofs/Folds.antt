@@ -1,5 +1,5 @@
 -- What the first n steps come to, from their end and from their start.
---     picked-first, picked-same          the pairs picked, by the first step; by tests and aims that agree
+--     picked-first, picked-same, picked-none     the pairs picked, by the first step; by tests and aims that agree; none
 --     all-picked, kept-picked            a list of all, and of some, of a run of rows
 --     done-picked                        settling them in turn
 --     count-hits, any-hits, all-hits     what their verdicts say, by the number of hits
@@ -27,7 +27,7 @@ pub map-append : {A B : Type 0} (f : A → B) (xs ys : List A) → map f (xs ++ 
 map-append f [] ys = refl
 map-append f (x ∷ xs) ys = ap (λ l. f x ∷ l) (map-append f xs ys)
 
-and-assoc : (a b c : Bool) → ((a && b) && c) ≡ (a && (b && c))
+pub and-assoc : (a b c : Bool) → ((a && b) && c) ≡ (a && (b && c))
 and-assoc true b c = refl
 and-assoc false b c = refl
 
@@ -74,6 +74,11 @@ unfolding picked
 picked-same go go′ aim aim′ zero f g = refl
 picked-same go go′ aim aim′ (suc n) f g =
     rw (picked-same go go′ aim aim′ n (λ i h. f i (omega arith)) (λ i h. g i (omega arith)), f n (omega arith), g n (omega arith))
+
+pub picked-none : (go : ℕ → Bool) (aim : ℕ → Pair) (n : ℕ) → ((i : ℕ) → i < n → go i ≡ false) → picked go aim n ≡ []
+unfolding picked
+picked-none go aim zero f = refl
+picked-none go aim (suc n) f = rw (picked-none go aim n (λ i h. f i (omega arith)), f n (omega arith))
 
 -- all of a list
 pub list-picked : {A : Type 0} (f : A → Pair) (xs : List A) (d : A) → map f xs ≡ picked (λ i. true) (λ i. f (getD xs i d)) (length xs)
@@ -163,7 +168,7 @@ module _ (sub : Pair → Result) (aim : ℕ → Pair) where
       up true h = omega arith
       up false h = omega arith
 
-  all-step : (go h : Bool) (x n : ℕ) → x ≤ n → (eqb x n && all (cond go (h ∷ []) [])) ≡ eqb (plus x (not go || h)) (suc n)
+  pub all-step : (go h : Bool) (x n : ℕ) → x ≤ n → (eqb x n && all (cond go (h ∷ []) [])) ≡ eqb (plus x (not go || h)) (suc n)
   unfolding plus all
   all-step true true x n l =
       ⊎-elim (λ (e : x ≡ n). rw (eq-eqb x n e) (sym (eq-eqb (x + 1) (suc n) (omega arith))))
@@ -188,16 +193,20 @@ module _ (sub : Pair → Result) (aim : ℕ → Pair) where
 
   -- ---- marks
 
-  pub unions-marks : (p : Pair) (κ : Marks) (k n : ℕ) → ((i : ℕ) → i < n → (aim i) .row ≡ p .row)
-      → (κ k || unions (map sub (picked (λ i. true) aim n)) k) ≡ marksBy sub p (λ i. true) aim κ n k
+  pub unions-marks : (p : Pair) (go : ℕ → Bool) (κ : Marks) (k n : ℕ) → ((i : ℕ) → i < n → (aim i) .row ≡ p .row)
+      → (κ k || unions (map sub (picked go aim n)) k) ≡ marksBy sub p go aim κ n k
   unfolding marksBy gives unions nothing _∪_ picked
-  unions-marks p κ k zero f = or-no (κ k)
-  unions-marks p κ k (suc n) f =
-      let e = eq-eqb ((aim n) .row) (p .row) (f n (omega arith)) in
-      ap (λ l. κ k || unions l k) (map-append sub (picked (λ i. true) aim n) (aim n ∷ []))
-      ∙ ap (λ b. κ k || b) (unions-append (map sub (picked (λ i. true) aim n)) (sub (aim n) ∷ []) k)
-      ∙ sym (or-assoc (κ k) (unions (map sub (picked (λ i. true) aim n)) k) ((sub (aim n)) .marks k || false))
-      ∙ rw (unions-marks p κ k n (λ i h. f i (omega arith)), e, or-no ((sub (aim n)) .marks k))
+  unions-marks p go κ k zero f = or-no (κ k)
+  unions-marks p go κ k (suc n) f =
+      ap (λ l. κ k || unions l k) (map-append sub (picked go aim n) (cond (go n) (aim n ∷ []) []))
+      ∙ ap (λ b. κ k || b) (unions-append (map sub (picked go aim n)) (map sub (cond (go n) (aim n ∷ []) [])) k)
+      ∙ sym (or-assoc (κ k) (unions (map sub (picked go aim n)) k) _)
+      ∙ rw (unions-marks p go κ k n (λ i h. f i (omega arith))) (ap (λ b. marksBy sub p go aim κ n k || b) (last (go n) (f n (omega arith))))
+    where
+      last : (b : Bool) → (aim n) .row ≡ p .row
+          → unions (map sub (cond b (aim n ∷ []) [])) k ≡ (b && cond (eqb ((aim n) .row) (p .row)) ((sub (aim n)) .marks k) (eqb k ((aim n) .row)))
+      last true h = rw (eq-eqb ((aim n) .row) (p .row) h) (or-no ((sub (aim n)) .marks k))
+      last false h = refl
 
   -- where every pair that is applied is of another row
   pub these-marks : (p : Pair) (go : ℕ → Bool) (κ : Marks) (k n : ℕ) → ((i : ℕ) → i < n → go i ≡ true → (aim i) .row ≡ p .row → ⊥)

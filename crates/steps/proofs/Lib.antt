@@ -1,4 +1,5 @@
 pub mod Folds
+pub mod Cuts
 pub mod Picks
 pub mod Plans
 pub mod Earlier

@@ -3,12 +3,13 @@
 --     no-steps              a clause that asserts something has no steps
 --     any-ends, one-ends, not-ends, all-ends     what a clause says in the end, by the variant that was read and its misses
 --     spared-ends, ends-finish     and by what is read of it
+--     all-after, next-after, applied-after       where a failure leads a clause, by the variant that was read and by what is read of it
 -- Assumes nothing.
 use mathlib.Core.Bool.{Bool}
 use mathlib.Core.List.{List, [], _∷_}
 use mathlib.Core.Path.{_≡_, refl, sym, ap, _∙_}
 use mathlib.Core.Logic.{⊎-elim}
-use Prim.Native.Nat.{ℕ, _-_, _≤_, _<_}
+use Prim.Native.Nat.{ℕ, _+_, _-_, _≤_, _<_}
 use native.Mathlib.Omega.{arith}
 use lib.Dec.{eqb, ltb}
 use lib.ListN.{length}
@@ -26,13 +27,13 @@ use Rattle.rulesheet.specs.declared.clause.Clause.the-variants.{MinLength, MaxL
 use Rattle.rulesheet.specs.declared.clause.Clause.the-variants.{AllOf, AnyOf, OneOf as Exactly, Not, Ref, Properties, AdditionalProperties, PrefixItems, Items, UnevaluatedProperties, UnevaluatedItems}
 use Rattle.rulesheet.specs.Ruleset as R
 use Rattle.rulesheet.specs.Ruleset.{Test, allOf, anyOf, oneOf, notOf, ref, asserts, inPlace, takes}
-use Rattle.rulesheet.specs.Clauses.{clauseMeans, sparing}
+use Rattle.rulesheet.specs.Clauses.{clauseMeans, applying, sparing}
 use Rattle.rulesheet.proofs.Items.{schemas-long}
 use Rattle.meaning.specs.Tests.{members?, elements?}
 use Rattle.meaning.specs.Rules.{Pair}
 use Rattle.clause.specs.Read.{sizeOf, orNone}
 use Rattle.meaning.proofs.Members.{range-length}
-use Rattle.steps.specs.Plan.{memberCount, elementCount, finishedBy, endsBy, stepsOf, finishOf}
+use Rattle.steps.specs.Plan.{memberCount, elementCount, finishedBy, endsBy, afterMiss, stepsOf, finishOf}
 
 -- ---- how many members and elements a row has
 
@@ -177,6 +178,54 @@ spared-ends (inPlace oneOf ss) misses = refl
 spared-ends (inPlace notOf ss) misses = refl
 spared-ends (inPlace ref ss) misses = refl
 spared-ends (takes c) misses = refl
+
+-- the positions of all variants but allOf
+abbrev pub uncut : List ℕ
+uncut = 0 ∷ 1 ∷ 2 ∷ 3 ∷ 4 ∷ 5 ∷ 6 ∷ 7 ∷ 8 ∷ 9 ∷ 10 ∷ 11 ∷ 12 ∷ 13 ∷ 14 ∷ 16 ∷ 17 ∷ 18 ∷ 19 ∷ 20 ∷ 21 ∷ 22 ∷ 23 ∷ 24 ∷ 25 ∷ []
+
+module _ (step : ℕ) (rs us : List ℕ) where
+  -- the step after a failure
+  abbrev pub After : Clause → ℕ → Type 0
+  After clause r = r ≡ afterMiss (clauseMeans rs us clause) step
+
+  pub all-after : (es : Entries) → After (AllOf es) (es .count)
+  unfolding afterMiss
+  all-after es = sym (schemas-long rs es)
+
+  pub next-after : (clause : Clause) → OneOf uncut (tagOf the-type clause) → After clause (step + 1)
+  unfolding afterMiss
+  next-after Never k = refl
+  next-after (Types mask) k = refl
+  next-after (Enum es) k = refl
+  next-after (Minimum z) k = refl
+  next-after (Maximum z) k = refl
+  next-after (ExclusiveMinimum z) k = refl
+  next-after (ExclusiveMaximum z) k = refl
+  next-after (MultipleOf z) k = refl
+  next-after (MinLength n) k = refl
+  next-after (MaxLength n) k = refl
+  next-after (MinItems n) k = refl
+  next-after (MaxItems n) k = refl
+  next-after (MinProperties n) k = refl
+  next-after (MaxProperties n) k = refl
+  next-after (Required es) k = refl
+  next-after (AllOf es) k = absurd (miss uncut 15 tt k)
+  next-after (AnyOf es) k = refl
+  next-after (Exactly es) k = refl
+  next-after (Not row) k = refl
+  next-after (Ref row) k = refl
+  next-after (Properties es) k = refl
+  next-after (AdditionalProperties row) k = refl
+  next-after (PrefixItems es) k = refl
+  next-after (Items row) k = refl
+  next-after (UnevaluatedProperties row) k = refl
+  next-after (UnevaluatedItems row) k = refl
+
+pub applied-after : (c : R.Clause) (step : ℕ) → afterMiss (applying c) step ≡ afterMiss c step
+unfolding afterMiss applying
+applied-after (asserts t) step = refl
+applied-after (inPlace m ss) step = refl
+applied-after (takes c) step = refl
 
 -- the misses of a clause that applies schemas tell what its hits tell
 pub ends-finish : (d : Doc) (p : Pair) (before : List R.Clause) (c : R.Clause) (misses : ℕ) → ((t : Test) → c ≡ asserts t → ⊥) → misses ≤ stepsOf d p before c

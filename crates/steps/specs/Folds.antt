@@ -1,16 +1,26 @@
 -- A clause as a loop over its steps takes it: step i aims at a pair, and applies it or not. What the first n steps come to.
 -- Assumes nothing.
 use Prim.Native.Nat.{ℕ, zero, suc}
-use mathlib.Core.Bool.{Bool, not, _&&_, _||_, cond}
+use mathlib.Core.Bool.{Bool, true, not, _&&_, _||_, cond}
 use mathlib.Core.List.{List, [], _∷_, _++_}
 use lib.Dec.{eqb}
-use Rattle.meaning.specs.Rules.{Pair, Marks, Result}
+use Rattle.meaning.specs.Rules.{Pair, Marks, Result, Way, whole, cut}
 use Rattle.areas.specs.Cells.{plus}
 
 -- the pairs that they apply, in order
 unfoldable pub picked : (ℕ → Bool) → (ℕ → Pair) → ℕ → List Pair
 picked go aim zero = []
 picked go aim (suc i) = picked go aim i ++ cond (go i) (aim i ∷ []) []
+
+-- whether the pairs that they aim at all hold
+unfoldable pub heldBy : (Pair → Result) → (ℕ → Pair) → ℕ → Bool
+heldBy sub aim zero = true
+heldBy sub aim (suc i) = heldBy sub aim i && (sub (aim i)) .holds
+
+-- whether step i is still taken: when cut, if no pair before it failed
+unfoldable pub stillBy : Way → (Pair → Result) → (ℕ → Pair) → ℕ → Bool
+stillBy whole sub aim i = true
+stillBy cut sub aim i = heldBy sub aim i
 
 -- of how many of them the pair holds or nothing is applied
 unfoldable pub hitsBy : (Pair → Result) → (ℕ → Bool) → (ℕ → Pair) → ℕ → ℕ

@@ -12,7 +12,7 @@ use Rattle.sheet.specs.Doc.{Value, null, bool, number, string, array, object, D
 use Rattle.rulesheet.specs.Ruleset.{Mode, allOf, anyOf, oneOf, notOf, ref, Reach, properties, additionalProperties, prefixItems, items}
 use Rattle.rulesheet.specs.Ruleset.{unevaluatedProperties, unevaluatedItems, Clause, asserts, inPlace, takes}
 use Rattle.meaning.specs.Lists.{concatMap}
-use Rattle.meaning.specs.Rules.{Pair, none?, namesOf, prefixOf, to, called, passes}
+use Rattle.meaning.specs.Rules.{Pair, Way, whole, cut, wayIn, none?, namesOf, prefixOf, to, called, passes}
 
 -- how many members an object has, and how many elements an array: none of any other value
 abbrev pub memberCount : Value → ℕ
@@ -52,6 +52,28 @@ endsBy (inPlace oneOf ss) misses = eqb (length ss - misses) 1
 endsBy (inPlace notOf ss) misses = eqb misses (length ss)
 endsBy (inPlace ref ss) misses = eqb misses 0
 endsBy (takes c) misses = eqb misses 0
+
+-- whether a clause is cut, where judgements are
+unfoldable pub wayOf : Way → Clause → Way
+wayOf whole c = whole
+wayOf cut (asserts t) = whole
+wayOf cut (inPlace m ss) = wayIn cut m
+wayOf cut (takes c) = whole
+
+-- whether it stops where `misses` of its steps applied a pair that failed
+unfoldable pub stopsBy : Way → ℕ → Bool
+stopsBy whole misses = false
+stopsBy cut misses = not (eqb misses 0)
+
+-- the step after step i of a clause that a failure stops if it is cut: past all of them if it is
+unfoldable pub afterMiss : Clause → ℕ → ℕ
+afterMiss (asserts t) i = i + 1
+afterMiss (inPlace allOf ss) i = length ss
+afterMiss (inPlace anyOf ss) i = i + 1
+afterMiss (inPlace oneOf ss) i = i + 1
+afterMiss (inPlace notOf ss) i = i + 1
+afterMiss (inPlace ref ss) i = i + 1
+afterMiss (takes c) i = i + 1
 
 module _ (D : Doc) (p : Pair) where
   abbrev pub own : Value

@@ -27,14 +27,8 @@ add-cells c =
 slice-write-cells : tie.Need-slice-write-cells
 slice-write-cells c = search needs
 
-cast-list : tie.Need-cast-list
-cast-list c = search needs
-
-mul-list : tie.Need-mul-list
-mul-list c = search needs
-
-slice-write-list : tie.Need-slice-write-list
-slice-write-list c = search needs
+enlist-requires : tie.Need-enlist-requires
+enlist-requires c κs = search needs
 
 add-result : tie.Need-add-result
 add-result c = search needs
@@ -46,7 +40,12 @@ same-length-2 : tie.Need-same-length-2
 same-length-2 c = search needs
 
 returns : tie.Need-returns
-returns c = record { cell = rw (c .before .before .cell-of .ensures, c .settled-as .ensures); entry = rw (c .before .before .cell-of .ensures); one-more = refl }
+returns c =
+    record {
+      cell = rw (c .before .before .before .before .before .before .cell-of .ensures, c .before .before .before .before .settled-as .ensures);
+      entry = c .before .before .enlist .ensures ∙ rw (c .before .before .before .before .before .before .cell-of .ensures);
+      one-more = refl;
+    }
 
 pub settle-spec : {M : Type 1} → statement M
 settle-spec =
@@ -57,9 +56,7 @@ settle-spec =
     settled-as-requires
     add-cells
     slice-write-cells
-    cast-list
-    mul-list
-    slice-write-list
+    enlist-requires
     add-result
     same-length
     same-length-2

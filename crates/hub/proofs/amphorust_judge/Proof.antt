@@ -11,7 +11,7 @@ judge-requires : tie.Need-judge-requires
 judge-requires c κs = search needs
 
 number-of-requires : tie.Need-number-of-requires
-number-of-requires c κs = count-fits _ _ _ _ _ _ (c .before .before .before .before .judge .result) (c .before .before .before .before .judge .ensures)
+number-of-requires c κs = count-fits _ _ _ _ _ _ _ (c .before .before .before .before .judge .result) (c .before .before .before .before .judge .ensures)
 
 same-length : tie.Need-same-length
 same-length c = search needs
@@ -20,7 +20,7 @@ same-length-2 : tie.Need-same-length-2
 same-length-2 c = search needs
 
 returns : tie.Need-returns
-returns c = call-told _ _ _ _ _ _ (c .before .before .before .before .before .judge .result) (c .before .before .before .before .before .judge .ensures) (c .number-of .ensures)
+returns c = call-told _ _ _ _ _ _ _ (c .before .before .before .before .before .judge .result) (c .before .before .before .before .before .judge .ensures) (c .number-of .ensures)
 
 pub amphorust-judge-spec : {M : Type 1} → statement M
 amphorust-judge-spec =

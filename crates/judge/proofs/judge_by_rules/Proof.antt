@@ -34,7 +34,7 @@ returns c = search needs
 
 returns-2 : tie.Need-returns-2
 returns-2 c =
-    sym (rules-refused _ _ _ _ _ _ _ (c .before .before .before .before .before .before .before .before .before .before .pre) _ _ (sym (c .before .before .before .check-rules .ensures) ∙ ap outcomeOf (c .before .refusal .given .1)))
+    sym (rules-refused _ _ _ _ _ _ _ _ (c .before .before .before .before .before .before .before .before .before .before .pre) _ _ (sym (c .before .before .before .check-rules .ensures) ∙ ap outcomeOf (c .before .refusal .given .1)))
 
 pub judge-by-rules-spec : {M : Type 1} → statement M
 judge-by-rules-spec =

@@ -26,7 +26,7 @@ finish-of-requires c κs =
 returns : tie.Need-returns
 returns c =
     let start = c .before .before .before .before in
-    let T = lentCase (start .args .sheets .now) (start .args .texts .now) in
+    let T = lentCase (start .args .sheets .now) (start .args .texts .now) (start .args .forms .now) in
     let p = pairIs (start .args .p) in
     c .finish-of .ensures ∙ ends-finish (T .doc) p (beforeOf T p (start .args .i)) (clauseAt T p (start .args .i)) (start .args .misses) (start .pre .0 .1) (start .pre .1)
 

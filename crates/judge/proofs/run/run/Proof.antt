@@ -1,5 +1,11 @@
 use mathlib.Core.Path.{_≡_, refl, sym, ap, _∙_}
+use mathlib.Core.List.{List}
+use Prim.Native.Nat.{ℕ, _*_, _≤_}
 use native.Mathlib.Omega.{arith}
+use lib.ListN.{length}
+use Rattle.meaning.specs.Answer.{listRoom}
+use Rattle.judge.specs.State.{Case}
+use Rattle.judge.specs.Whole.{Roomy}
 use borrow.Author.Needs.{needs}
 use lib.Seq.{length-take-le}
 use Rattle.judge.proofs.Whole.{part-exact, part-judged}
@@ -30,17 +36,27 @@ slice-aggregate-run-exact : tie.Need-slice-aggregate-run-exact
 slice-aggregate-run-exact c =
     sym (length-take-le _ _ (let e = (size-is (c .before .before .before .before .before .before .before .before .before .pre .0) (c .before .before .wide .ensures) (c .before .wide2 .ensures)) in let h = (c .before .before .before .before .before .before .before .before .before .pre .1) .cells-long in omega arith))
 
+list-room-requires : tie.Need-list-room-requires
+list-room-requires c κs = search needs
+
+-- the places that are taken of the list
+part-room : {T : Case} {cells list : List ℕ} {k q : ℕ} → Roomy T cells list → k ≡ T .n * T .m → q ≡ listRoom (T .way) k → q ≤ length list
+part-room {T} R e f = omega (arith, R .list-long, f ∙ ap (listRoom (T .way)) e)
+
 slice-relend-prefix-run-exact-2 : tie.Need-slice-relend-prefix-run-exact-2
 slice-relend-prefix-run-exact-2 c =
-    let e = (size-is (c .before .before .before .before .before .before .before .before .before .pre .0) (c .before .before .wide .ensures) (c .before .wide2 .ensures)) in let h = (c .before .before .before .before .before .before .before .before .before .pre .1) .list-long in omega arith
+    let start = c .before .before .before .before .before .before .before .before .before .before in
+    part-room (start .pre .1) (size-is (start .pre .0) (c .before .before .before .wide .ensures) (c .before .before .wide2 .ensures)) (c .list-room .ensures)
 
 slice-aggregate-run-exact-2 : tie.Need-slice-aggregate-run-exact-2
 slice-aggregate-run-exact-2 c =
-    sym (length-take-le _ _ (let e = (size-is (c .before .before .before .before .before .before .before .before .before .before .pre .0) (c .before .before .before .wide .ensures) (c .before .before .wide2 .ensures)) in let h = (c .before .before .before .before .before .before .before .before .before .before .pre .1) .list-long in omega arith))
+    let start = c .before .before .before .before .before .before .before .before .before .before .before in
+    sym (length-take-le _ _ (part-room (start .pre .1) (size-is (start .pre .0) (c .before .before .before .before .wide .ensures) (c .before .before .before .wide2 .ensures)) (c .before .list-room .ensures)))
 
 run-exact-requires : tie.Need-run-exact-requires
 run-exact-requires c κs =
-    ((c .before .before .before .before .before .before .before .before .before .before .pre .0), part-exact (size-is (c .before .before .before .before .before .before .before .before .before .before .pre .0) (c .before .before .before .wide .ensures) (c .before .before .wide2 .ensures)) (c .before .before .before .before .before .before .before .before .before .before .pre .1))
+    let start = c .before .before .before .before .before .before .before .before .before .before .before in
+    (start .pre .0, part-exact (size-is (start .pre .0) (c .before .before .before .before .wide .ensures) (c .before .before .before .wide2 .ensures)) (c .before .list-room .ensures) (start .pre .1))
 
 same-length : tie.Need-same-length
 same-length c = search needs
@@ -50,7 +66,8 @@ same-length-2 c = search needs
 
 returns : tie.Need-returns
 returns c =
-    part-judged (c .before .before .before .before .run-exact .result) (size-is (c .before .before .before .before .before .before .before .before .before .before .before .before .before .before .before .pre .0) (c .before .before .before .before .before .before .before .before .wide .ensures) (c .before .before .before .before .before .before .before .wide2 .ensures)) (c .before .before .before .before .before .before .before .before .before .before .before .before .before .before .before .pre .1) (c .before .before .before .before .run-exact .ensures)
+    let start = c .before .before .before .before .before .before .before .before .before .before .before .before .before .before .before .before in
+    part-judged (c .before .before .before .before .run-exact .result) (size-is (start .pre .0) (c .before .before .before .before .before .before .before .before .before .wide .ensures) (c .before .before .before .before .before .before .before .before .wide2 .ensures)) (c .before .before .before .before .before .before .list-room .ensures) (start .pre .1) (c .before .before .before .before .run-exact .ensures)
 
 pub run-spec : {M : Type 1} → statement M
 run-spec =
@@ -61,6 +78,7 @@ run-spec =
     mul-k
     slice-relend-prefix-run-exact
     slice-aggregate-run-exact
+    list-room-requires
     slice-relend-prefix-run-exact-2
     slice-aggregate-run-exact-2
     run-exact-requires

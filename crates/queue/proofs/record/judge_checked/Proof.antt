@@ -1,5 +1,6 @@
 use mathlib.Core.Path.{_≡_, sym, ap, _∙_}
 use Rattle.sheet.specs.Refusals.{outcomeOf}
+use Rattle.meaning.specs.Rules.{whole}
 use Rattle.meaning.proofs.Answers.{rules-refused}
 use borrow.Author.Needs.{needs}
 use Rattle.queue.proofs.record.judge_checked.Statement.{statement}
@@ -29,7 +30,7 @@ returns c = search needs
 
 returns-2 : tie.Need-returns-2
 returns-2 c =
-    sym (rules-refused _ _ _ _ _ _ _ (c .before .before .before .before .before .before .before .before .before .pre .0) _ _ (sym (c .before .before .before .before .before .before .before .before .before .pre .1) ∙ ap outcomeOf (c .before .checked2 .given .1)))
+    sym (rules-refused whole _ _ _ _ _ _ _ (c .before .before .before .before .before .before .before .before .before .pre .0) _ _ (sym (c .before .before .before .before .before .before .before .before .before .pre .1) ∙ ap outcomeOf (c .before .checked2 .given .1)))
 
 pub judge-checked-spec : {M : Type 1} → statement M
 judge-checked-spec =

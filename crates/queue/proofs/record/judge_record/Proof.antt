@@ -1,5 +1,6 @@
 use mathlib.Core.Path.{_≡_, sym, ap, _∙_}
 use Rattle.sheet.specs.Refusals.{outcomeOf}
+use Rattle.meaning.specs.Rules.{whole}
 use Rattle.meaning.proofs.Answers.{record-refused}
 use borrow.Author.Needs.{needs}
 use Rattle.queue.proofs.record.judge_record.Statement.{statement}
@@ -33,7 +34,7 @@ returns c = search needs
 
 returns-2 : tie.Need-returns-2
 returns-2 c =
-    sym (record-refused _ _ _ _ _ _ _ _ (sym (c .before .before .before .check-record .ensures) ∙ ap outcomeOf (c .before .refusal .given .1)))
+    sym (record-refused whole _ _ _ _ _ _ _ _ (sym (c .before .before .before .check-record .ensures) ∙ ap outcomeOf (c .before .refusal .given .1)))
 
 pub judge-record-spec : {M : Type 1} → statement M
 judge-record-spec =

@@ -29,11 +29,11 @@ apply-judge-pair-requires t c κs =
 
 pub apply-same-length-2 : (t : ℕ) → apply-lts.Need-same-length-2 (apply-claims t) (apply-at t) apply.Post
 apply-same-length-2 t c =
-    cells-kept ((c .before .before .before .before .before .before .before .before .before .before .before .before .pre .1 .1) .areas) (c .before .before .before .before .judge-pair .ensures .areas)
+    cells-kept ((c .before .before .before .before .before .before .before .before .before .before .before .before .pre .1 .1) .areas) (c .before .before .before .before .judge-pair .ensures .areas ((c .before .before .before .before .before .before .before .before .before .before .before .before .pre .1 .1) .done) ((c .before .before .before .before .before .before .before .before .before .before .before .before .pre .1 .1) .areas))
 
 pub apply-same-length-3 : (t : ℕ) → apply-lts.Need-same-length-3 (apply-claims t) (apply-at t) apply.Post
 apply-same-length-3 t c =
-    list-kept ((c .before .before .before .before .before .before .before .before .before .before .before .before .pre .1 .1) .areas) (c .before .before .before .before .judge-pair .ensures .areas)
+    list-kept ((c .before .before .before .before .before .before .before .before .before .before .before .before .pre .1 .1) .areas) (c .before .before .before .before .judge-pair .ensures .areas ((c .before .before .before .before .before .before .before .before .before .before .before .before .pre .1 .1) .done) ((c .before .before .before .before .before .before .before .before .before .before .before .before .pre .1 .1) .areas))
 
 pub apply-returns-2 : (t : ℕ) → apply-lts.Need-returns-2 (apply-claims t) (apply-at t) apply.Post
 apply-returns-2 t c =

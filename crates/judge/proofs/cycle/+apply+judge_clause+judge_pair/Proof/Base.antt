@@ -20,6 +20,8 @@ use Rattle.judge.proofs.read.clauses_of.Reads as clauses-of-reads
 use Rattle.judge.proofs.read.finish.Reads as finish-reads
 use Rattle.judge.proofs.read.give.Reads as give-reads
 use Rattle.judge.proofs.read.more.Reads as more-reads
+use Rattle.judge.proofs.read.next_clause.Reads as next-clause-reads
+use Rattle.judge.proofs.read.next_step.Reads as next-step-reads
 use Rattle.judge.proofs.read.schemas_of.Reads as schemas-of-reads
 use Rattle.judge.proofs.read.shut.Reads as shut-reads
 use Rattle.judge.proofs.read.start.Reads as start-reads
@@ -29,15 +31,15 @@ use Rattle.judge.proofs.read.verdict_of.Reads as verdict-of-reads
 
 abbrev pub μ-apply : Measures 4 apply-kinds.ps ℕ
 μ-apply κs a =
-    3 * rankOf (lentCase (a .0 .now) (a .1 .0 .now)) (pairIs (a .1 .1 .1 .1 .1 .1 .0)) + 2
+    3 * rankOf (lentCase (a .0 .now) (a .1 .0 .now) (a .1 .1 .0 .now)) (pairIs (a .1 .1 .1 .1 .1 .1 .0)) + 2
 
 abbrev pub μ-judge-clause : Measures 4 judge-clause-kinds.ps ℕ
 μ-judge-clause κs a =
-    3 * rankOf (lentCase (a .0 .now) (a .1 .0 .now)) (pairIs (a .1 .1 .1 .1 .1 .1 .0)) + 0
+    3 * rankOf (lentCase (a .0 .now) (a .1 .0 .now) (a .1 .1 .0 .now)) (pairIs (a .1 .1 .1 .1 .1 .1 .0)) + 0
 
 abbrev pub μ-judge-pair : Measures 4 judge-pair-kinds.ps ℕ
 μ-judge-pair κs a =
-    3 * rankOf (lentCase (a .0 .now) (a .1 .0 .now)) (pairIs (a .1 .1 .1 .1 .1 .1 .0)) + 1
+    3 * rankOf (lentCase (a .0 .now) (a .1 .0 .now) (a .1 .1 .0 .now)) (pairIs (a .1 .1 .1 .1 .1 .1 .0)) + 1
 
 abbrev pub apply-at : ℕ → In 4 apply-kinds.ps
 apply-at t = and 4 apply-kinds.ps (is 4 apply-kinds.ps μ-apply t) apply.Pre
@@ -69,7 +71,7 @@ abbrev pub apply-claims : ℕ → apply-lts.Claims
 apply-claims t = (verdict-of-reads.Asked, verdict-of-reads.Learnt, judge-pair-below t, judge-pair.Post)
 
 abbrev pub judge-clause-claims : ℕ → judge-clause-lts.Claims
-judge-clause-claims t = (start-reads.Asked, start-reads.Learnt, turn-reads.Asked, turn-reads.Learnt, finish-reads.Asked, finish-reads.Learnt, apply-below t, apply.Post, verdict-of-reads.Asked, verdict-of-reads.Learnt, more-reads.Asked, more-reads.Learnt, give-reads.Asked, give-reads.Learnt)
+judge-clause-claims t = (start-reads.Asked, start-reads.Learnt, turn-reads.Asked, turn-reads.Learnt, finish-reads.Asked, finish-reads.Learnt, apply-below t, apply.Post, verdict-of-reads.Asked, verdict-of-reads.Learnt, more-reads.Asked, more-reads.Learnt, give-reads.Asked, give-reads.Learnt, next-step-reads.Asked, next-step-reads.Learnt)
 
 abbrev pub judge-pair-claims : ℕ → judge-pair-lts.Claims
-judge-pair-claims t = (clauses-of-reads.Asked, clauses-of-reads.Learnt, tried-reads.Asked, tried-reads.Learnt, judge-clause-below t, judge-clause.Post, shut-reads.Asked, shut-reads.Learnt, schemas-of-reads.Asked, schemas-of-reads.Learnt, settle-reads.Asked, settle-reads.Learnt)
+judge-pair-claims t = (clauses-of-reads.Asked, clauses-of-reads.Learnt, tried-reads.Asked, tried-reads.Learnt, judge-clause-below t, judge-clause.Post, next-clause-reads.Asked, next-clause-reads.Learnt, shut-reads.Asked, shut-reads.Learnt, schemas-of-reads.Asked, schemas-of-reads.Learnt, settle-reads.Asked, settle-reads.Learnt)

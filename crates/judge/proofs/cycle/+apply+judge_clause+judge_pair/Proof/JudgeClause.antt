@@ -5,10 +5,10 @@ use native.Mathlib.Omega.{arith}
 use borrow.Author.Needs.{needs}
 use borrow.Author.Tests.{not-true, not-false}
 use Rattle.areas.specs.Cells.{pairIs}
-use Rattle.judge.specs.State.{lentCase}
+use Rattle.judge.specs.State.{lentCase, WhereDone}
 use Rattle.judge.proofs.Claused.{cells-kept, list-kept}
 use Rattle.judge.proofs.Going.{many}
-use Rattle.judge.proofs.Turning.{Standing, standing-first, standing-asks, standing-turn, turning-low, turning-within, turning-aim, turning-ready, turning-cell, turning-hands, turning-more, turning-few, turning-end}
+use Rattle.judge.proofs.Turning.{Standing, standing-first, standing-asks, standing-turn, turning-low, turning-ahead, turning-aim, turning-ready, turning-cell, turning-hands, turning-more, turning-few, turning-end}
 use Rattle.judge.proofs.Reading.{clause-has, schemas-lent, reads-by, reads-clause, falls-by}
 use Prim.Native.Nat.{ℕ}
 use borrow.Fn.PlainCycle.{and}
@@ -18,11 +18,11 @@ use Rattle.judge.proofs.cycle.+apply+judge_clause+judge_pair.Proof.Base
 
 abbrev pub judge-clause-Inv-loop : judge-clause-lts.InvT-loop
 judge-clause-Inv-loop sheets texts forms cells₀ list₀ count p i from misses₀ now₀ x₀ cells list misses now x =
-    Standing (lentCase sheets texts) (pairIs p) i cells₀ list₀ count x cells list now misses
+    WhereDone (lentCase sheets texts forms) cells₀ list₀ count (λ d. Standing (lentCase sheets texts forms) (pairIs p) i d cells₀ list₀ x cells list now misses)
 
 abbrev pub judge-clause-μ-loop : judge-clause-lts.MeasureT-loop
 judge-clause-μ-loop sheets texts forms cells₀ list₀ count p i from misses₀ now₀ x₀ cells list misses now x =
-    many (lentCase sheets texts) (pairIs p) i - x
+    many (lentCase sheets texts forms) (pairIs p) i - x
 
 pub judge-clause-start-requires : (t : ℕ) → judge-clause-lts.Need-start-requires (judge-clause-claims t) (judge-clause-at t) judge-clause.Post judge-clause-Inv-loop judge-clause-μ-loop
 judge-clause-start-requires t c κs =
@@ -34,55 +34,63 @@ judge-clause-loop-holds t c =
 
 pub judge-clause-turn-requires : (t : ℕ) → judge-clause-lts.Need-turn-requires (judge-clause-claims t) (judge-clause-at t) judge-clause.Post judge-clause-Inv-loop judge-clause-μ-loop
 judge-clause-turn-requires t c κs =
-    (reads-clause (c .before .before .before .before .before .pre .1 .0) (c .before .before .before .before .before .pre .1 .1 .0 .inside) (c .before .before .before .before .before .pre .1 .1 .1 .1 .0), standing-asks (c .before .loop .inv) (c .before .before .start .ensures))
+    (reads-clause (c .before .before .before .before .before .pre .1 .0) (c .before .before .before .before .before .pre .1 .1 .0 .inside) (c .before .before .before .before .before .pre .1 .1 .1 .1 .0), standing-asks (c .before .loop .inv (c .before .before .before .before .before .pre .1 .1 .0 .done) (c .before .before .before .before .before .pre .1 .1 .0 .areas)) (c .before .before .start .ensures))
 
 pub judge-clause-finish-requires : (t : ℕ) → judge-clause-lts.Need-finish-requires (judge-clause-claims t) (judge-clause-at t) judge-clause.Post judge-clause-Inv-loop judge-clause-μ-loop
 judge-clause-finish-requires t c κs =
-    ((reads-clause (c .before .before .before .before .before .before .before .before .pre .1 .0) (c .before .before .before .before .before .before .before .before .pre .1 .1 .0 .inside) (c .before .before .before .before .before .before .before .before .pre .1 .1 .1 .1 .0), c .before .before .before .before .before .before .before .before .pre .1 .1 .1 .1 .1), turning-few (standing-turn (c .before .before .before .before .loop .inv) (c .before .before .turn .ensures)) (not-true _ (c .if1 .taken)))
+    ((reads-clause (c .before .before .before .before .before .before .before .before .pre .1 .0) (c .before .before .before .before .before .before .before .before .pre .1 .1 .0 .inside) (c .before .before .before .before .before .before .before .before .pre .1 .1 .1 .1 .0), c .before .before .before .before .before .before .before .before .pre .1 .1 .1 .1 .1), turning-few (standing-turn (c .before .before .before .before .loop .inv (c .before .before .before .before .before .before .before .before .pre .1 .1 .0 .done) (c .before .before .before .before .before .before .before .before .pre .1 .1 .0 .areas)) (c .before .before .turn .ensures)) (not-true _ (c .if1 .taken)))
 
 pub judge-clause-same-length : (t : ℕ) → judge-clause-lts.Need-same-length (judge-clause-claims t) (judge-clause-at t) judge-clause.Post judge-clause-Inv-loop judge-clause-μ-loop
 judge-clause-same-length t c =
-    cells-kept (c .before .before .before .before .before .before .before .before .before .pre .1 .1 .0 .areas) (c .before .before .before .before .before .loop .inv .steps .going .areas)
+    cells-kept (c .before .before .before .before .before .before .before .before .before .pre .1 .1 .0 .areas) (c .before .before .before .before .before .loop .inv (c .before .before .before .before .before .before .before .before .before .pre .1 .1 .0 .done) (c .before .before .before .before .before .before .before .before .before .pre .1 .1 .0 .areas) .steps .going .areas)
 
 pub judge-clause-same-length-2 : (t : ℕ) → judge-clause-lts.Need-same-length-2 (judge-clause-claims t) (judge-clause-at t) judge-clause.Post judge-clause-Inv-loop judge-clause-μ-loop
 judge-clause-same-length-2 t c =
-    list-kept (c .before .before .before .before .before .before .before .before .before .pre .1 .1 .0 .areas) (c .before .before .before .before .before .loop .inv .steps .going .areas)
+    list-kept (c .before .before .before .before .before .before .before .before .before .pre .1 .1 .0 .areas) (c .before .before .before .before .before .loop .inv (c .before .before .before .before .before .before .before .before .before .pre .1 .1 .0 .done) (c .before .before .before .before .before .before .before .before .before .pre .1 .1 .0 .areas) .steps .going .areas)
 
 pub judge-clause-returns : (t : ℕ) → judge-clause-lts.Need-returns (judge-clause-claims t) (judge-clause-at t) judge-clause.Post judge-clause-Inv-loop judge-clause-μ-loop
 judge-clause-returns t c =
-    turning-end (standing-turn (c .before .before .before .before .before .loop .inv) (c .before .before .before .turn .ensures)) (not-true _ (c .before .if1 .taken)) (c .finish .ensures) refl
+    turning-end (c .before .before .before .before .before .before .before .before .before .pre .1 .1 .0) (λ d A. standing-turn (c .before .before .before .before .before .loop .inv d A) (c .before .before .before .turn .ensures)) (not-true _ (c .before .if1 .taken)) (c .finish .ensures) refl
 
 pub judge-clause-apply-requires : (t : ℕ) → judge-clause-lts.Need-apply-requires (judge-clause-claims t) (judge-clause-at t) judge-clause.Post judge-clause-Inv-loop judge-clause-μ-loop
 judge-clause-apply-requires t c κs =
-    let W = standing-turn (c .before .before .before .before .before .before .loop .inv) (c .before .before .before .before .turn .ensures) in
+    let W = standing-turn (c .before .before .before .before .before .before .loop .inv (c .before .before .before .before .before .before .before .before .before .before .pre .1 .1 .0 .done) (c .before .before .before .before .before .before .before .before .before .before .pre .1 .1 .0 .areas)) (c .before .before .before .before .turn .ensures) in
     let go = not-false _ (c .before .before .if1 .left) in
     let has = clause-has (c .before .before .before .before .before .before .before .before .before .before .pre .1 .0 .sheets) (c .before .before .before .before .before .before .before .before .before .before .pre .1 .1 .0 .inside) (c .before .before .before .before .before .before .before .before .before .before .pre .1 .1 .1 .1 .0) in
     (falls-by (c .before .before .before .before .before .before .before .before .before .before .pre .0) (turning-aim W go has), (c .before .before .before .before .before .before .before .before .before .before .pre .1 .0, turning-ready W go has))
 
 pub judge-clause-verdict-of-requires : (t : ℕ) → judge-clause-lts.Need-verdict-of-requires (judge-clause-claims t) (judge-clause-at t) judge-clause.Post judge-clause-Inv-loop judge-clause-μ-loop
 judge-clause-verdict-of-requires t c κs =
-    rw (schemas-lent (c .before .before .before .before .before .before .before .before .before .before .before .before .before .before .before .before .pre .1 .0)) (turning-cell (standing-turn (c .before .before .before .before .before .before .before .before .before .before .before .before .loop .inv) (c .before .before .before .before .before .before .before .before .before .before .turn .ensures)) (not-false _ (c .before .before .before .before .before .before .before .before .if1 .left)) (clause-has (c .before .before .before .before .before .before .before .before .before .before .before .before .before .before .before .before .pre .1 .0 .sheets) (c .before .before .before .before .before .before .before .before .before .before .before .before .before .before .before .before .pre .1 .1 .0 .inside) (c .before .before .before .before .before .before .before .before .before .before .before .before .before .before .before .before .pre .1 .1 .1 .1 .0)) (c .before .before .before .before .before .apply .ensures))
+    rw (schemas-lent (c .before .before .before .before .before .before .before .before .before .before .before .before .before .before .before .before .pre .1 .0)) (turning-cell (standing-turn (c .before .before .before .before .before .before .before .before .before .before .before .before .loop .inv (c .before .before .before .before .before .before .before .before .before .before .before .before .before .before .before .before .pre .1 .1 .0 .done) (c .before .before .before .before .before .before .before .before .before .before .before .before .before .before .before .before .pre .1 .1 .0 .areas)) (c .before .before .before .before .before .before .before .before .before .before .turn .ensures)) (not-false _ (c .before .before .before .before .before .before .before .before .if1 .left)) (clause-has (c .before .before .before .before .before .before .before .before .before .before .before .before .before .before .before .before .pre .1 .0 .sheets) (c .before .before .before .before .before .before .before .before .before .before .before .before .before .before .before .before .pre .1 .1 .0 .inside) (c .before .before .before .before .before .before .before .before .before .before .before .before .before .before .before .before .pre .1 .1 .1 .1 .0)) (c .before .before .before .before .before .apply .ensures))
 
 pub judge-clause-more-requires : (t : ℕ) → judge-clause-lts.Need-more-requires (judge-clause-claims t) (judge-clause-at t) judge-clause.Post judge-clause-Inv-loop judge-clause-μ-loop
 judge-clause-more-requires t c κs =
-    let h = turning-low (standing-turn (c .before .before .before .before .before .before .before .before .before .before .before .before .before .loop .inv) (c .before .before .before .before .before .before .before .before .before .before .before .turn .ensures)) (not-false _ (c .before .before .before .before .before .before .before .before .before .if1 .left)) in
+    let h = turning-low (standing-turn (c .before .before .before .before .before .before .before .before .before .before .before .before .before .loop .inv (c .before .before .before .before .before .before .before .before .before .before .before .before .before .before .before .before .before .pre .1 .1 .0 .done) (c .before .before .before .before .before .before .before .before .before .before .before .before .before .before .before .before .before .pre .1 .1 .0 .areas)) (c .before .before .before .before .before .before .before .before .before .before .before .turn .ensures)) (not-false _ (c .before .before .before .before .before .before .before .before .before .if1 .left)) in
     omega (arith, h .0, h .1)
 
 pub judge-clause-give-requires : (t : ℕ) → judge-clause-lts.Need-give-requires (judge-clause-claims t) (judge-clause-at t) judge-clause.Post judge-clause-Inv-loop judge-clause-μ-loop
 judge-clause-give-requires t c κs =
-    (reads-by (c .before .before .before .before .before .before .before .before .before .before .before .before .before .before .before .before .before .before .before .pre .1 .0) (c .before .before .before .before .before .before .before .before .before .before .before .before .before .before .before .before .before .before .before .pre .1 .1 .0 .inside), turning-hands (standing-turn (c .before .before .before .before .before .before .before .before .before .before .before .before .before .before .before .loop .inv) (c .before .before .before .before .before .before .before .before .before .before .before .before .before .turn .ensures)) (not-false _ (c .before .before .before .before .before .before .before .before .before .before .before .if1 .left)) (clause-has (c .before .before .before .before .before .before .before .before .before .before .before .before .before .before .before .before .before .before .before .pre .1 .0 .sheets) (c .before .before .before .before .before .before .before .before .before .before .before .before .before .before .before .before .before .before .before .pre .1 .1 .0 .inside) (c .before .before .before .before .before .before .before .before .before .before .before .before .before .before .before .before .before .before .before .pre .1 .1 .1 .1 .0)) (c .before .before .before .before .before .before .before .before .apply .ensures))
+    (reads-by (c .before .before .before .before .before .before .before .before .before .before .before .before .before .before .before .before .before .before .before .pre .1 .0) (c .before .before .before .before .before .before .before .before .before .before .before .before .before .before .before .before .before .before .before .pre .1 .1 .0 .inside), turning-hands (standing-turn (c .before .before .before .before .before .before .before .before .before .before .before .before .before .before .before .loop .inv (c .before .before .before .before .before .before .before .before .before .before .before .before .before .before .before .before .before .before .before .pre .1 .1 .0 .done) (c .before .before .before .before .before .before .before .before .before .before .before .before .before .before .before .before .before .before .before .pre .1 .1 .0 .areas)) (c .before .before .before .before .before .before .before .before .before .before .before .before .before .turn .ensures)) (not-false _ (c .before .before .before .before .before .before .before .before .before .before .before .if1 .left)) (clause-has (c .before .before .before .before .before .before .before .before .before .before .before .before .before .before .before .before .before .before .before .pre .1 .0 .sheets) (c .before .before .before .before .before .before .before .before .before .before .before .before .before .before .before .before .before .before .before .pre .1 .1 .0 .inside) (c .before .before .before .before .before .before .before .before .before .before .before .before .before .before .before .before .before .before .before .pre .1 .1 .1 .1 .0)) (c .before .before .before .before .before .before .before .before .apply .ensures))
 
-pub judge-clause-add-x : (t : ℕ) → judge-clause-lts.Need-add-x (judge-clause-claims t) (judge-clause-at t) judge-clause.Post judge-clause-Inv-loop judge-clause-μ-loop
-judge-clause-add-x t c =
-    let h = turning-low (standing-turn (c .before .before .before .before .before .before .before .before .before .before .before .before .before .before .before .before .before .before .before .loop .inv) (c .before .before .before .before .before .before .before .before .before .before .before .before .before .before .before .before .before .turn .ensures)) (not-false _ (c .before .before .before .before .before .before .before .before .before .before .before .before .before .before .before .if1 .left)) in
-    omega (arith, h .0)
+pub judge-clause-next-step-requires : (t : ℕ) → judge-clause-lts.Need-next-step-requires (judge-clause-claims t) (judge-clause-at t) judge-clause.Post judge-clause-Inv-loop judge-clause-μ-loop
+judge-clause-next-step-requires t c κs =
+    let start = c .before .before .before .before .before .before .before .before .before .before .before .before .before .before .before .before .before .before .before .before .before .before in
+    let R = start .pre .1 .1 .0 in
+    let h = turning-low (standing-turn (c .before .before .before .before .before .before .before .before .before .before .before .before .before .before .before .before .before .before .loop .inv (R .done) (R .areas)) (c .before .before .before .before .before .before .before .before .before .before .before .before .before .before .before .before .turn .ensures)) (not-false _ (c .before .before .before .before .before .before .before .before .before .before .before .before .before .before .if1 .left)) in
+    (reads-clause (start .pre .1 .0) (R .inside) (start .pre .1 .1 .1 .1 .0), h .0)
 
 pub judge-clause-loop-less : (t : ℕ) → judge-clause-lts.Need-loop-less (judge-clause-claims t) (judge-clause-at t) judge-clause.Post judge-clause-Inv-loop judge-clause-μ-loop
 judge-clause-loop-less t c =
-    let ahead = c .before .before .before .before .before .before .before .before .before .before .before .before .before .before .before .before .before .turn .ensures .goes (not-false _ (c .before .before .before .before .before .before .before .before .before .before .before .before .before .before .before .if1 .left)) .ahead in
-    let within = turning-within (standing-turn (c .before .before .before .before .before .before .before .before .before .before .before .before .before .before .before .before .before .before .before .loop .inv) (c .before .before .before .before .before .before .before .before .before .before .before .before .before .before .before .before .before .turn .ensures)) (not-false _ (c .before .before .before .before .before .before .before .before .before .before .before .before .before .before .before .if1 .left)) in
-    omega arith
+    let R = c .before .before .before .before .before .before .before .before .before .before .before .before .before .before .before .before .before .before .before .before .before .before .before .pre .1 .1 .0 in
+    let go = not-false _ (c .before .before .before .before .before .before .before .before .before .before .before .before .before .before .before .if1 .left) in
+    let W = standing-turn (c .before .before .before .before .before .before .before .before .before .before .before .before .before .before .before .before .before .before .before .loop .inv (R .done) (R .areas)) (c .before .before .before .before .before .before .before .before .before .before .before .before .before .before .before .before .before .turn .ensures) in
+    let ahead = c .before .before .before .before .before .before .before .before .before .before .before .before .before .before .before .before .before .turn .ensures .goes go .ahead in
+    let next = turning-ahead W go (c .before .before .before .before .before .more .result) (c .next-step .ensures) in
+    omega (arith, next .0, next .1)
 
 pub judge-clause-loop-again : (t : ℕ) → judge-clause-lts.Need-loop-again (judge-clause-claims t) (judge-clause-at t) judge-clause.Post judge-clause-Inv-loop judge-clause-μ-loop
 judge-clause-loop-again t c =
-    turning-more (standing-turn (c .before .before .before .before .before .before .before .before .before .before .before .before .before .before .before .before .before .before .before .loop .inv) (c .before .before .before .before .before .before .before .before .before .before .before .before .before .before .before .before .before .turn .ensures)) (not-false _ (c .before .before .before .before .before .before .before .before .before .before .before .before .before .before .before .if1 .left)) (clause-has (c .before .before .before .before .before .before .before .before .before .before .before .before .before .before .before .before .before .before .before .before .before .before .before .pre .1 .0 .sheets) (c .before .before .before .before .before .before .before .before .before .before .before .before .before .before .before .before .before .before .before .before .before .before .before .pre .1 .1 .0 .inside) (c .before .before .before .before .before .before .before .before .before .before .before .before .before .before .before .before .before .before .before .before .before .before .before .pre .1 .1 .1 .1 .0)) (c .before .before .before .before .before .before .before .before .before .before .before .before .apply .ensures) (rw (schemas-lent (c .before .before .before .before .before .before .before .before .before .before .before .before .before .before .before .before .before .before .before .before .before .before .before .pre .1 .0)) at (c .before .before .before .before .before .before .verdict-of .ensures)) (c .before .before .before .before .before .more .ensures) (c .before .before .before .give .ensures)
+    let start = c .before .before .before .before .before .before .before .before .before .before .before .before .before .before .before .before .before .before .before .before .before .before .before in
+    let has = clause-has (start .pre .1 .0 .sheets) (start .pre .1 .1 .0 .inside) (start .pre .1 .1 .1 .1 .0) in
+    λ d A.
+    turning-more (standing-turn (c .before .before .before .before .before .before .before .before .before .before .before .before .before .before .before .before .before .before .before .loop .inv d A) (c .before .before .before .before .before .before .before .before .before .before .before .before .before .before .before .before .before .turn .ensures)) (not-false _ (c .before .before .before .before .before .before .before .before .before .before .before .before .before .before .before .if1 .left)) has (c .before .before .before .before .before .before .before .before .before .before .before .before .apply .ensures) (rw (schemas-lent (start .pre .1 .0)) at (c .before .before .before .before .before .before .verdict-of .ensures)) (c .before .before .before .before .before .more .ensures) (c .before .before .before .give .ensures) (c .next-step .ensures)

@@ -6,11 +6,11 @@ use native.Mathlib.Omega.{arith}
 use borrow.Author.Needs.{needs}
 use Rattle.areas.specs.Cells.{pairIs, cellAt}
 use Rattle.clause.specs.Read.{Tries}
-use Rattle.judge.specs.State.{lentCase, clauseAt}
+use Rattle.judge.specs.State.{lentCase, clauseAt, WhereDone}
 use Rattle.judge.proofs.Going.{going-ready, going-unsettled, going-writes, going-open}
-use Rattle.judge.proofs.Claused.{Claused, claused-none, claused-more, claused-shut, claused-end, cells-kept, list-kept}
+use Rattle.judge.proofs.Claused.{Clausing, claused-none, claused-more, claused-next, claused-shut, claused-end, cells-kept, list-kept}
 use Rattle.judge.proofs.Turning.{claused-test}
-use Rattle.judge.proofs.Reading.{forms-fit, schemas-lent, formed-lent, clauses-many, reads-by, reads-clause, lt-next, lt-by}
+use Rattle.judge.proofs.Reading.{forms-fit, schemas-lent, formed-lent, clauses-many, reads-by, reads-clause, lt-by}
 use Prim.Native.Nat.{ℕ}
 use borrow.Fn.PlainCycle.{and}
 use Rattle.judge.proofs.cycle.judge_pair.Reads as judge-pair
@@ -19,7 +19,7 @@ use Rattle.judge.proofs.cycle.+apply+judge_clause+judge_pair.Proof.Base
 
 abbrev pub judge-pair-Inv-loop : judge-pair-lts.InvT-loop
 judge-pair-Inv-loop sheets texts forms cells₀ list₀ count p many ok₀ now₀ i₀ cells list ok now i =
-    (i ≤ many) × Claused (lentCase sheets texts) (pairIs p) cells₀ list₀ count i cells list now ok
+    WhereDone (lentCase sheets texts forms) cells₀ list₀ count (λ d. Clausing (lentCase sheets texts forms) (pairIs p) many d cells₀ list₀ i cells list now ok)
 
 abbrev pub judge-pair-μ-loop : judge-pair-lts.MeasureT-loop
 judge-pair-μ-loop sheets texts forms cells₀ list₀ count p many ok₀ now₀ i₀ cells list ok now i =
@@ -35,11 +35,11 @@ judge-pair-clauses-of-requires t c κs =
 
 pub judge-pair-loop-holds : (t : ℕ) → judge-pair-lts.Need-loop-holds (judge-pair-claims t) (judge-pair-at t) judge-pair.Post judge-pair-Inv-loop judge-pair-μ-loop
 judge-pair-loop-holds t c =
-    (omega arith, claused-none (c .before .before .before .before .pre .1 .1 .0) (c .before .before .before .before .pre .1 .1 .1))
+    claused-none (c .before .before .before .before .pre .1 .1 .0) (c .before .before .before .before .pre .1 .1 .1)
 
 pub judge-pair-tried-requires : (t : ℕ) → judge-pair-lts.Need-tried-requires (judge-pair-claims t) (judge-pair-at t) judge-pair.Post judge-pair-Inv-loop judge-pair-μ-loop
 judge-pair-tried-requires t c κs =
-    (reads-clause (c .before .before .before .before .before .before .before .pre .1 .0) ((c .before .before .before .before .before .before .before .pre .1 .1 .0) .inside) (lt-by (c .before .loop-test .taken) (c .before .before .before .clauses-of .ensures)), going-unsettled ((c .before .before .loop .inv .1) .going))
+    (reads-clause (c .before .before .before .before .before .before .before .pre .1 .0) ((c .before .before .before .before .before .before .before .pre .1 .1 .0) .inside) (lt-by (c .before .loop-test .taken) (c .before .before .before .clauses-of .ensures)), going-unsettled ((c .before .before .loop .inv (c .before .before .before .before .before .before .before .pre .1 .1 .0 .done) (c .before .before .before .before .before .before .before .pre .1 .1 .0 .areas) .claused) .going))
 
 pub judge-pair-enum-known-so : (t : ℕ) → judge-pair-lts.Need-enum-known-so (judge-pair-claims t) (judge-pair-at t) judge-pair.Post judge-pair-Inv-loop judge-pair-μ-loop
 judge-pair-enum-known-so t c =
@@ -51,23 +51,34 @@ judge-pair-enum-told t c =
 
 pub judge-pair-judge-clause-requires : (t : ℕ) → judge-pair-lts.Need-judge-clause-requires (judge-pair-claims t) (judge-pair-at t) judge-pair.Post judge-pair-Inv-loop judge-pair-μ-loop
 judge-pair-judge-clause-requires t c κs =
-    (omega (arith, c .before .before .before .before .before .before .before .before .before .before .before .before .pre .0), ((c .before .before .before .before .before .before .before .before .before .before .before .before .pre .1 .0), (going-ready ((c .before .before .before .before .before .before .before .loop .inv .1) .going), (going-unsettled ((c .before .before .before .before .before .before .before .loop .inv .1) .going), ((lt-by (c .before .before .before .before .before .before .loop-test .taken) (c .before .before .before .before .before .before .before .before .clauses-of .ensures)), subst (λ r. Tries ((lentCase (c .before .before .before .before .before .before .before .before .before .before .before .before .args .sheets .now) (c .before .before .before .before .before .before .before .before .before .before .before .before .args .texts .now)) .doc) (c .before .before .before .before .before .before .before .before .before .before .before .before .args .p .row .0) (clauseAt (lentCase (c .before .before .before .before .before .before .before .before .before .before .before .before .args .sheets .now) (c .before .before .before .before .before .before .before .before .before .before .before .before .args .texts .now)) (pairIs (c .before .before .before .before .before .before .before .before .before .before .before .before .args .p)) (c .before .before .before .before .before .before .before .loop .i)) r) (c .before .before .enum-told .given .1) (c .before .before .before .before .tried .ensures))))))
+    (omega (arith, c .before .before .before .before .before .before .before .before .before .before .before .before .pre .0), ((c .before .before .before .before .before .before .before .before .before .before .before .before .pre .1 .0), (going-ready ((c .before .before .before .before .before .before .before .loop .inv (c .before .before .before .before .before .before .before .before .before .before .before .before .pre .1 .1 .0 .done) (c .before .before .before .before .before .before .before .before .before .before .before .before .pre .1 .1 .0 .areas) .claused) .going), (going-unsettled ((c .before .before .before .before .before .before .before .loop .inv (c .before .before .before .before .before .before .before .before .before .before .before .before .pre .1 .1 .0 .done) (c .before .before .before .before .before .before .before .before .before .before .before .before .pre .1 .1 .0 .areas) .claused) .going), ((lt-by (c .before .before .before .before .before .before .loop-test .taken) (c .before .before .before .before .before .before .before .before .clauses-of .ensures)), subst (λ r. Tries ((lentCase (c .before .before .before .before .before .before .before .before .before .before .before .before .args .sheets .now) (c .before .before .before .before .before .before .before .before .before .before .before .before .args .texts .now) (c .before .before .before .before .before .before .before .before .before .before .before .before .args .forms .now)) .doc) (c .before .before .before .before .before .before .before .before .before .before .before .before .args .p .row .0) (clauseAt (lentCase (c .before .before .before .before .before .before .before .before .before .before .before .before .args .sheets .now) (c .before .before .before .before .before .before .before .before .before .before .before .before .args .texts .now) (c .before .before .before .before .before .before .before .before .before .before .before .before .args .forms .now)) (pairIs (c .before .before .before .before .before .before .before .before .before .before .before .before .args .p)) (c .before .before .before .before .before .before .before .loop .i)) r) (c .before .before .enum-told .given .1) (c .before .before .before .before .tried .ensures))))))
 
-pub judge-pair-add-i : (t : ℕ) → judge-pair-lts.Need-add-i (judge-pair-claims t) (judge-pair-at t) judge-pair.Post judge-pair-Inv-loop judge-pair-μ-loop
-judge-pair-add-i t c =
-    let h = c .before .before .before .loop-test .taken in omega arith
+pub judge-pair-next-clause-requires : (t : ℕ) → judge-pair-lts.Need-next-clause-requires (judge-pair-claims t) (judge-pair-at t) judge-pair.Post judge-pair-Inv-loop judge-pair-μ-loop
+judge-pair-next-clause-requires t c κs = c .before .before .before .loop-test .taken
 
 pub judge-pair-loop-less : (t : ℕ) → judge-pair-lts.Need-loop-less (judge-pair-claims t) (judge-pair-at t) judge-pair.Post judge-pair-Inv-loop judge-pair-μ-loop
 judge-pair-loop-less t c =
-    let h = c .before .before .before .loop-test .taken in omega arith
+    let h = c .before .before .before .before .loop-test .taken in
+    let next = c .next-clause .ensures .1 in
+    omega (arith, next .0, next .1)
 
 pub judge-pair-loop-again : (t : ℕ) → judge-pair-lts.Need-loop-again (judge-pair-claims t) (judge-pair-at t) judge-pair.Post judge-pair-Inv-loop judge-pair-μ-loop
 judge-pair-loop-again t c =
-    (lt-next (c .before .before .before .loop-test .taken), ⊎-elim (λ w. rw (w .3, w .4, w .6) (claused-test (c .before .before .before .before .loop .inv .1) (subst (λ r. Tries ((lentCase (c .before .before .before .before .before .before .before .before .before .args .sheets .now) (c .before .before .before .before .before .before .before .before .before .args .texts .now)) .doc) (c .before .before .before .before .before .before .before .before .before .args .p .row .0) (clauseAt (lentCase (c .before .before .before .before .before .before .before .before .before .args .sheets .now) (c .before .before .before .before .before .before .before .before .before .args .texts .now)) (pairIs (c .before .before .before .before .before .before .before .before .before .args .p)) (c .before .before .before .before .loop .i)) r) (w .1 .given .1) (c .before .tried .ensures)) (w .5))) (λ w. rw (w .10, w .11, w .13) (claused-more (c .before .before .before .before .loop .inv .1) (w .4 .ensures) (w .12))) (c .match .came))
+    let start = c .before .before .before .before .before .before .before .before .before .before in
+    let T = lentCase (start .args .sheets .now) (start .args .texts .now) (start .args .forms .now) in
+    let h = c .before .before .before .before .loop-test .taken in
+    λ d A.
+    let L = c .before .before .before .before .before .loop .inv d A in
+    claused-next
+    (⊎-elim
+    (λ w. rw (w .3, w .4, w .6) (claused-test (L .claused) (L .unstopped h) (subst (λ r. Tries (T .doc) (start .args .p .row .0) (clauseAt T (pairIs (start .args .p)) (c .before .before .before .before .before .loop .i)) r) (w .1 .given .1) (c .before .before .tried .ensures)) (w .5)))
+    (λ w. rw (w .10, w .11, w .13) (claused-more (L .claused) (L .unstopped h) (w .4 .ensures) (w .12)))
+    (c .before .match .came))
+    h (c .next-clause .ensures .0)
 
 pub judge-pair-shut-requires : (t : ℕ) → judge-pair-lts.Need-shut-requires (judge-pair-claims t) (judge-pair-at t) judge-pair.Post judge-pair-Inv-loop judge-pair-μ-loop
 judge-pair-shut-requires t c κs =
-    (reads-by (c .before .before .before .before .before .before .before .pre .1 .0) ((c .before .before .before .before .before .before .before .pre .1 .1 .0) .inside), going-writes ((c .before .before .loop .inv .1) .going) _ ((c .before .before .before .before .before .before .before .pre .1 .1 .0) .inside .rule-in))
+    (reads-by (c .before .before .before .before .before .before .before .pre .1 .0) ((c .before .before .before .before .before .before .before .pre .1 .1 .0) .inside), going-writes ((c .before .before .loop .inv (c .before .before .before .before .before .before .before .pre .1 .1 .0 .done) (c .before .before .before .before .before .before .before .pre .1 .1 .0 .areas) .claused) .going) _ ((c .before .before .before .before .before .before .before .pre .1 .1 .0) .inside .rule-in))
 
 pub judge-pair-schemas-of-requires : (t : ℕ) → judge-pair-lts.Need-schemas-of-requires (judge-pair-claims t) (judge-pair-at t) judge-pair.Post judge-pair-Inv-loop judge-pair-μ-loop
 judge-pair-schemas-of-requires t c κs =
@@ -75,16 +86,17 @@ judge-pair-schemas-of-requires t c κs =
 
 pub judge-pair-settle-requires : (t : ℕ) → judge-pair-lts.Need-settle-requires (judge-pair-claims t) (judge-pair-at t) judge-pair.Post judge-pair-Inv-loop judge-pair-μ-loop
 judge-pair-settle-requires t c κs =
-    going-open (claused-shut (c .before .before .before .before .before .before .before .before .loop .inv .1) (c .before .before .before .before .before .shut .ensures)) (ap (λ (k : ℕ). cellAt k (pairIs (c .before .before .before .before .before .before .before .before .before .before .before .before .before .args .p))) (c .schemas-of .ensures ∙ schemas-lent (c .before .before .before .before .before .before .before .before .before .before .before .before .before .pre .1 .0)))
+    going-open (claused-shut (c .before .before .before .before .before .before .before .before .loop .inv (c .before .before .before .before .before .before .before .before .before .before .before .before .before .pre .1 .1 .0 .done) (c .before .before .before .before .before .before .before .before .before .before .before .before .before .pre .1 .1 .0 .areas) .claused) (c .before .before .before .before .before .shut .ensures)) (ap (λ (k : ℕ). cellAt k (pairIs (c .before .before .before .before .before .before .before .before .before .before .before .before .before .args .p))) (c .schemas-of .ensures ∙ schemas-lent (c .before .before .before .before .before .before .before .before .before .before .before .before .before .pre .1 .0)))
 
 pub judge-pair-same-length : (t : ℕ) → judge-pair-lts.Need-same-length (judge-pair-claims t) (judge-pair-at t) judge-pair.Post judge-pair-Inv-loop judge-pair-μ-loop
 judge-pair-same-length t c =
-    c .before .before .before .before .settle .kept .0 ∙ c .before .before .before .before .before .before .before .before .before .before .shut .ensures .len ∙ cells-kept ((c .before .before .before .before .before .before .before .before .before .before .before .before .before .before .before .before .before .before .pre .1 .1 .0) .areas) ((c .before .before .before .before .before .before .before .before .before .before .before .before .before .loop .inv .1) .going .areas)
+    c .before .before .before .before .settle .kept .0 ∙ c .before .before .before .before .before .before .before .before .before .before .shut .ensures .len ∙ cells-kept ((c .before .before .before .before .before .before .before .before .before .before .before .before .before .before .before .before .before .before .pre .1 .1 .0) .areas) ((c .before .before .before .before .before .before .before .before .before .before .before .before .before .loop .inv (c .before .before .before .before .before .before .before .before .before .before .before .before .before .before .before .before .before .before .pre .1 .1 .0 .done) (c .before .before .before .before .before .before .before .before .before .before .before .before .before .before .before .before .before .before .pre .1 .1 .0 .areas) .claused) .going .areas)
 
 pub judge-pair-same-length-2 : (t : ℕ) → judge-pair-lts.Need-same-length-2 (judge-pair-claims t) (judge-pair-at t) judge-pair.Post judge-pair-Inv-loop judge-pair-μ-loop
 judge-pair-same-length-2 t c =
-    c .before .before .before .before .settle .kept .1 .0 ∙ list-kept ((c .before .before .before .before .before .before .before .before .before .before .before .before .before .before .before .before .before .before .pre .1 .1 .0) .areas) ((c .before .before .before .before .before .before .before .before .before .before .before .before .before .loop .inv .1) .going .areas)
+    c .before .before .before .before .settle .kept .1 .0 ∙ list-kept ((c .before .before .before .before .before .before .before .before .before .before .before .before .before .before .before .before .before .before .pre .1 .1 .0) .areas) ((c .before .before .before .before .before .before .before .before .before .before .before .before .before .loop .inv (c .before .before .before .before .before .before .before .before .before .before .before .before .before .before .before .before .before .before .pre .1 .1 .0 .done) (c .before .before .before .before .before .before .before .before .before .before .before .before .before .before .before .before .before .before .pre .1 .1 .0 .areas) .claused) .going .areas)
 
 pub judge-pair-returns : (t : ℕ) → judge-pair-lts.Need-returns (judge-pair-claims t) (judge-pair-at t) judge-pair.Post judge-pair-Inv-loop judge-pair-μ-loop
 judge-pair-returns t c =
-    claused-end (clauses-many (c .before .before .before .before .before .before .before .before .before .before .before .before .before .before .before .before .before .before .pre .1 .0 .sheets) ((c .before .before .before .before .before .before .before .before .before .before .before .before .before .before .before .before .before .before .pre .1 .1 .0) .inside) (c .before .before .before .before .before .before .before .before .before .before .before .before .before .before .clauses-of .ensures)) (c .before .before .before .before .before .before .before .before .before .before .before .before .before .loop .inv .0) (c .before .before .before .before .before .before .before .before .before .before .before .before .loop-test .left) (c .before .before .before .before .before .before .before .before .before .before .before .before .before .before .before .before .before .before .pre .1 .1 .0) (c .before .before .before .before .before .before .before .before .before .before .before .before .before .before .before .before .before .before .pre .1 .1 .1) (c .before .before .before .before .before .before .before .before .before .before .before .before .before .loop .inv .1) (c .before .before .before .before .before .before .before .before .before .before .shut .ensures) (ap (λ (k : ℕ). cellAt k (pairIs (c .before .before .before .before .before .before .before .before .before .before .before .before .before .before .before .before .before .before .args .p))) (c .before .before .before .before .before .schemas-of .ensures ∙ schemas-lent (c .before .before .before .before .before .before .before .before .before .before .before .before .before .before .before .before .before .before .pre .1 .0))) (c .before .before .before .before .settle .ensures)
+    let start = c .before .before .before .before .before .before .before .before .before .before .before .before .before .before .before .before .before .before in
+    claused-end (clauses-many (start .pre .1 .0 .sheets) (start .pre .1 .1 .0 .inside) (c .before .before .before .before .before .before .before .before .before .before .before .before .before .before .clauses-of .ensures)) (c .before .before .before .before .before .before .before .before .before .before .before .before .loop-test .left) (start .pre .1 .1 .0) (start .pre .1 .1 .1) (c .before .before .before .before .before .before .before .before .before .before .shut .ensures) (ap (λ (k : ℕ). cellAt k (pairIs (start .args .p))) (c .before .before .before .before .before .schemas-of .ensures ∙ schemas-lent (start .pre .1 .0))) (c .before .before .before .before .settle .ensures) (c .before .before .before .before .before .before .before .before .before .before .before .before .before .loop .inv)
