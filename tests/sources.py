@@ -1,7 +1,7 @@
 #!/usr/bin/env python3
 """What the prover does not see, read off the sources: from the clearing on, two functions alone store into cells, one that settles a pair and one that
-writes marks (a store that changes no value, as cells[0] = cells[0], breaks no contract). A crate none of whose public functions is lent bytes to write
-gets no cells."""
+writes marks (a store that changes no value, as cells[0] = cells[0], breaks no contract). Cells come to the judge, to what it stands on and to what stands
+on it; a crate none of whose public functions is lent bytes to write gets none."""
 import glob
 import os
 import re
@@ -40,8 +40,14 @@ def read(path):
         return source.read()
 
 
+def with_cells():
+    """The crates that cells may come to: the judge, those it stands on and those that stand on it."""
+    stands_on = dict(line.split(':', 1) for line in read(os.path.join(ROOT, 'crates.txt')).splitlines() if ':' in line)
+    return sorted({'judge', *stands_on['judge'].split(), *(crate for crate in stands_on if 'judge' in stands_on[crate].split())})
+
+
 def found():
-    for crate in sorted(os.listdir(os.path.join(ROOT, 'crates'))):
+    for crate in with_cells():
         texts = [read(path) for path in glob.glob(os.path.join(ROOT, 'crates', crate, 'src', '**', '*.rt'), recursive=True)]
         if is_lent_bytes(texts):
             for text in texts:
