@@ -5,7 +5,7 @@
  *
  * A case is a file CASE.bundle, the sheets as the bench program reads them, and perhaps CASE.schema and CASE.record
  * for rapidjson, whose schema is compiled and whose record is parsed beforehand. Prints a line for each case: rows,
- * schemas, the answer's number, nanoseconds of a call and of the two sheets' checks alone; then rapidjson's verdict, 0
+ * schemas, the answer's number, nanoseconds of a call, of the two sheets' checks alone and of the verdict only; then rapidjson's verdict, 0
  * for valid and 1 for invalid, and nanoseconds, or '- -' if it was not asked. */
 #include <cstdint>
 #include <cstdio>
@@ -74,7 +74,7 @@ struct Judging {
     Sheet record, rules;
     std::vector<uint8_t> cells;
     std::vector<uint32_t> list;
-    uint64_t answer = 0, checked = 0;
+    uint64_t answer = 0, only = 0, checked = 0;
 
     explicit Judging(const std::string &bundle)
     {
@@ -105,6 +105,13 @@ struct Judging {
         answer = amphorust_judge(record.words.data(), record.words.size(), record.text.data(), record.text.size(),
                                  rules.words.data(), rules.words.size(), rules.text.data(), rules.text.size(),
                                  cells.data(), cells.size(), list.data(), list.size());
+    }
+
+    void verdict()
+    {
+        only = amphorust_verdict(record.words.data(), record.words.size(), record.text.data(), record.text.size(),
+                                 rules.words.data(), rules.words.size(), rules.text.data(), rules.text.size(),
+                                 cells.data(), cells.size());
     }
 
     void check()
@@ -148,7 +155,7 @@ struct Validation {
 struct Case {
     Judging judging;
     std::unique_ptr<Validation> validation;
-    Timer ours, checks, theirs;
+    Timer ours, checks, verdicts, theirs;
 
     explicit Case(const std::string &path) : judging(read_file(path + ".bundle"))
     {
@@ -163,6 +170,7 @@ struct Case {
     {
         ours.round([this] { judging.judge(); });
         checks.round([this] { judging.check(); });
+        verdicts.round([this] { judging.verdict(); });
         if (validation)
             theirs.round([this] { validation->validate(); });
     }
@@ -170,8 +178,9 @@ struct Case {
     void print() const
     {
         const std::vector<uint32_t> &record = judging.record.words, &rules = judging.rules.words;
-        printf("%u %u %llu %.1f %.1f", amphorust_rows(record.data(), record.size()),
-               amphorust_schemas(rules.data(), rules.size()), (unsigned long long)judging.answer, ours.best, checks.best);
+        printf("%u %u %llu %.1f %.1f %.1f", amphorust_rows(record.data(), record.size()),
+               amphorust_schemas(rules.data(), rules.size()), (unsigned long long)judging.answer, ours.best, checks.best,
+               verdicts.best);
         if (validation)
             printf(" %d %.1f\n", validation->valid ? 0 : 1, theirs.best);
         else
