@@ -52,7 +52,7 @@ DEFINITIONS = {'bib': BIB, 'clock': CLOCK, 'runner': RUNNER, 'junction': JUNCTIO
 ONE_RUNNER = {'name': 'A. Kowalski', 'club': 'Wierchy', 'born': 1991}
 
 
-def passage():
+def passage(missing=None):
     """The anyOf marks a member that the unevaluatedProperties beside it then allows; draft 4 has to name both."""
     def schema(by, either):
         runner = closed({'name': WORD, 'team': WORD}, ['name'], by)
@@ -63,7 +63,8 @@ def passage():
 
     value = {'bib': 1042, 'junction': 'Przelecz Karb', 'time': 36125,
              'runner': {'name': 'A. Kowalski', 'team': 'Wierchy'}}
-    return case('a passage', schema('unevaluatedProperties', {}), value,
+    value = {name: value[name] for name in value if name != missing}
+    return case('a passage without its ' + missing if missing else 'a passage', schema('unevaluatedProperties', {}), value,
                 schema('additionalProperties', {'runner': {}, 'team': {}}))
 
 
@@ -195,7 +196,7 @@ def million_pairs():
 
 
 def table():
-    return [passage(), flat(), full(), unevaluated(), members(1023)._replace(name='1,023 members'), splits(200),
+    return [passage(), passage(missing='bib'), flat(), full(), unevaluated(), members(1023)._replace(name='1,023 members'), splits(200),
             properties(100)._replace(name='100 properties in order'),
             reversed_properties(100)._replace(name='100 properties reversed'), shared_beginnings(200),
             shared_endings(200), many_schemas(300),

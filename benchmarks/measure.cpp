@@ -6,8 +6,8 @@
  *
  * A case is a file CASE.bundle, the sheets as the bench program reads them, and perhaps CASE.schema and CASE.record
  * for rapidjson, whose schema is compiled and whose record is parsed beforehand. Prints a line for each case: rows,
- * schemas, the answer's number, nanoseconds of a call and of the two sheets' checks alone; then rapidjson's verdict, 0
- * for valid and 1 for invalid, and nanoseconds, or '- -' if it was not asked.
+ * schemas, the answer's number, nanoseconds of a call, of the two sheets' checks alone and of the verdict only; then
+ * rapidjson's verdict, 0 for valid and 1 for invalid, and nanoseconds, or '- -' if it was not asked.
  *
  * With 'queue' the case's record stands 512 times in one slice of words and one of bytes. Prints one line: the queue's
  * answer, the last record's, and nanoseconds of a record in one call, in 512 calls to judge and by rapidjson, by one
@@ -79,7 +79,7 @@ struct Judging {
     Sheet record, rules;
     std::vector<uint8_t> cells;
     std::vector<uint32_t> list;
-    uint64_t answer = 0, checked = 0;
+    uint64_t answer = 0, only = 0, checked = 0;
 
     explicit Judging(const std::string &bundle)
     {
@@ -110,6 +110,13 @@ struct Judging {
         answer = amphorust_judge(record.words.data(), record.words.size(), record.text.data(), record.text.size(),
                                  rules.words.data(), rules.words.size(), rules.text.data(), rules.text.size(),
                                  cells.data(), cells.size(), list.data(), list.size());
+    }
+
+    void verdict()
+    {
+        only = amphorust_verdict(record.words.data(), record.words.size(), record.text.data(), record.text.size(),
+                                 rules.words.data(), rules.words.size(), rules.text.data(), rules.text.size(),
+                                 cells.data(), cells.size());
     }
 
     void check()
@@ -164,7 +171,7 @@ struct Validation {
 struct Case {
     Judging judging;
     std::unique_ptr<Validation> validation;
-    Timer ours, checks, theirs;
+    Timer ours, checks, verdicts, theirs;
 
     explicit Case(const std::string &path) : judging(read_file(path + ".bundle"))
     {
@@ -179,6 +186,7 @@ struct Case {
     {
         ours.round([this] { judging.judge(); });
         checks.round([this] { judging.check(); });
+        verdicts.round([this] { judging.verdict(); });
         if (validation)
             theirs.round([this] { validation->validate(); });
     }
@@ -186,8 +194,9 @@ struct Case {
     void print() const
     {
         const std::vector<uint32_t> &record = judging.record.words, &rules = judging.rules.words;
-        printf("%u %u %llu %.1f %.1f", amphorust_rows(record.data(), record.size()),
-               amphorust_schemas(rules.data(), rules.size()), (unsigned long long)judging.answer, ours.best, checks.best);
+        printf("%u %u %llu %.1f %.1f %.1f", amphorust_rows(record.data(), record.size()),
+               amphorust_schemas(rules.data(), rules.size()), (unsigned long long)judging.answer, ours.best, checks.best,
+               verdicts.best);
         if (validation)
             printf(" %d %.1f\n", validation->valid ? 0 : 1, theirs.best);
         else

@@ -12,15 +12,16 @@ from tools import sheets
 
 LIMIT = 20      # seconds that a hostile case may take
 
-HEADING = '''The smallest times; both sheets are checked in each call, and 'checks' is what the two checks take as calls
-of their own. rapidjson: its time as a multiple of ours, with its schema compiled and the record parsed
+HEADING = '''The smallest times; both sheets are checked in each call, 'verdict' is the call for the verdict only, and
+'checks' is what the two checks take as calls of their own. rapidjson: its time as a multiple of ours, with its schema compiled and the record parsed
 beforehand, where draft 4 can say the case. Slopes: how the time grows from size to size, 1.0 in proportion,
 2.0 by the square. Overlapping names: of {:,} bytes each, in {:,} bytes of text.
 '''
 
-# answer is the C entry's number, ours a call's nanoseconds and checks those of both checks alone, theirs rapidjson's
+# answer is the C entry's number, ours a call's nanoseconds, checks those of both checks alone and only those of the
+# verdict only, theirs rapidjson's
 # (None: not asked), agrees whether its verdict is ours.
-Measured = namedtuple('Measured', 'rows schemas answer ours checks theirs agrees')
+Measured = namedtuple('Measured', 'rows schemas answer ours checks only theirs agrees')
 
 
 def write(folder, name, case):
@@ -45,9 +46,9 @@ def measured(folder, found):
 
 
 def read_line(line):
-    rows, schemas, answer, ours, checks, verdict, theirs = line.split()
+    rows, schemas, answer, ours, checks, only, verdict, theirs = line.split()
     asked = verdict != '-'
-    return Measured(int(rows), int(schemas), int(answer), float(ours), float(checks),
+    return Measured(int(rows), int(schemas), int(answer), float(ours), float(checks), float(only),
                     float(theirs) if asked else None, asked and int(answer) % 256 == int(verdict))
 
 
@@ -85,7 +86,7 @@ def multiple(one):
 
 
 def said(one):
-    """What is said of an answer that is not 'valid', which all cases should get."""
+    """What is said of an answer that is not 'valid', which all cases but one should get."""
     kind = one.answer % 256
     return '' if kind == 0 else '  invalid' if kind == 1 else '  refused %d' % (kind - 10)
 
@@ -108,12 +109,12 @@ def sizes_line(name, sizes):
 # ---- tables
 
 def print_cases(found, times):
-    shape = '%-30s %5s %7s %9s %10s %10s %10s %10s%s'
-    print(shape % ('case', 'rows', 'schemas', 'pairs', 'a call', 'checks', 'a pair', 'rapidjson', ''))
+    shape = '%-30s %5s %7s %9s %10s %10s %10s %10s %10s%s'
+    print(shape % ('case', 'rows', 'schemas', 'pairs', 'a call', 'verdict', 'checks', 'a pair', 'rapidjson', ''))
     for case, one in zip(found, times):
         pairs = one.answer // 256
         print(shape % (case.name, one.rows, one.schemas, '{:,}'.format(pairs), duration(one.ours),
-                       duration(one.checks), duration(one.ours / max(pairs, 1)), multiple(one), said(one)))
+                       duration(one.only), duration(one.checks), duration(one.ours / max(pairs, 1)), multiple(one), said(one)))
 
 
 def print_families(families):
