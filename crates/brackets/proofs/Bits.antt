@@ -7,15 +7,17 @@ use mathlib.Core.Bool.{Bool, true, false, cond}
 use mathlib.Core.List.{List, [], _∷_}
 use mathlib.Core.Option.{Option, none, some}
 use mathlib.Core.Path.{_≡_, refl, sym, _∙_, ap}
-use Prim.Native.Nat.{ℕ, zero, suc, _+_, _-_, _*_, _/_, _%_, _≤_, _<_}
+use Prim.Native.Nat.{ℕ, zero, suc, _+_, _-_, _*_, _/_, _%_, _^_, _≤_, _<_}
+use native.Mathlib.Nat.{pow-succ', pow-le-pow-right}
+use native.Mathlib.Numerals.{add-one}
 use native.Mathlib.Omega.{arith}
 use borrow.Author.Tests.{eq-eqb, ne-eqb}
-use lib.Dec.{eqb}
+use lib.Dec.{eqb, lit<}
 use Rattle.json.specs.Automaton.{Bracket, square, curly, Place, Change, keep, pop, push, Move, State, at, innermost, outer, changed, follow, moves, pick, step}
 use Rattle.grammar.specs.Codes.{dead, moveCode, placeCode, changeCode, leads, bracketAt, placeAt, changeAt}
 use Rattle.grammar.proofs.Places.{place-low, move-place, move-change}
 use Rattle.brackets.specs.declared.Open.{Open}
-use Rattle.brackets.specs.Brackets.{bracketsOf, brackets, Around, Changed}
+use Rattle.brackets.specs.Brackets.{bracketsOf, brackets, Around, Changed, Fits}
 
 -- the innermost bracket and the others
 pub some-open : (bits depth : ℕ) → (depth ≡ 0 → ⊥) → bracketsOf bits depth ≡ cond (eqb (bits % 2) 0) square curly ∷ bracketsOf (bits / 2) (depth - 1)
@@ -89,3 +91,20 @@ module _ (o : Open) where
 
   pub pop-some : (o .depth ≡ 0 → ⊥) → bracketsOf (o .bits / 2) (o .depth - 1) ≡ changed (changeAt 3) (brackets o)
   pop-some d = sym (ap outer (some-open (o .bits) (o .depth) d))
+
+-- ---- how many bits there are
+
+double : (d : ℕ) → 2 ^ (d + 1) ≡ 2 ^ d * 2
+double d = rw (add-one d) (pow-succ' 2 d ∙ omega arith)
+
+pub room : (o : Open) → Fits o → o .depth < 62 → o .bits < 2 ^ 62
+room o f h =
+    let few : o .depth ≤ 62 = omega arith in
+    let grows : 2 ^ o .depth ≤ 2 ^ 62 = pow-le-pow-right (lit< tt) few in
+    omega arith
+
+pub push-fits : (o : Open) (b : ℕ) → Fits o → b < 2 → o .bits * 2 + b < 2 ^ (o .depth + 1)
+push-fits o b f h = omega (arith, double (o .depth))
+
+pub pop-fits : (o : Open) → Fits o → (o .depth ≡ 0 → ⊥) → o .bits / 2 < 2 ^ (o .depth - 1)
+pop-fits o f d = let whole : o .depth - 1 + 1 ≡ o .depth = omega arith in omega (arith, rw whole at (double (o .depth - 1)))

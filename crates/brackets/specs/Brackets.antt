@@ -3,7 +3,7 @@
 use mathlib.Core.Bool.{cond}
 use mathlib.Core.List.{List, [], _∷_}
 use mathlib.Core.Path.{_≡_}
-use Prim.Native.Nat.{ℕ, zero, suc, _/_, _%_}
+use Prim.Native.Nat.{ℕ, zero, suc, _/_, _%_, _^_, _≤_, _<_}
 use lib.Dec.{eqb}
 use Rattle.json.specs.Automaton.{Bracket, square, curly, Change, changed, innermost}
 use Rattle.grammar.specs.Codes.{bracketAt, changeAt}
@@ -24,3 +24,12 @@ Around o r = bracketAt r ≡ innermost (brackets o)
 -- r has the brackets of o after the change of this number
 abbrev pub Changed : Open → ℕ → Open → Type 0
 Changed o change r = brackets r ≡ changed (changeAt change) (brackets o)
+
+-- there are no bits but those of open brackets
+abbrev pub Fits : Open → Type 0
+Fits o = o .bits < 2 ^ o .depth
+
+pub record Turned (o : Open) (change : ℕ) (r : Open) : Type 0 where
+  pub brackets-are : Changed o change r
+  pub fits : Fits r
+  pub deep : r .depth ≤ suc (o .depth)

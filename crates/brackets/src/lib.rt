@@ -1,7 +1,7 @@
 // The open brackets around a place in a JSON text, as bits of one number (`specs/Brackets.antt`,
 // which contracts cite): the innermost one, and what a step of the automaton does to them.
-ghost use Prim.Native.Nat.{_<_, _^_, _+_};
-ghost use Rattle.brackets.specs.Brackets.{Around, Changed};
+ghost use Prim.Native.Nat.{_<_, _+_};
+ghost use Rattle.brackets.specs.Brackets.{Around, Fits, Turned};
 
 // The brackets that are open, the innermost lowest, and how many there are.
 pub struct Open {
@@ -24,8 +24,8 @@ pub fn around(o: Open) -> u8
 
 // A bracket more: 0 square, 1 curly.
 fn pushed(o: Open, bracket: u64) -> Open
-    requires { ⌜ (o .bits < 2 ^ 62) × (o .depth < 62) × (bracket < 2) ⌝ }
-    ensures { λ r. ⌜ Changed o (1 + bracket) r ⌝ }
+    requires { ⌜ Fits o × (o .depth < 62) × (bracket < 2) ⌝ }
+    ensures { λ r. ⌜ Turned o (1 + bracket) r ⌝ }
 {
     Open {
         bits: o.bits * 2 + bracket,
@@ -35,7 +35,8 @@ fn pushed(o: Open, bracket: u64) -> Open
 
 // The innermost bracket is closed.
 fn popped(o: Open) -> Open
-    ensures { λ r. ⌜ Changed o 3 r ⌝ }
+    requires { ⌜ Fits o ⌝ }
+    ensures { λ r. ⌜ Turned o 3 r ⌝ }
 {
     if o.depth == 0 {
         return o;
@@ -48,8 +49,8 @@ fn popped(o: Open) -> Open
 
 // The brackets after a change: 0 none, 1 and 2 one more, 3 one less.
 pub fn changed_by(o: Open, change: u8) -> Open
-    requires { ⌜ (o .bits < 2 ^ 62) × (o .depth < 62) × (change < 4) ⌝ }
-    ensures { λ r. ⌜ Changed o change r ⌝ }
+    requires { ⌜ Fits o × (o .depth < 62) × (change < 4) ⌝ }
+    ensures { λ r. ⌜ Turned o change r ⌝ }
 {
     if change == 0 {
         return o;

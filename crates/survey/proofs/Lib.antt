@@ -5,3 +5,4 @@ pub mod Numbered
 pub mod Watched
 pub mod Branches
 pub mod Ranges
+pub mod Bounded

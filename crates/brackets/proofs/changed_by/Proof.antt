@@ -12,7 +12,7 @@ use Rattle.brackets.proofs.changed_by.Tie as tie
 returns : tie.Need-returns
 returns c =
     let a = c .before .args in
-    ap (λ (n : ℕ). changed (changeAt n) (brackets (a .o))) (sym (c .if1 .taken))
+    record { brackets-are = ap (λ (n : ℕ). changed (changeAt n) (brackets (a .o))) (sym (c .if1 .taken)); fits = c .before .pre .0; deep = omega arith }
 
 pushed-requires : tie.Need-pushed-requires
 pushed-requires c κs = search needs
@@ -20,7 +20,8 @@ pushed-requires c κs = search needs
 returns-2 : tie.Need-returns-2
 returns-2 c =
     let a = c .before .before .before .args in
-    c .pushed .ensures ∙ ap (λ (n : ℕ). changed (changeAt n) (brackets (a .o))) (sym (c .before .if2 .taken))
+    let e = c .pushed .ensures in
+    record { brackets-are = e .brackets-are ∙ ap (λ (n : ℕ). changed (changeAt n) (brackets (a .o))) (sym (c .before .if2 .taken)); fits = e .fits; deep = e .deep }
 
 pushed-requires-2 : tie.Need-pushed-requires-2
 pushed-requires-2 c κs = search needs
@@ -28,7 +29,8 @@ pushed-requires-2 c κs = search needs
 returns-3 : tie.Need-returns-3
 returns-3 c =
     let a = c .before .before .before .before .args in
-    c .pushed2 .ensures ∙ ap (λ (n : ℕ). changed (changeAt n) (brackets (a .o))) (sym (c .before .if3 .taken))
+    let e = c .pushed2 .ensures in
+    record { brackets-are = e .brackets-are ∙ ap (λ (n : ℕ). changed (changeAt n) (brackets (a .o))) (sym (c .before .if3 .taken)); fits = e .fits; deep = e .deep }
 
 popped-requires : tie.Need-popped-requires
 popped-requires c κs = search needs
@@ -38,7 +40,8 @@ returns-4 c =
     let a = c .before .before .before .before .args in
     let start = c .before .before .before .before in
     let last : 3 ≡ a .change = omega (arith, start .pre .2) in
-    c .popped .ensures ∙ ap (λ (n : ℕ). changed (changeAt n) (brackets (a .o))) last
+    let e = c .popped .ensures in
+    record { brackets-are = e .brackets-are ∙ ap (λ (n : ℕ). changed (changeAt n) (brackets (a .o))) last; fits = e .fits; deep = e .deep }
 
 pub changed-by-spec : {M : Type 1} → statement M
 changed-by-spec =
