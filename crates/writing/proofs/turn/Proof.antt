@@ -8,7 +8,8 @@ use lib.ListN.{length, getD}
 use Rattle.sheet.specs.declared.kind.RowKind.the-variants.{Null, False, True, Number, Array, Object}
 use Rattle.placing.specs.Desk.{Desk}
 use Rattle.writing.specs.Reading.{Reading, deskOf}
-use Rattle.writing.proofs.Cases.{gap-going, null-going, true-going, false-going, array-going, object-going, array-end-going, object-end-going, array-room, object-room, array-open, object-open}
+use Rattle.writing.proofs.Cases.{gap-going, null-going, true-going, false-going}
+use Rattle.writing.proofs.Containers.{array-going, object-going, array-end-going, object-end-going, array-room, object-room, array-open, object-open}
 use Rattle.writing.proofs.Strings.{number-forward, number-going}
 use Rattle.writing.proofs.Ready.{ready-on}
 use Rattle.writing.proofs.Turns.{row-turn, open-turn, shut-turn, false-there}
@@ -21,17 +22,6 @@ shared-slice-read-byte c = search needs
 
 write-string-requires : tie.Need-write-string-requires
 write-string-requires c κs =
-    let a = c .before .before .before .before .before .before .before .before .before .before .before .args in
-    let json = a .json .now in
-    let i = a .spot .at in
-    let k = a .spot .level in
-    let st = a .spot .start in
-    let sz = a .spot .size in
-    let rows = a .rows .now in
-    let bytes = a .bytes .now in
-    let words = a .words .now in
-    let text = a .text .now in
-    let d : Desk = deskOf k st sz rows bytes words text in
     let s₀ = c .before .before .before .before .before .before .before .before .before .before .before .pre .0 in
     let ok = c .before .before .before .before .before .before .before .before .before .before .before .pre .1 .0 in
     let l = c .before .before .before .before .before .before .before .before .before .before .before .pre .1 .1 in
@@ -68,7 +58,6 @@ returns-2 c =
     let words = a .words .now in
     let text = a .text .now in
     let d : Desk = deskOf k st sz rows bytes words text in
-    let s₀ = c .before .before .before .before .before .before .before .before .pre .0 in
     let ok = c .before .before .before .before .before .before .before .before .pre .1 .0 in
     let l = c .before .before .before .before .before .before .before .before .pre .1 .1 in
     ((λ (s : Reading json i k). gap-going json i (a .n) d s (l .0) (omega arith) (c .before .if1 .left)), (ready-on (a .n) i k rows bytes words ok (i + 1) (omega arith), omega arith))
@@ -79,17 +68,7 @@ read-number-requires c κs = search needs
 write-row-requires : tie.Need-write-row-requires
 write-row-requires c κs =
     let a = c .before .before .before .before .before .before .before .before .before .before .before .before .args in
-    let json = a .json .now in
-    let i = a .spot .at in
     let k = a .spot .level in
-    let st = a .spot .start in
-    let sz = a .spot .size in
-    let rows = a .rows .now in
-    let bytes = a .bytes .now in
-    let words = a .words .now in
-    let text = a .text .now in
-    let d : Desk = deskOf k st sz rows bytes words text in
-    let s₀ = c .before .before .before .before .before .before .before .before .before .before .before .before .pre .0 in
     let ok = c .before .before .before .before .before .before .before .before .before .before .before .before .pre .1 .0 in
     let l = c .before .before .before .before .before .before .before .before .before .before .before .before .pre .1 .1 in
     (omega (arith, ok .low, ok .rows-long), ok .words-long, omega (arith, ok .rows-low k, l .0, l .1))
@@ -239,7 +218,6 @@ returns-6 c =
     let words = a .words .now in
     let text = a .text .now in
     let d : Desk = deskOf k st sz rows bytes words text in
-    let s₀ = c .before .before .before .before .before .before .before .before .before .before .before .before .before .before .before .before .before .pre .0 in
     let ok = c .before .before .before .before .before .before .before .before .before .before .before .before .before .before .before .before .before .pre .1 .0 in
     let l = c .before .before .before .before .before .before .before .before .before .before .before .before .before .before .before .before .before .pre .1 .1 in
     let e = c .before .before .close-row .ensures in shut-turn (a .n) i k st sz json rows bytes words text ok _ _ _ _ _ (e .0) (e .1) (λ (s : Reading json i k). array-end-going json i (a .n) d s (l .0) (c .before .before .before .before .before .if6 .taken))
@@ -281,7 +259,6 @@ returns-7 c =
     let words = a .words .now in
     let text = a .text .now in
     let d : Desk = deskOf k st sz rows bytes words text in
-    let s₀ = c .before .before .before .before .before .before .before .before .before .before .before .before .before .before .before .before .before .before .pre .0 in
     let ok = c .before .before .before .before .before .before .before .before .before .before .before .before .before .before .before .before .before .before .pre .1 .0 in
     let l = c .before .before .before .before .before .before .before .before .before .before .before .before .before .before .before .before .before .before .pre .1 .1 in
     let e = c .before .before .close-row2 .ensures in shut-turn (a .n) i k st sz json rows bytes words text ok _ _ _ _ _ (e .0) (e .1) (λ (s : Reading json i k). object-end-going json i (a .n) d s (l .0) (c .before .before .before .before .before .if7 .taken))
@@ -292,17 +269,7 @@ add-write-row c = search needs
 write-row-requires-2 : tie.Need-write-row-requires-2
 write-row-requires-2 c κs =
     let a = c .before .before .before .before .before .before .before .before .before .before .before .before .before .before .before .before .args in
-    let json = a .json .now in
-    let i = a .spot .at in
     let k = a .spot .level in
-    let st = a .spot .start in
-    let sz = a .spot .size in
-    let rows = a .rows .now in
-    let bytes = a .bytes .now in
-    let words = a .words .now in
-    let text = a .text .now in
-    let d : Desk = deskOf k st sz rows bytes words text in
-    let s₀ = c .before .before .before .before .before .before .before .before .before .before .before .before .before .before .before .before .pre .0 in
     let ok = c .before .before .before .before .before .before .before .before .before .before .before .before .before .before .before .before .pre .1 .0 in
     let l = c .before .before .before .before .before .before .before .before .before .before .before .before .before .before .before .before .pre .1 .1 in
     (omega (arith, ok .low, ok .rows-long), ok .words-long, omega (arith, ok .rows-low k, l .0, l .1))
@@ -326,7 +293,6 @@ returns-8 c =
     let words = a .words .now in
     let text = a .text .now in
     let d : Desk = deskOf k st sz rows bytes words text in
-    let s₀ = c .before .before .before .before .before .before .before .before .before .before .before .before .before .before .before .before .before .before .before .before .before .pre .0 in
     let ok = c .before .before .before .before .before .before .before .before .before .before .before .before .before .before .before .before .before .before .before .before .before .pre .1 .0 in
     let l = c .before .before .before .before .before .before .before .before .before .before .before .before .before .before .before .before .before .before .before .before .before .pre .1 .1 in
     let e = c .before .before .before .before .write-row2 .ensures in row-turn (a .n) i k st sz json rows bytes words text ok Null 0 0 (i + 4) _ _ _ _ _ _ (e .0) (e .1 .0) (e .1 .1) (omega arith) (λ (s : Reading json i k). null-going json i (a .n) d s (l .0) (c .before .before .before .before .before .before .before .if8 .taken))
@@ -337,17 +303,7 @@ add-write-row-2 c = search needs
 write-row-requires-3 : tie.Need-write-row-requires-3
 write-row-requires-3 c κs =
     let a = c .before .before .before .before .before .before .before .before .before .before .before .before .before .before .before .before .before .args in
-    let json = a .json .now in
-    let i = a .spot .at in
     let k = a .spot .level in
-    let st = a .spot .start in
-    let sz = a .spot .size in
-    let rows = a .rows .now in
-    let bytes = a .bytes .now in
-    let words = a .words .now in
-    let text = a .text .now in
-    let d : Desk = deskOf k st sz rows bytes words text in
-    let s₀ = c .before .before .before .before .before .before .before .before .before .before .before .before .before .before .before .before .before .pre .0 in
     let ok = c .before .before .before .before .before .before .before .before .before .before .before .before .before .before .before .before .before .pre .1 .0 in
     let l = c .before .before .before .before .before .before .before .before .before .before .before .before .before .before .before .before .before .pre .1 .1 in
     (omega (arith, ok .low, ok .rows-long), ok .words-long, omega (arith, ok .rows-low k, l .0, l .1))
@@ -371,7 +327,6 @@ returns-9 c =
     let words = a .words .now in
     let text = a .text .now in
     let d : Desk = deskOf k st sz rows bytes words text in
-    let s₀ = c .before .before .before .before .before .before .before .before .before .before .before .before .before .before .before .before .before .before .before .before .before .before .pre .0 in
     let ok = c .before .before .before .before .before .before .before .before .before .before .before .before .before .before .before .before .before .before .before .before .before .before .pre .1 .0 in
     let l = c .before .before .before .before .before .before .before .before .before .before .before .before .before .before .before .before .before .before .before .before .before .before .pre .1 .1 in
     let e = c .before .before .before .before .write-row3 .ensures in row-turn (a .n) i k st sz json rows bytes words text ok True 0 0 (i + 4) _ _ _ _ _ _ (e .0) (e .1 .0) (e .1 .1) (omega arith) (λ (s : Reading json i k). true-going json i (a .n) d s (l .0) (c .before .before .before .before .before .before .before .if9 .taken))
@@ -382,17 +337,7 @@ add-write-row-3 c = search needs
 write-row-requires-4 : tie.Need-write-row-requires-4
 write-row-requires-4 c κs =
     let a = c .before .before .before .before .before .before .before .before .before .before .before .before .before .before .before .before .before .args in
-    let json = a .json .now in
-    let i = a .spot .at in
     let k = a .spot .level in
-    let st = a .spot .start in
-    let sz = a .spot .size in
-    let rows = a .rows .now in
-    let bytes = a .bytes .now in
-    let words = a .words .now in
-    let text = a .text .now in
-    let d : Desk = deskOf k st sz rows bytes words text in
-    let s₀ = c .before .before .before .before .before .before .before .before .before .before .before .before .before .before .before .before .before .pre .0 in
     let ok = c .before .before .before .before .before .before .before .before .before .before .before .before .before .before .before .before .before .pre .1 .0 in
     let l = c .before .before .before .before .before .before .before .before .before .before .before .before .before .before .before .before .before .pre .1 .1 in
     (omega (arith, ok .low, ok .rows-long), ok .words-long, omega (arith, ok .rows-low k, l .0, l .1))
@@ -416,7 +361,6 @@ returns-10 c =
     let words = a .words .now in
     let text = a .text .now in
     let d : Desk = deskOf k st sz rows bytes words text in
-    let s₀ = c .before .before .before .before .before .before .before .before .before .before .before .before .before .before .before .before .before .before .before .before .before .before .pre .0 in
     let ok = c .before .before .before .before .before .before .before .before .before .before .before .before .before .before .before .before .before .before .before .before .before .before .pre .1 .0 in
     let l = c .before .before .before .before .before .before .before .before .before .before .before .before .before .before .before .before .before .before .before .before .before .before .pre .1 .1 in
     let e = c .before .before .before .before .write-row4 .ensures in row-turn (a .n) i k st sz json rows bytes words text ok False 0 0 (i + 5) _ _ _ _ _ _ (e .0) (e .1 .0) (e .1 .1) (omega arith) (λ (s : Reading json i k). false-going json i (a .n) d s (l .0) (false-there (a .n) i k st sz json rows bytes words text ok s (l .0) (omega arith) (c .before .before .before .before .before .before .before .before .before .before .before .before .if4 .left) (c .before .before .before .before .before .before .before .before .before .before .before .if5 .left) (c .before .before .before .before .before .before .before .before .before .before .if6 .left) (c .before .before .before .before .before .before .before .before .before .if7 .left) (c .before .before .before .before .before .before .before .before .if8 .left) (c .before .before .before .before .before .before .before .if9 .left)))
