@@ -34,18 +34,18 @@ use Rattle.reader.proofs.Fresh.{FreshAfter, fresh-apart}
 not-none : {A : Type 0} {x : Fault} → some x ≡ none → A
 not-none e = absurd (let z : _≡_ {A = ℕ} 0 1 = cc in omega arith)
 
-fine : (b : Bool) (m : ℕ) (bs : List ℕ) (later : Option Fault) → orElse (cond b (some m) none) bs later ≡ none → (b ≡ false) × (later ≡ none)
+pub fine : (b : Bool) (m : ℕ) (bs : List ℕ) (later : Option Fault) → orElse (cond b (some m) none) bs later ≡ none → (b ≡ false) × (later ≡ none)
 fine true m bs later e = not-none e
 fine false m bs later e = (refl, e)
 
 -- a value that is not at fault
-record Fine (before : ℕ) (s : Start) (later : Option Fault) : Type 0 where
-  few : before ≡ rows-max → ⊥
-  narrow : s .amiss ≡ false
-  shallow : s .seen .level ≡ level-refused → ⊥
-  on : later ≡ none
+pub record Fine (before : ℕ) (s : Start) (later : Option Fault) : Type 0 where
+  pub few : before ≡ rows-max → ⊥
+  pub narrow : s .amiss ≡ false
+  pub shallow : s .seen .level ≡ level-refused → ⊥
+  pub on : later ≡ none
 
-fine-value : (before : ℕ) (s : Start) (bs : List ℕ) (later : Option Fault) → orElse (valueFault before s) bs later ≡ none → Fine before s later
+pub fine-value : (before : ℕ) (s : Start) (bs : List ℕ) (later : Option Fault) → orElse (valueFault before s) bs later ≡ none → Fine before s later
 unfolding valueFault
 fine-value before s bs later e = go (eqb before rows-max) (s .amiss) (eqb (s .seen .level) level-refused) refl refl refl e
   where
@@ -64,7 +64,7 @@ fine-value before s bs later e = go (eqb before rows-max) (s .amiss) (eqb (s .se
 -- ---- strings
 
 -- no escape of it is lone, and nothing is at fault in what follows
-string-clean : (w : ℕ) (s : Str) (k : ℕ) (rest : List ℕ) (later : List Start) (n : ℕ)
+pub string-clean : (w : ℕ) (s : Str) (k : ℕ) (rest : List ℕ) (later : List Start) (n : ℕ)
     → firstFault n (stringStarts w s k rest later) ≡ none
     → NoneLone w s × (firstFault n later ≡ none)
 unfolding stringStarts firstFault

@@ -1,4 +1,4 @@
--- What stands at a place of the text, by its first byte, and what is left behind it.
+-- What stands at a place of the text, by its first byte, and what is left behind white space, a comma or a word.
 -- Assumes nothing.
 use mathlib.Core.Bool.{Bool, true, false, cond}
 use mathlib.Core.List.{List, [], _∷_, _++_}
@@ -7,12 +7,12 @@ use mathlib.Core.Path.{_≡_, refl, sym, ap, _∙_}
 use Prim.Native.Nat.{ℕ, zero, suc, _+_, _-_, _*_, _≤_, _<_}
 use native.Mathlib.Omega.{arith}
 use lib.ListN.{length, getD, drop, length-drop}
-use Rattle.sheet.specs.declared.kind.RowKind.the-variants.{Null, False, True, Array, Object}
+use Rattle.sheet.specs.declared.kind.RowKind.the-variants.{Null, False, True}
 use Rattle.json.specs.Text.{Blank, space, tab, feed, return, blank, Digit, digit, digits, Whole, nought, from, whole, fraction, exponent, Number, minusIf, number, Str, pieces, Space, spaces}
 use Rattle.json.specs.Automaton.{square, curly}
 use Rattle.strings.proofs.Steps.{head-at}
 use Rattle.placing.specs.Lexemes.{Lexeme, gap, comma, a-null, a-true, a-false, num, str, nam, opens, shuts, spelled, spelling}
-use Rattle.placing.specs.Desk.{Desk, levels, rowed, opened, shut, acts}
+use Rattle.placing.specs.Desk.{Desk, rowed, acts}
 use Rattle.placing.specs.Fair.{Fair}
 use Rattle.writing.specs.Reading.{Reading, Going}
 
@@ -38,7 +38,7 @@ blank-low feed = omega arith
 blank-low return = omega arith
 
 -- bytes that go on from place i
-behind : (json : List ℕ) (i m b : ℕ) (l : List ℕ) → b ∷ l ≡ drop i json → i + 1 ≡ m → l ≡ drop m json
+pub behind : (json : List ℕ) (i m b : ℕ) (l : List ℕ) → b ∷ l ≡ drop i json → i + 1 ≡ m → l ≡ drop m json
 behind json i m b l e z = head-at json i b l e .others ∙ ap (λ (j : ℕ). drop j json) z
 
 module _ (json : List ℕ) (i : ℕ) where
@@ -150,155 +150,3 @@ module _ (json : List ℕ) (i : ℕ) where
         go (opens curly ∷ ls) e f = absurd (omega (arith, first-is (opens curly) (spelling ls) e))
         go (shuts square ∷ ls) e f = absurd (omega (arith, first-is (shuts square) (spelling ls) e))
         go (shuts curly ∷ ls) e f = absurd (omega (arith, first-is (shuts curly) (spelling ls) e))
-
-    pub array-going : byte ≡ 0x5B → Going n json i d s (i + 1) (opened n Array d)
-    unfolding spelling acts opened rowed
-    array-going here = go (s .lexemes) (s .spelled) (s .fair)
-      where
-        go : (ls : List Lexeme) (e : spelling ls ≡ drop i json) (f : Fair (d .level) ls) → Going n json i d (record { lexemes = ls; spelled = e; fair = f }) (i + 1) (opened n Array d)
-        go [] e f = nothing-left e inside
-        go (gap b ∷ ls) e f = absurd (omega (arith, first-is (gap b) (spelling ls) e))
-        go (comma ∷ ls) e f = absurd (omega (arith, first-is comma (spelling ls) e))
-        go (a-null ∷ ls) e f = absurd (omega (arith, first-is a-null (spelling ls) e))
-        go (a-true ∷ ls) e f = absurd (omega (arith, first-is a-true (spelling ls) e))
-        go (a-false ∷ ls) e f = absurd (omega (arith, first-is a-false (spelling ls) e))
-        go (num x ∷ ls) e f = absurd (omega (arith, first-is (num x) (spelling ls) e))
-        go (str x ∷ ls) e f = absurd (omega (arith, first-is (str x) (spelling ls) e))
-        go (nam x w ∷ ls) e f = absurd (omega (arith, first-is (nam x w) (spelling ls) e))
-        go (opens square ∷ ls) e f = record { left = record { lexemes = ls; spelled = behind json i (i + 1) 0x5B (spelling ls) e refl; fair = f .1 }; same = refl }
-        go (opens curly ∷ ls) e f = absurd (omega (arith, first-is (opens curly) (spelling ls) e))
-        go (shuts square ∷ ls) e f = absurd (omega (arith, first-is (shuts square) (spelling ls) e))
-        go (shuts curly ∷ ls) e f = absurd (omega (arith, first-is (shuts curly) (spelling ls) e))
-
-    pub object-going : byte ≡ 0x7B → Going n json i d s (i + 1) (opened n Object d)
-    unfolding spelling acts opened rowed
-    object-going here = go (s .lexemes) (s .spelled) (s .fair)
-      where
-        go : (ls : List Lexeme) (e : spelling ls ≡ drop i json) (f : Fair (d .level) ls) → Going n json i d (record { lexemes = ls; spelled = e; fair = f }) (i + 1) (opened n Object d)
-        go [] e f = nothing-left e inside
-        go (gap b ∷ ls) e f = absurd (omega (arith, first-is (gap b) (spelling ls) e))
-        go (comma ∷ ls) e f = absurd (omega (arith, first-is comma (spelling ls) e))
-        go (a-null ∷ ls) e f = absurd (omega (arith, first-is a-null (spelling ls) e))
-        go (a-true ∷ ls) e f = absurd (omega (arith, first-is a-true (spelling ls) e))
-        go (a-false ∷ ls) e f = absurd (omega (arith, first-is a-false (spelling ls) e))
-        go (num x ∷ ls) e f = absurd (omega (arith, first-is (num x) (spelling ls) e))
-        go (str x ∷ ls) e f = absurd (omega (arith, first-is (str x) (spelling ls) e))
-        go (nam x w ∷ ls) e f = absurd (omega (arith, first-is (nam x w) (spelling ls) e))
-        go (opens square ∷ ls) e f = absurd (omega (arith, first-is (opens square) (spelling ls) e))
-        go (opens curly ∷ ls) e f = record { left = record { lexemes = ls; spelled = behind json i (i + 1) 0x7B (spelling ls) e refl; fair = f .1 }; same = refl }
-        go (shuts square ∷ ls) e f = absurd (omega (arith, first-is (shuts square) (spelling ls) e))
-        go (shuts curly ∷ ls) e f = absurd (omega (arith, first-is (shuts curly) (spelling ls) e))
-
-    pub array-end-going : byte ≡ 0x5D → Going n json i d s (i + 1) (shut n d)
-    unfolding spelling acts shut
-    array-end-going here = go (s .lexemes) (s .spelled) (s .fair)
-      where
-        go : (ls : List Lexeme) (e : spelling ls ≡ drop i json) (f : Fair (d .level) ls) → Going n json i d (record { lexemes = ls; spelled = e; fair = f }) (i + 1) (shut n d)
-        go [] e f = nothing-left e inside
-        go (gap b ∷ ls) e f = absurd (omega (arith, first-is (gap b) (spelling ls) e))
-        go (comma ∷ ls) e f = absurd (omega (arith, first-is comma (spelling ls) e))
-        go (a-null ∷ ls) e f = absurd (omega (arith, first-is a-null (spelling ls) e))
-        go (a-true ∷ ls) e f = absurd (omega (arith, first-is a-true (spelling ls) e))
-        go (a-false ∷ ls) e f = absurd (omega (arith, first-is a-false (spelling ls) e))
-        go (num x ∷ ls) e f = absurd (omega (arith, first-is (num x) (spelling ls) e))
-        go (str x ∷ ls) e f = absurd (omega (arith, first-is (str x) (spelling ls) e))
-        go (nam x w ∷ ls) e f = absurd (omega (arith, first-is (nam x w) (spelling ls) e))
-        go (opens square ∷ ls) e f = absurd (omega (arith, first-is (opens square) (spelling ls) e))
-        go (opens curly ∷ ls) e f = absurd (omega (arith, first-is (opens curly) (spelling ls) e))
-        go (shuts square ∷ ls) e f = record { left = record { lexemes = ls; spelled = behind json i (i + 1) 0x5D (spelling ls) e refl; fair = f .1 }; same = refl }
-        go (shuts curly ∷ ls) e f = absurd (omega (arith, first-is (shuts curly) (spelling ls) e))
-
-    pub object-end-going : byte ≡ 0x7D → Going n json i d s (i + 1) (shut n d)
-    unfolding spelling acts shut
-    object-end-going here = go (s .lexemes) (s .spelled) (s .fair)
-      where
-        go : (ls : List Lexeme) (e : spelling ls ≡ drop i json) (f : Fair (d .level) ls) → Going n json i d (record { lexemes = ls; spelled = e; fair = f }) (i + 1) (shut n d)
-        go [] e f = nothing-left e inside
-        go (gap b ∷ ls) e f = absurd (omega (arith, first-is (gap b) (spelling ls) e))
-        go (comma ∷ ls) e f = absurd (omega (arith, first-is comma (spelling ls) e))
-        go (a-null ∷ ls) e f = absurd (omega (arith, first-is a-null (spelling ls) e))
-        go (a-true ∷ ls) e f = absurd (omega (arith, first-is a-true (spelling ls) e))
-        go (a-false ∷ ls) e f = absurd (omega (arith, first-is a-false (spelling ls) e))
-        go (num x ∷ ls) e f = absurd (omega (arith, first-is (num x) (spelling ls) e))
-        go (str x ∷ ls) e f = absurd (omega (arith, first-is (str x) (spelling ls) e))
-        go (nam x w ∷ ls) e f = absurd (omega (arith, first-is (nam x w) (spelling ls) e))
-        go (opens square ∷ ls) e f = absurd (omega (arith, first-is (opens square) (spelling ls) e))
-        go (opens curly ∷ ls) e f = absurd (omega (arith, first-is (opens curly) (spelling ls) e))
-        go (shuts square ∷ ls) e f = absurd (omega (arith, first-is (shuts square) (spelling ls) e))
-        go (shuts curly ∷ ls) e f = record { left = record { lexemes = ls; spelled = behind json i (i + 1) 0x7D (spelling ls) e refl; fair = f .1 }; same = refl }
-
-    pub array-room : byte ≡ 0x5B → d .level + 1 < levels
-    unfolding spelling
-    array-room here = go (s .lexemes) (s .spelled) (s .fair)
-      where
-        go : (ls : List Lexeme) (e : spelling ls ≡ drop i json) (f : Fair (d .level) ls) → d .level + 1 < levels
-        go [] e f = nothing-left e inside
-        go (gap b ∷ ls) e f = absurd (omega (arith, first-is (gap b) (spelling ls) e))
-        go (comma ∷ ls) e f = absurd (omega (arith, first-is comma (spelling ls) e))
-        go (a-null ∷ ls) e f = absurd (omega (arith, first-is a-null (spelling ls) e))
-        go (a-true ∷ ls) e f = absurd (omega (arith, first-is a-true (spelling ls) e))
-        go (a-false ∷ ls) e f = absurd (omega (arith, first-is a-false (spelling ls) e))
-        go (num x ∷ ls) e f = absurd (omega (arith, first-is (num x) (spelling ls) e))
-        go (str x ∷ ls) e f = absurd (omega (arith, first-is (str x) (spelling ls) e))
-        go (nam x w ∷ ls) e f = absurd (omega (arith, first-is (nam x w) (spelling ls) e))
-        go (opens square ∷ ls) e f = f .0
-        go (opens curly ∷ ls) e f = absurd (omega (arith, first-is (opens curly) (spelling ls) e))
-        go (shuts square ∷ ls) e f = absurd (omega (arith, first-is (shuts square) (spelling ls) e))
-        go (shuts curly ∷ ls) e f = absurd (omega (arith, first-is (shuts curly) (spelling ls) e))
-
-    pub object-room : byte ≡ 0x7B → d .level + 1 < levels
-    unfolding spelling
-    object-room here = go (s .lexemes) (s .spelled) (s .fair)
-      where
-        go : (ls : List Lexeme) (e : spelling ls ≡ drop i json) (f : Fair (d .level) ls) → d .level + 1 < levels
-        go [] e f = nothing-left e inside
-        go (gap b ∷ ls) e f = absurd (omega (arith, first-is (gap b) (spelling ls) e))
-        go (comma ∷ ls) e f = absurd (omega (arith, first-is comma (spelling ls) e))
-        go (a-null ∷ ls) e f = absurd (omega (arith, first-is a-null (spelling ls) e))
-        go (a-true ∷ ls) e f = absurd (omega (arith, first-is a-true (spelling ls) e))
-        go (a-false ∷ ls) e f = absurd (omega (arith, first-is a-false (spelling ls) e))
-        go (num x ∷ ls) e f = absurd (omega (arith, first-is (num x) (spelling ls) e))
-        go (str x ∷ ls) e f = absurd (omega (arith, first-is (str x) (spelling ls) e))
-        go (nam x w ∷ ls) e f = absurd (omega (arith, first-is (nam x w) (spelling ls) e))
-        go (opens square ∷ ls) e f = absurd (omega (arith, first-is (opens square) (spelling ls) e))
-        go (opens curly ∷ ls) e f = f .0
-        go (shuts square ∷ ls) e f = absurd (omega (arith, first-is (shuts square) (spelling ls) e))
-        go (shuts curly ∷ ls) e f = absurd (omega (arith, first-is (shuts curly) (spelling ls) e))
-
-    pub array-open : byte ≡ 0x5D → 0 < d .level
-    unfolding spelling
-    array-open here = go (s .lexemes) (s .spelled) (s .fair)
-      where
-        go : (ls : List Lexeme) (e : spelling ls ≡ drop i json) (f : Fair (d .level) ls) → 0 < d .level
-        go [] e f = nothing-left e inside
-        go (gap b ∷ ls) e f = absurd (omega (arith, first-is (gap b) (spelling ls) e))
-        go (comma ∷ ls) e f = absurd (omega (arith, first-is comma (spelling ls) e))
-        go (a-null ∷ ls) e f = absurd (omega (arith, first-is a-null (spelling ls) e))
-        go (a-true ∷ ls) e f = absurd (omega (arith, first-is a-true (spelling ls) e))
-        go (a-false ∷ ls) e f = absurd (omega (arith, first-is a-false (spelling ls) e))
-        go (num x ∷ ls) e f = absurd (omega (arith, first-is (num x) (spelling ls) e))
-        go (str x ∷ ls) e f = absurd (omega (arith, first-is (str x) (spelling ls) e))
-        go (nam x w ∷ ls) e f = absurd (omega (arith, first-is (nam x w) (spelling ls) e))
-        go (opens square ∷ ls) e f = absurd (omega (arith, first-is (opens square) (spelling ls) e))
-        go (opens curly ∷ ls) e f = absurd (omega (arith, first-is (opens curly) (spelling ls) e))
-        go (shuts square ∷ ls) e f = f .0
-        go (shuts curly ∷ ls) e f = absurd (omega (arith, first-is (shuts curly) (spelling ls) e))
-
-    pub object-open : byte ≡ 0x7D → 0 < d .level
-    unfolding spelling
-    object-open here = go (s .lexemes) (s .spelled) (s .fair)
-      where
-        go : (ls : List Lexeme) (e : spelling ls ≡ drop i json) (f : Fair (d .level) ls) → 0 < d .level
-        go [] e f = nothing-left e inside
-        go (gap b ∷ ls) e f = absurd (omega (arith, first-is (gap b) (spelling ls) e))
-        go (comma ∷ ls) e f = absurd (omega (arith, first-is comma (spelling ls) e))
-        go (a-null ∷ ls) e f = absurd (omega (arith, first-is a-null (spelling ls) e))
-        go (a-true ∷ ls) e f = absurd (omega (arith, first-is a-true (spelling ls) e))
-        go (a-false ∷ ls) e f = absurd (omega (arith, first-is a-false (spelling ls) e))
-        go (num x ∷ ls) e f = absurd (omega (arith, first-is (num x) (spelling ls) e))
-        go (str x ∷ ls) e f = absurd (omega (arith, first-is (str x) (spelling ls) e))
-        go (nam x w ∷ ls) e f = absurd (omega (arith, first-is (nam x w) (spelling ls) e))
-        go (opens square ∷ ls) e f = absurd (omega (arith, first-is (opens square) (spelling ls) e))
-        go (opens curly ∷ ls) e f = absurd (omega (arith, first-is (opens curly) (spelling ls) e))
-        go (shuts square ∷ ls) e f = absurd (omega (arith, first-is (shuts square) (spelling ls) e))
-        go (shuts curly ∷ ls) e f = f .0

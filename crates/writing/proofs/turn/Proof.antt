@@ -8,7 +8,8 @@ use lib.ListN.{length, getD}
 use Rattle.sheet.specs.declared.kind.RowKind.the-variants.{Null, False, True, Number, Array, Object}
 use Rattle.placing.specs.Desk.{Desk}
 use Rattle.writing.specs.Reading.{Reading, deskOf}
-use Rattle.writing.proofs.Cases.{gap-going, null-going, true-going, false-going, array-going, object-going, array-end-going, object-end-going, array-room, object-room, array-open, object-open}
+use Rattle.writing.proofs.Cases.{gap-going, null-going, true-going, false-going}
+use Rattle.writing.proofs.Containers.{array-going, object-going, array-end-going, object-end-going, array-room, object-room, array-open, object-open}
 use Rattle.writing.proofs.Strings.{number-forward, number-going}
 use Rattle.writing.proofs.Ready.{ready-on}
 use Rattle.writing.proofs.Turns.{row-turn, open-turn, shut-turn, false-there}
@@ -21,17 +22,6 @@ shared-slice-read-byte c = search needs
 
 write-string-requires : tie.Need-write-string-requires
 write-string-requires c κs =
-    let a = c .before .before .before .before .before .before .before .before .before .before .before .args in
-    let json = a .json .now in
-    let i = a .spot .at in
-    let k = a .spot .level in
-    let st = a .spot .start in
-    let sz = a .spot .size in
-    let rows = a .rows .now in
-    let bytes = a .bytes .now in
-    let words = a .words .now in
-    let text = a .text .now in
-    let d : Desk = deskOf k st sz rows bytes words text in
     let s₀ = c .before .before .before .before .before .before .before .before .before .before .before .pre .0 in
     let ok = c .before .before .before .before .before .before .before .before .before .before .before .pre .1 .0 in
     let l = c .before .before .before .before .before .before .before .before .before .before .before .pre .1 .1 in
@@ -58,20 +48,10 @@ add-t22 c = search needs
 returns-2 : tie.Need-returns-2
 returns-2 c =
     let a = c .before .before .before .before .before .before .before .before .args in
-    let json = a .json .now in
-    let i = a .spot .at in
-    let k = a .spot .level in
-    let st = a .spot .start in
-    let sz = a .spot .size in
-    let rows = a .rows .now in
-    let bytes = a .bytes .now in
-    let words = a .words .now in
-    let text = a .text .now in
-    let d : Desk = deskOf k st sz rows bytes words text in
-    let s₀ = c .before .before .before .before .before .before .before .before .pre .0 in
+    let d : Desk = deskOf (a .spot .level) (a .spot .start) (a .spot .size) (a .rows .now) (a .bytes .now) (a .words .now) (a .text .now) in
     let ok = c .before .before .before .before .before .before .before .before .pre .1 .0 in
     let l = c .before .before .before .before .before .before .before .before .pre .1 .1 in
-    ((λ (s : Reading json i k). gap-going json i (a .n) d s (l .0) (omega arith) (c .before .if1 .left)), (ready-on (a .n) i k rows bytes words ok (i + 1) (omega arith), omega arith))
+    ((λ (s : Reading (a .json .now) (a .spot .at) (a .spot .level)). gap-going (a .json .now) (a .spot .at) (a .n) d s (l .0) (omega arith) (c .before .if1 .left)), (ready-on (a .n) (a .spot .at) (a .spot .level) (a .rows .now) (a .bytes .now) (a .words .now) ok ((a .spot .at) + 1) (omega arith), omega arith))
 
 read-number-requires : tie.Need-read-number-requires
 read-number-requires c κs = search needs
@@ -79,20 +59,9 @@ read-number-requires c κs = search needs
 write-row-requires : tie.Need-write-row-requires
 write-row-requires c κs =
     let a = c .before .before .before .before .before .before .before .before .before .before .before .before .args in
-    let json = a .json .now in
-    let i = a .spot .at in
-    let k = a .spot .level in
-    let st = a .spot .start in
-    let sz = a .spot .size in
-    let rows = a .rows .now in
-    let bytes = a .bytes .now in
-    let words = a .words .now in
-    let text = a .text .now in
-    let d : Desk = deskOf k st sz rows bytes words text in
-    let s₀ = c .before .before .before .before .before .before .before .before .before .before .before .before .pre .0 in
     let ok = c .before .before .before .before .before .before .before .before .before .before .before .before .pre .1 .0 in
     let l = c .before .before .before .before .before .before .before .before .before .before .before .before .pre .1 .1 in
-    (omega (arith, ok .low, ok .rows-long), ok .words-long, omega (arith, ok .rows-low k, l .0, l .1))
+    (omega (arith, ok .low, ok .rows-long), ok .words-long, omega (arith, ok .rows-low (a .spot .level), l .0, l .1))
 
 same-length-5 : tie.Need-same-length-5
 same-length-5 c = search needs
@@ -103,38 +72,20 @@ same-length-6 c = search needs
 returns-3 : tie.Need-returns-3
 returns-3 c =
     let a = c .before .before .before .before .before .before .before .before .before .before .before .before .before .before .before .before .before .args in
-    let json = a .json .now in
-    let i = a .spot .at in
-    let k = a .spot .level in
-    let st = a .spot .start in
-    let sz = a .spot .size in
-    let rows = a .rows .now in
-    let bytes = a .bytes .now in
-    let words = a .words .now in
-    let text = a .text .now in
-    let d : Desk = deskOf k st sz rows bytes words text in
+    let d : Desk = deskOf (a .spot .level) (a .spot .start) (a .spot .size) (a .rows .now) (a .bytes .now) (a .words .now) (a .text .now) in
     let s₀ = c .before .before .before .before .before .before .before .before .before .before .before .before .before .before .before .before .before .pre .0 in
     let ok = c .before .before .before .before .before .before .before .before .before .before .before .before .before .before .before .before .before .pre .1 .0 in
     let l = c .before .before .before .before .before .before .before .before .before .before .before .before .before .before .before .before .before .pre .1 .1 in
-    let e = c .before .before .before .before .write-row .ensures in row-turn (a .n) i k st sz json rows bytes words text ok Number (c .before .before .before .before .before .before .before .read-number .result .word) (c .before .before .before .before .before .before .before .read-number .result .scale) (c .before .before .before .before .before .before .before .read-number .result .to) _ _ _ _ _ _ (e .0) (e .1 .0) (e .1 .1) (number-forward (a .n) json i d s₀ (l .0) (omega arith) (omega arith) _ _ _ (c .before .before .before .before .before .before .before .read-number .ensures)) (λ (s : Reading json i k). number-going (a .n) json i d s (l .0) (omega arith) (omega arith) _ _ _ (c .before .before .before .before .before .before .before .read-number .ensures))
+    let e = c .before .before .before .before .write-row .ensures in row-turn (a .n) (a .spot .at) (a .spot .level) (a .spot .start) (a .spot .size) (a .json .now) (a .rows .now) (a .bytes .now) (a .words .now) (a .text .now) ok Number (c .before .before .before .before .before .before .before .read-number .result .word) (c .before .before .before .before .before .before .before .read-number .result .scale) (c .before .before .before .before .before .before .before .read-number .result .to) _ _ _ _ _ _ (e .0) (e .1 .0) (e .1 .1) (number-forward (a .n) (a .json .now) (a .spot .at) d s₀ (l .0) (omega arith) (omega arith) _ _ _ (c .before .before .before .before .before .before .before .read-number .ensures)) (λ (s : Reading (a .json .now) (a .spot .at) (a .spot .level)). number-going (a .n) (a .json .now) (a .spot .at) d s (l .0) (omega arith) (omega arith) _ _ _ (c .before .before .before .before .before .before .before .read-number .ensures))
 
 open-row-requires : tie.Need-open-row-requires
 open-row-requires c κs =
     let a = c .before .before .before .before .before .before .before .before .before .before .before .before .args in
-    let json = a .json .now in
-    let i = a .spot .at in
-    let k = a .spot .level in
-    let st = a .spot .start in
-    let sz = a .spot .size in
-    let rows = a .rows .now in
-    let bytes = a .bytes .now in
-    let words = a .words .now in
-    let text = a .text .now in
-    let d : Desk = deskOf k st sz rows bytes words text in
+    let d : Desk = deskOf (a .spot .level) (a .spot .start) (a .spot .size) (a .rows .now) (a .bytes .now) (a .words .now) (a .text .now) in
     let s₀ = c .before .before .before .before .before .before .before .before .before .before .before .before .pre .0 in
     let ok = c .before .before .before .before .before .before .before .before .before .before .before .before .pre .1 .0 in
     let l = c .before .before .before .before .before .before .before .before .before .before .before .before .pre .1 .1 in
-    (omega (arith, array-room json i (a .n) d s₀ (l .0) (c .before .before .if4 .taken), ok .rows-long), ok .words-long, omega (arith, ok .rows-low k, l .0, l .1), omega (arith, l .0, l .1))
+    (omega (arith, array-room (a .json .now) (a .spot .at) (a .n) d s₀ (l .0) (c .before .before .if4 .taken), ok .rows-long), ok .words-long, omega (arith, ok .rows-low (a .spot .level), l .0, l .1), omega (arith, l .0, l .1))
 
 same-length-7 : tie.Need-same-length-7
 same-length-7 c = search needs
@@ -145,38 +96,20 @@ same-length-8 c = search needs
 returns-4 : tie.Need-returns-4
 returns-4 c =
     let a = c .before .before .before .before .before .before .before .before .before .before .before .before .before .before .before .before .before .args in
-    let json = a .json .now in
-    let i = a .spot .at in
-    let k = a .spot .level in
-    let st = a .spot .start in
-    let sz = a .spot .size in
-    let rows = a .rows .now in
-    let bytes = a .bytes .now in
-    let words = a .words .now in
-    let text = a .text .now in
-    let d : Desk = deskOf k st sz rows bytes words text in
+    let d : Desk = deskOf (a .spot .level) (a .spot .start) (a .spot .size) (a .rows .now) (a .bytes .now) (a .words .now) (a .text .now) in
     let s₀ = c .before .before .before .before .before .before .before .before .before .before .before .before .before .before .before .before .before .pre .0 in
     let ok = c .before .before .before .before .before .before .before .before .before .before .before .before .before .before .before .before .before .pre .1 .0 in
     let l = c .before .before .before .before .before .before .before .before .before .before .before .before .before .before .before .before .before .pre .1 .1 in
-    let e = c .before .before .before .before .open-row .ensures in open-turn (a .n) i k st sz json rows bytes words text ok Array _ _ _ _ _ _ (e .0) (e .1 .0) (e .1 .1) (array-room json i (a .n) d s₀ (l .0) (c .before .before .before .before .before .before .before .if4 .taken)) (λ (s : Reading json i k). array-going json i (a .n) d s (l .0) (c .before .before .before .before .before .before .before .if4 .taken))
+    let e = c .before .before .before .before .open-row .ensures in open-turn (a .n) (a .spot .at) (a .spot .level) (a .spot .start) (a .spot .size) (a .json .now) (a .rows .now) (a .bytes .now) (a .words .now) (a .text .now) ok Array _ _ _ _ _ _ (e .0) (e .1 .0) (e .1 .1) (array-room (a .json .now) (a .spot .at) (a .n) d s₀ (l .0) (c .before .before .before .before .before .before .before .if4 .taken)) (λ (s : Reading (a .json .now) (a .spot .at) (a .spot .level)). array-going (a .json .now) (a .spot .at) (a .n) d s (l .0) (c .before .before .before .before .before .before .before .if4 .taken))
 
 open-row-requires-2 : tie.Need-open-row-requires-2
 open-row-requires-2 c κs =
     let a = c .before .before .before .before .before .before .before .before .before .before .before .before .before .args in
-    let json = a .json .now in
-    let i = a .spot .at in
-    let k = a .spot .level in
-    let st = a .spot .start in
-    let sz = a .spot .size in
-    let rows = a .rows .now in
-    let bytes = a .bytes .now in
-    let words = a .words .now in
-    let text = a .text .now in
-    let d : Desk = deskOf k st sz rows bytes words text in
+    let d : Desk = deskOf (a .spot .level) (a .spot .start) (a .spot .size) (a .rows .now) (a .bytes .now) (a .words .now) (a .text .now) in
     let s₀ = c .before .before .before .before .before .before .before .before .before .before .before .before .before .pre .0 in
     let ok = c .before .before .before .before .before .before .before .before .before .before .before .before .before .pre .1 .0 in
     let l = c .before .before .before .before .before .before .before .before .before .before .before .before .before .pre .1 .1 in
-    (omega (arith, object-room json i (a .n) d s₀ (l .0) (c .before .before .if5 .taken), ok .rows-long), ok .words-long, omega (arith, ok .rows-low k, l .0, l .1), omega (arith, l .0, l .1))
+    (omega (arith, object-room (a .json .now) (a .spot .at) (a .n) d s₀ (l .0) (c .before .before .if5 .taken), ok .rows-long), ok .words-long, omega (arith, ok .rows-low (a .spot .level), l .0, l .1), omega (arith, l .0, l .1))
 
 same-length-9 : tie.Need-same-length-9
 same-length-9 c = search needs
@@ -187,38 +120,20 @@ same-length-10 c = search needs
 returns-5 : tie.Need-returns-5
 returns-5 c =
     let a = c .before .before .before .before .before .before .before .before .before .before .before .before .before .before .before .before .before .before .args in
-    let json = a .json .now in
-    let i = a .spot .at in
-    let k = a .spot .level in
-    let st = a .spot .start in
-    let sz = a .spot .size in
-    let rows = a .rows .now in
-    let bytes = a .bytes .now in
-    let words = a .words .now in
-    let text = a .text .now in
-    let d : Desk = deskOf k st sz rows bytes words text in
+    let d : Desk = deskOf (a .spot .level) (a .spot .start) (a .spot .size) (a .rows .now) (a .bytes .now) (a .words .now) (a .text .now) in
     let s₀ = c .before .before .before .before .before .before .before .before .before .before .before .before .before .before .before .before .before .before .pre .0 in
     let ok = c .before .before .before .before .before .before .before .before .before .before .before .before .before .before .before .before .before .before .pre .1 .0 in
     let l = c .before .before .before .before .before .before .before .before .before .before .before .before .before .before .before .before .before .before .pre .1 .1 in
-    let e = c .before .before .before .before .open-row2 .ensures in open-turn (a .n) i k st sz json rows bytes words text ok Object _ _ _ _ _ _ (e .0) (e .1 .0) (e .1 .1) (object-room json i (a .n) d s₀ (l .0) (c .before .before .before .before .before .before .before .if5 .taken)) (λ (s : Reading json i k). object-going json i (a .n) d s (l .0) (c .before .before .before .before .before .before .before .if5 .taken))
+    let e = c .before .before .before .before .open-row2 .ensures in open-turn (a .n) (a .spot .at) (a .spot .level) (a .spot .start) (a .spot .size) (a .json .now) (a .rows .now) (a .bytes .now) (a .words .now) (a .text .now) ok Object _ _ _ _ _ _ (e .0) (e .1 .0) (e .1 .1) (object-room (a .json .now) (a .spot .at) (a .n) d s₀ (l .0) (c .before .before .before .before .before .before .before .if5 .taken)) (λ (s : Reading (a .json .now) (a .spot .at) (a .spot .level)). object-going (a .json .now) (a .spot .at) (a .n) d s (l .0) (c .before .before .before .before .before .before .before .if5 .taken))
 
 close-row-requires : tie.Need-close-row-requires
 close-row-requires c κs =
     let a = c .before .before .before .before .before .before .before .before .before .before .before .before .before .before .args in
-    let json = a .json .now in
-    let i = a .spot .at in
-    let k = a .spot .level in
-    let st = a .spot .start in
-    let sz = a .spot .size in
-    let rows = a .rows .now in
-    let bytes = a .bytes .now in
-    let words = a .words .now in
-    let text = a .text .now in
-    let d : Desk = deskOf k st sz rows bytes words text in
+    let d : Desk = deskOf (a .spot .level) (a .spot .start) (a .spot .size) (a .rows .now) (a .bytes .now) (a .words .now) (a .text .now) in
     let s₀ = c .before .before .before .before .before .before .before .before .before .before .before .before .before .before .pre .0 in
     let ok = c .before .before .before .before .before .before .before .before .before .before .before .before .before .before .pre .1 .0 in
     let l = c .before .before .before .before .before .before .before .before .before .before .before .before .before .before .pre .1 .1 in
-    (array-open json i (a .n) d s₀ (l .0) (c .before .before .if6 .taken), omega (arith, ok .low, ok .rows-long), ok .words-long, omega (arith, l .0, l .1))
+    (array-open (a .json .now) (a .spot .at) (a .n) d s₀ (l .0) (c .before .before .if6 .taken), omega (arith, ok .low, ok .rows-long), ok .words-long, omega (arith, l .0, l .1))
 
 same-length-11 : tie.Need-same-length-11
 same-length-11 c = search needs
@@ -229,38 +144,19 @@ same-length-12 c = search needs
 returns-6 : tie.Need-returns-6
 returns-6 c =
     let a = c .before .before .before .before .before .before .before .before .before .before .before .before .before .before .before .before .before .args in
-    let json = a .json .now in
-    let i = a .spot .at in
-    let k = a .spot .level in
-    let st = a .spot .start in
-    let sz = a .spot .size in
-    let rows = a .rows .now in
-    let bytes = a .bytes .now in
-    let words = a .words .now in
-    let text = a .text .now in
-    let d : Desk = deskOf k st sz rows bytes words text in
-    let s₀ = c .before .before .before .before .before .before .before .before .before .before .before .before .before .before .before .before .before .pre .0 in
+    let d : Desk = deskOf (a .spot .level) (a .spot .start) (a .spot .size) (a .rows .now) (a .bytes .now) (a .words .now) (a .text .now) in
     let ok = c .before .before .before .before .before .before .before .before .before .before .before .before .before .before .before .before .before .pre .1 .0 in
     let l = c .before .before .before .before .before .before .before .before .before .before .before .before .before .before .before .before .before .pre .1 .1 in
-    let e = c .before .before .close-row .ensures in shut-turn (a .n) i k st sz json rows bytes words text ok _ _ _ _ _ (e .0) (e .1) (λ (s : Reading json i k). array-end-going json i (a .n) d s (l .0) (c .before .before .before .before .before .if6 .taken))
+    let e = c .before .before .close-row .ensures in shut-turn (a .n) (a .spot .at) (a .spot .level) (a .spot .start) (a .spot .size) (a .json .now) (a .rows .now) (a .bytes .now) (a .words .now) (a .text .now) ok _ _ _ _ _ (e .0) (e .1) (λ (s : Reading (a .json .now) (a .spot .at) (a .spot .level)). array-end-going (a .json .now) (a .spot .at) (a .n) d s (l .0) (c .before .before .before .before .before .if6 .taken))
 
 close-row-requires-2 : tie.Need-close-row-requires-2
 close-row-requires-2 c κs =
     let a = c .before .before .before .before .before .before .before .before .before .before .before .before .before .before .before .args in
-    let json = a .json .now in
-    let i = a .spot .at in
-    let k = a .spot .level in
-    let st = a .spot .start in
-    let sz = a .spot .size in
-    let rows = a .rows .now in
-    let bytes = a .bytes .now in
-    let words = a .words .now in
-    let text = a .text .now in
-    let d : Desk = deskOf k st sz rows bytes words text in
+    let d : Desk = deskOf (a .spot .level) (a .spot .start) (a .spot .size) (a .rows .now) (a .bytes .now) (a .words .now) (a .text .now) in
     let s₀ = c .before .before .before .before .before .before .before .before .before .before .before .before .before .before .before .pre .0 in
     let ok = c .before .before .before .before .before .before .before .before .before .before .before .before .before .before .before .pre .1 .0 in
     let l = c .before .before .before .before .before .before .before .before .before .before .before .before .before .before .before .pre .1 .1 in
-    (object-open json i (a .n) d s₀ (l .0) (c .before .before .if7 .taken), omega (arith, ok .low, ok .rows-long), ok .words-long, omega (arith, l .0, l .1))
+    (object-open (a .json .now) (a .spot .at) (a .n) d s₀ (l .0) (c .before .before .if7 .taken), omega (arith, ok .low, ok .rows-long), ok .words-long, omega (arith, l .0, l .1))
 
 same-length-13 : tie.Need-same-length-13
 same-length-13 c = search needs
@@ -271,20 +167,10 @@ same-length-14 c = search needs
 returns-7 : tie.Need-returns-7
 returns-7 c =
     let a = c .before .before .before .before .before .before .before .before .before .before .before .before .before .before .before .before .before .before .args in
-    let json = a .json .now in
-    let i = a .spot .at in
-    let k = a .spot .level in
-    let st = a .spot .start in
-    let sz = a .spot .size in
-    let rows = a .rows .now in
-    let bytes = a .bytes .now in
-    let words = a .words .now in
-    let text = a .text .now in
-    let d : Desk = deskOf k st sz rows bytes words text in
-    let s₀ = c .before .before .before .before .before .before .before .before .before .before .before .before .before .before .before .before .before .before .pre .0 in
+    let d : Desk = deskOf (a .spot .level) (a .spot .start) (a .spot .size) (a .rows .now) (a .bytes .now) (a .words .now) (a .text .now) in
     let ok = c .before .before .before .before .before .before .before .before .before .before .before .before .before .before .before .before .before .before .pre .1 .0 in
     let l = c .before .before .before .before .before .before .before .before .before .before .before .before .before .before .before .before .before .before .pre .1 .1 in
-    let e = c .before .before .close-row2 .ensures in shut-turn (a .n) i k st sz json rows bytes words text ok _ _ _ _ _ (e .0) (e .1) (λ (s : Reading json i k). object-end-going json i (a .n) d s (l .0) (c .before .before .before .before .before .if7 .taken))
+    let e = c .before .before .close-row2 .ensures in shut-turn (a .n) (a .spot .at) (a .spot .level) (a .spot .start) (a .spot .size) (a .json .now) (a .rows .now) (a .bytes .now) (a .words .now) (a .text .now) ok _ _ _ _ _ (e .0) (e .1) (λ (s : Reading (a .json .now) (a .spot .at) (a .spot .level)). object-end-going (a .json .now) (a .spot .at) (a .n) d s (l .0) (c .before .before .before .before .before .if7 .taken))
 
 add-write-row : tie.Need-add-write-row
 add-write-row c = search needs
@@ -292,20 +178,9 @@ add-write-row c = search needs
 write-row-requires-2 : tie.Need-write-row-requires-2
 write-row-requires-2 c κs =
     let a = c .before .before .before .before .before .before .before .before .before .before .before .before .before .before .before .before .args in
-    let json = a .json .now in
-    let i = a .spot .at in
-    let k = a .spot .level in
-    let st = a .spot .start in
-    let sz = a .spot .size in
-    let rows = a .rows .now in
-    let bytes = a .bytes .now in
-    let words = a .words .now in
-    let text = a .text .now in
-    let d : Desk = deskOf k st sz rows bytes words text in
-    let s₀ = c .before .before .before .before .before .before .before .before .before .before .before .before .before .before .before .before .pre .0 in
     let ok = c .before .before .before .before .before .before .before .before .before .before .before .before .before .before .before .before .pre .1 .0 in
     let l = c .before .before .before .before .before .before .before .before .before .before .before .before .before .before .before .before .pre .1 .1 in
-    (omega (arith, ok .low, ok .rows-long), ok .words-long, omega (arith, ok .rows-low k, l .0, l .1))
+    (omega (arith, ok .low, ok .rows-long), ok .words-long, omega (arith, ok .rows-low (a .spot .level), l .0, l .1))
 
 same-length-15 : tie.Need-same-length-15
 same-length-15 c = search needs
@@ -316,20 +191,10 @@ same-length-16 c = search needs
 returns-8 : tie.Need-returns-8
 returns-8 c =
     let a = c .before .before .before .before .before .before .before .before .before .before .before .before .before .before .before .before .before .before .before .before .before .args in
-    let json = a .json .now in
-    let i = a .spot .at in
-    let k = a .spot .level in
-    let st = a .spot .start in
-    let sz = a .spot .size in
-    let rows = a .rows .now in
-    let bytes = a .bytes .now in
-    let words = a .words .now in
-    let text = a .text .now in
-    let d : Desk = deskOf k st sz rows bytes words text in
-    let s₀ = c .before .before .before .before .before .before .before .before .before .before .before .before .before .before .before .before .before .before .before .before .before .pre .0 in
+    let d : Desk = deskOf (a .spot .level) (a .spot .start) (a .spot .size) (a .rows .now) (a .bytes .now) (a .words .now) (a .text .now) in
     let ok = c .before .before .before .before .before .before .before .before .before .before .before .before .before .before .before .before .before .before .before .before .before .pre .1 .0 in
     let l = c .before .before .before .before .before .before .before .before .before .before .before .before .before .before .before .before .before .before .before .before .before .pre .1 .1 in
-    let e = c .before .before .before .before .write-row2 .ensures in row-turn (a .n) i k st sz json rows bytes words text ok Null 0 0 (i + 4) _ _ _ _ _ _ (e .0) (e .1 .0) (e .1 .1) (omega arith) (λ (s : Reading json i k). null-going json i (a .n) d s (l .0) (c .before .before .before .before .before .before .before .if8 .taken))
+    let e = c .before .before .before .before .write-row2 .ensures in row-turn (a .n) (a .spot .at) (a .spot .level) (a .spot .start) (a .spot .size) (a .json .now) (a .rows .now) (a .bytes .now) (a .words .now) (a .text .now) ok Null 0 0 ((a .spot .at) + 4) _ _ _ _ _ _ (e .0) (e .1 .0) (e .1 .1) (omega arith) (λ (s : Reading (a .json .now) (a .spot .at) (a .spot .level)). null-going (a .json .now) (a .spot .at) (a .n) d s (l .0) (c .before .before .before .before .before .before .before .if8 .taken))
 
 add-write-row-2 : tie.Need-add-write-row-2
 add-write-row-2 c = search needs
@@ -337,20 +202,9 @@ add-write-row-2 c = search needs
 write-row-requires-3 : tie.Need-write-row-requires-3
 write-row-requires-3 c κs =
     let a = c .before .before .before .before .before .before .before .before .before .before .before .before .before .before .before .before .before .args in
-    let json = a .json .now in
-    let i = a .spot .at in
-    let k = a .spot .level in
-    let st = a .spot .start in
-    let sz = a .spot .size in
-    let rows = a .rows .now in
-    let bytes = a .bytes .now in
-    let words = a .words .now in
-    let text = a .text .now in
-    let d : Desk = deskOf k st sz rows bytes words text in
-    let s₀ = c .before .before .before .before .before .before .before .before .before .before .before .before .before .before .before .before .before .pre .0 in
     let ok = c .before .before .before .before .before .before .before .before .before .before .before .before .before .before .before .before .before .pre .1 .0 in
     let l = c .before .before .before .before .before .before .before .before .before .before .before .before .before .before .before .before .before .pre .1 .1 in
-    (omega (arith, ok .low, ok .rows-long), ok .words-long, omega (arith, ok .rows-low k, l .0, l .1))
+    (omega (arith, ok .low, ok .rows-long), ok .words-long, omega (arith, ok .rows-low (a .spot .level), l .0, l .1))
 
 same-length-17 : tie.Need-same-length-17
 same-length-17 c = search needs
@@ -361,20 +215,10 @@ same-length-18 c = search needs
 returns-9 : tie.Need-returns-9
 returns-9 c =
     let a = c .before .before .before .before .before .before .before .before .before .before .before .before .before .before .before .before .before .before .before .before .before .before .args in
-    let json = a .json .now in
-    let i = a .spot .at in
-    let k = a .spot .level in
-    let st = a .spot .start in
-    let sz = a .spot .size in
-    let rows = a .rows .now in
-    let bytes = a .bytes .now in
-    let words = a .words .now in
-    let text = a .text .now in
-    let d : Desk = deskOf k st sz rows bytes words text in
-    let s₀ = c .before .before .before .before .before .before .before .before .before .before .before .before .before .before .before .before .before .before .before .before .before .before .pre .0 in
+    let d : Desk = deskOf (a .spot .level) (a .spot .start) (a .spot .size) (a .rows .now) (a .bytes .now) (a .words .now) (a .text .now) in
     let ok = c .before .before .before .before .before .before .before .before .before .before .before .before .before .before .before .before .before .before .before .before .before .before .pre .1 .0 in
     let l = c .before .before .before .before .before .before .before .before .before .before .before .before .before .before .before .before .before .before .before .before .before .before .pre .1 .1 in
-    let e = c .before .before .before .before .write-row3 .ensures in row-turn (a .n) i k st sz json rows bytes words text ok True 0 0 (i + 4) _ _ _ _ _ _ (e .0) (e .1 .0) (e .1 .1) (omega arith) (λ (s : Reading json i k). true-going json i (a .n) d s (l .0) (c .before .before .before .before .before .before .before .if9 .taken))
+    let e = c .before .before .before .before .write-row3 .ensures in row-turn (a .n) (a .spot .at) (a .spot .level) (a .spot .start) (a .spot .size) (a .json .now) (a .rows .now) (a .bytes .now) (a .words .now) (a .text .now) ok True 0 0 ((a .spot .at) + 4) _ _ _ _ _ _ (e .0) (e .1 .0) (e .1 .1) (omega arith) (λ (s : Reading (a .json .now) (a .spot .at) (a .spot .level)). true-going (a .json .now) (a .spot .at) (a .n) d s (l .0) (c .before .before .before .before .before .before .before .if9 .taken))
 
 add-write-row-3 : tie.Need-add-write-row-3
 add-write-row-3 c = search needs
@@ -382,20 +226,9 @@ add-write-row-3 c = search needs
 write-row-requires-4 : tie.Need-write-row-requires-4
 write-row-requires-4 c κs =
     let a = c .before .before .before .before .before .before .before .before .before .before .before .before .before .before .before .before .before .args in
-    let json = a .json .now in
-    let i = a .spot .at in
-    let k = a .spot .level in
-    let st = a .spot .start in
-    let sz = a .spot .size in
-    let rows = a .rows .now in
-    let bytes = a .bytes .now in
-    let words = a .words .now in
-    let text = a .text .now in
-    let d : Desk = deskOf k st sz rows bytes words text in
-    let s₀ = c .before .before .before .before .before .before .before .before .before .before .before .before .before .before .before .before .before .pre .0 in
     let ok = c .before .before .before .before .before .before .before .before .before .before .before .before .before .before .before .before .before .pre .1 .0 in
     let l = c .before .before .before .before .before .before .before .before .before .before .before .before .before .before .before .before .before .pre .1 .1 in
-    (omega (arith, ok .low, ok .rows-long), ok .words-long, omega (arith, ok .rows-low k, l .0, l .1))
+    (omega (arith, ok .low, ok .rows-long), ok .words-long, omega (arith, ok .rows-low (a .spot .level), l .0, l .1))
 
 same-length-19 : tie.Need-same-length-19
 same-length-19 c = search needs
@@ -406,20 +239,10 @@ same-length-20 c = search needs
 returns-10 : tie.Need-returns-10
 returns-10 c =
     let a = c .before .before .before .before .before .before .before .before .before .before .before .before .before .before .before .before .before .before .before .before .before .before .args in
-    let json = a .json .now in
-    let i = a .spot .at in
-    let k = a .spot .level in
-    let st = a .spot .start in
-    let sz = a .spot .size in
-    let rows = a .rows .now in
-    let bytes = a .bytes .now in
-    let words = a .words .now in
-    let text = a .text .now in
-    let d : Desk = deskOf k st sz rows bytes words text in
-    let s₀ = c .before .before .before .before .before .before .before .before .before .before .before .before .before .before .before .before .before .before .before .before .before .before .pre .0 in
+    let d : Desk = deskOf (a .spot .level) (a .spot .start) (a .spot .size) (a .rows .now) (a .bytes .now) (a .words .now) (a .text .now) in
     let ok = c .before .before .before .before .before .before .before .before .before .before .before .before .before .before .before .before .before .before .before .before .before .before .pre .1 .0 in
     let l = c .before .before .before .before .before .before .before .before .before .before .before .before .before .before .before .before .before .before .before .before .before .before .pre .1 .1 in
-    let e = c .before .before .before .before .write-row4 .ensures in row-turn (a .n) i k st sz json rows bytes words text ok False 0 0 (i + 5) _ _ _ _ _ _ (e .0) (e .1 .0) (e .1 .1) (omega arith) (λ (s : Reading json i k). false-going json i (a .n) d s (l .0) (false-there (a .n) i k st sz json rows bytes words text ok s (l .0) (omega arith) (c .before .before .before .before .before .before .before .before .before .before .before .before .if4 .left) (c .before .before .before .before .before .before .before .before .before .before .before .if5 .left) (c .before .before .before .before .before .before .before .before .before .before .if6 .left) (c .before .before .before .before .before .before .before .before .before .if7 .left) (c .before .before .before .before .before .before .before .before .if8 .left) (c .before .before .before .before .before .before .before .if9 .left)))
+    let e = c .before .before .before .before .write-row4 .ensures in row-turn (a .n) (a .spot .at) (a .spot .level) (a .spot .start) (a .spot .size) (a .json .now) (a .rows .now) (a .bytes .now) (a .words .now) (a .text .now) ok False 0 0 ((a .spot .at) + 5) _ _ _ _ _ _ (e .0) (e .1 .0) (e .1 .1) (omega arith) (λ (s : Reading (a .json .now) (a .spot .at) (a .spot .level)). false-going (a .json .now) (a .spot .at) (a .n) d s (l .0) (false-there (a .n) (a .spot .at) (a .spot .level) (a .spot .start) (a .spot .size) (a .json .now) (a .rows .now) (a .bytes .now) (a .words .now) (a .text .now) ok s (l .0) (omega arith) (c .before .before .before .before .before .before .before .before .before .before .before .before .if4 .left) (c .before .before .before .before .before .before .before .before .before .before .before .if5 .left) (c .before .before .before .before .before .before .before .before .before .before .if6 .left) (c .before .before .before .before .before .before .before .before .before .if7 .left) (c .before .before .before .before .before .before .before .before .if8 .left) (c .before .before .before .before .before .before .before .if9 .left)))
 
 pub turn-spec : {M : Type 1} → statement M
 turn-spec =

@@ -23,14 +23,7 @@ abbrev μ-loop : tie.MeasureT-loop
 
 clear-rows-requires : tie.Need-clear-rows-requires Inv-loop μ-loop
 clear-rows-requires c κs =
-    let a = c .before .before .before .before .before .before .args in
-    let json = a .json .now in
-    let rows = a .rows .now in
-    let bytes = a .bytes .now in
-    let words = a .words .now in
-    let text = a .text .now in
     let w₀ = c .before .before .before .before .before .before .pre .0 in
-    let l = c .before .before .before .before .before .before .pre .1 in
     omega (arith, w₀ .words-fit)
 
 loop-holds : tie.Need-loop-holds Inv-loop μ-loop
@@ -42,7 +35,6 @@ loop-holds c =
     let words = a .words .now in
     let text = a .text .now in
     let w₀ = c .before .before .before .before .before .before .before .before .before .pre .0 in
-    let l = c .before .before .before .before .before .before .before .before .before .pre .1 in
     let e = c .before .before .clear-rows .ensures in ((λ (s : Reading json 0 0). going-none (a .n) json 0 (deskOf 0 0 0 rows bytes _ text) s), rw e (text-ready json (a .n) (a .size) rows bytes words text w₀), refl, refl, refl, refl)
 
 turn-requires : tie.Need-turn-requires Inv-loop μ-loop
@@ -55,22 +47,11 @@ turn-requires c κs =
     let text = a .text .now in
     let w₀ = c .before .before .before .before .before .before .before .before .before .before .before .before .before .before .before .before .pre .0 in
     let l = c .before .before .before .before .before .before .before .before .before .before .before .before .before .before .before .before .pre .1 in
-    let sp = c .before .before .before .before .before .before .loop .spot in
     let inv = c .before .before .before .before .before .before .loop .inv in
     (inv .0 (text-read json (a .n) (a .size) rows bytes words text w₀) .left, (inv .1, (c .before .before .before .before .if1 .taken, l .0)))
 
 loop-less : tie.Need-loop-less Inv-loop μ-loop
 loop-less c =
-    let a = c .before .before .before .before .before .before .before .before .before .before .before .before .before .before .before .before .before .before .before .before .before .before .before .before .before .args in
-    let json = a .json .now in
-    let rows = a .rows .now in
-    let bytes = a .bytes .now in
-    let words = a .words .now in
-    let text = a .text .now in
-    let w₀ = c .before .before .before .before .before .before .before .before .before .before .before .before .before .before .before .before .before .before .before .before .before .before .before .before .before .pre .0 in
-    let l = c .before .before .before .before .before .before .before .before .before .before .before .before .before .before .before .before .before .before .before .before .before .before .before .before .before .pre .1 in
-    let sp = c .before .before .before .before .before .before .before .before .before .before .before .before .before .before .before .loop .spot in
-    let inv = c .before .before .before .before .before .before .before .before .before .before .before .before .before .before .before .loop .inv in
     omega (arith, c .before .before .before .before .before .before .before .before .turn .ensures .1 .1, c .before .before .before .before .before .before .before .before .before .before .before .before .before .if1 .taken)
 
 loop-again : tie.Need-loop-again Inv-loop μ-loop
@@ -82,7 +63,6 @@ loop-again c =
     let words = a .words .now in
     let text = a .text .now in
     let w₀ = c .before .before .before .before .before .before .before .before .before .before .before .before .before .before .before .before .before .before .before .before .before .before .before .before .before .pre .0 in
-    let l = c .before .before .before .before .before .before .before .before .before .before .before .before .before .before .before .before .before .before .before .before .before .before .before .before .before .pre .1 in
     let sp = c .before .before .before .before .before .before .before .before .before .before .before .before .before .before .before .loop .spot in
     let inv = c .before .before .before .before .before .before .before .before .before .before .before .before .before .before .before .loop .inv in (
       (λ (s : Reading json 0 0). let g = inv .0 s in going-then (a .n) json 0 (deskOf 0 0 0 rows bytes _ text) s (sp .at) (deskOf (sp .level) (sp .start) (sp .size) (c .before .before .before .before .before .before .before .before .before .before .before .before .before .before .before .loop .rows) (c .before .before .before .before .before .before .before .before .before .before .before .before .before .before .before .loop .bytes) (c .before .before .before .before .before .before .before .before .before .before .before .before .before .before .before .loop .words) (c .before .before .before .before .before .before .before .before .before .before .before .before .before .before .before .loop .text)) g _ _ (c .before .before .before .before .before .before .before .before .turn .ensures .0 (g .left))),
@@ -95,43 +75,17 @@ loop-again c =
 
 finish-requires : tie.Need-finish-requires Inv-loop μ-loop
 finish-requires c κs =
-    let a = c .before .before .before .before .before .before .before .before .before .before .before .before .before .args in
-    let json = a .json .now in
-    let rows = a .rows .now in
-    let bytes = a .bytes .now in
-    let words = a .words .now in
-    let text = a .text .now in
     let w₀ = c .before .before .before .before .before .before .before .before .before .before .before .before .before .pre .0 in
     let l = c .before .before .before .before .before .before .before .before .before .before .before .before .before .pre .1 in
-    let sp = c .before .before .before .loop .spot in
-    let inv = c .before .before .before .loop .inv in
-    let cl : length (c .before .before .before .loop .words) ≡ length words = inv .4 ∙ ap length (c .before .before .before .before .before .before .clear-rows .ensures) ∙ cleared-long json (a .n) (a .size) rows bytes words text w₀ in (omega (arith, w₀ .words-fit), l .1)
+    (omega (arith, w₀ .words-fit), l .1)
 
 same-length : tie.Need-same-length Inv-loop μ-loop
 same-length c =
-    let a = c .before .before .before .before .before .before .before .before .before .before .before .before .before .before .before .before .args in
-    let json = a .json .now in
-    let rows = a .rows .now in
-    let bytes = a .bytes .now in
-    let words = a .words .now in
-    let text = a .text .now in
-    let w₀ = c .before .before .before .before .before .before .before .before .before .before .before .before .before .before .before .before .pre .0 in
-    let l = c .before .before .before .before .before .before .before .before .before .before .before .before .before .before .before .before .pre .1 in
-    let sp = c .before .before .before .before .before .before .loop .spot in
     let inv = c .before .before .before .before .before .before .loop .inv in
     inv .2
 
 same-length-2 : tie.Need-same-length-2 Inv-loop μ-loop
 same-length-2 c =
-    let a = c .before .before .before .before .before .before .before .before .before .before .before .before .before .before .before .before .args in
-    let json = a .json .now in
-    let rows = a .rows .now in
-    let bytes = a .bytes .now in
-    let words = a .words .now in
-    let text = a .text .now in
-    let w₀ = c .before .before .before .before .before .before .before .before .before .before .before .before .before .before .before .before .pre .0 in
-    let l = c .before .before .before .before .before .before .before .before .before .before .before .before .before .before .before .before .pre .1 in
-    let sp = c .before .before .before .before .before .before .loop .spot in
     let inv = c .before .before .before .before .before .before .loop .inv in
     inv .3
 
@@ -144,22 +98,11 @@ same-length-3 c =
     let words = a .words .now in
     let text = a .text .now in
     let w₀ = c .before .before .before .before .before .before .before .before .before .before .before .before .before .before .before .before .pre .0 in
-    let l = c .before .before .before .before .before .before .before .before .before .before .before .before .before .before .before .before .pre .1 in
-    let sp = c .before .before .before .before .before .before .loop .spot in
     let inv = c .before .before .before .before .before .before .loop .inv in
     let cl : length (c .before .before .before .before .before .before .loop .words) ≡ length words = inv .4 ∙ ap length (c .before .before .before .before .before .before .before .before .before .clear-rows .ensures) ∙ cleared-long json (a .n) (a .size) rows bytes words text w₀ in ap length (c .before .before .finish .ensures) ∙ finished-long (a .n) (a .size) (c .before .before .before .before .before .before .loop .words) ∙ cl
 
 same-length-4 : tie.Need-same-length-4 Inv-loop μ-loop
 same-length-4 c =
-    let a = c .before .before .before .before .before .before .before .before .before .before .before .before .before .before .before .before .args in
-    let json = a .json .now in
-    let rows = a .rows .now in
-    let bytes = a .bytes .now in
-    let words = a .words .now in
-    let text = a .text .now in
-    let w₀ = c .before .before .before .before .before .before .before .before .before .before .before .before .before .before .before .before .pre .0 in
-    let l = c .before .before .before .before .before .before .before .before .before .before .before .before .before .before .before .before .pre .1 in
-    let sp = c .before .before .before .before .before .before .loop .spot in
     let inv = c .before .before .before .before .before .before .loop .inv in
     inv .5
 
@@ -171,8 +114,6 @@ returns c =
     let bytes = a .bytes .now in
     let words = a .words .now in
     let text = a .text .now in
-    let w₀ = c .before .before .before .before .before .before .before .before .before .before .before .before .before .before .before .before .pre .0 in
-    let l = c .before .before .before .before .before .before .before .before .before .before .before .before .before .before .before .before .pre .1 in
     let sp = c .before .before .before .before .before .before .loop .spot in
     let inv = c .before .before .before .before .before .before .loop .inv in
     λ (w : Writable json (a .n) (a .size) rows bytes words text).

@@ -26,14 +26,7 @@ add-copy-string c = search needs
 cast-copy-string : tie.Need-cast-copy-string
 cast-copy-string c =
     let a = c .before .before .before .before .before .before .before .before .args in
-    let json = a .json .now in
-    let i = a .spot .at in
     let k = a .spot .level in
-    let rows = a .rows .now in
-    let bytes = a .bytes .now in
-    let words = a .words .now in
-    let text = a .text .now in
-    let d : Desk = deskOf k (a .spot .start) (a .spot .size) rows bytes words text in
     let ok = c .before .before .before .before .before .before .before .before .pre .1 .0 in
     let l = c .before .before .before .before .before .before .before .before .pre .1 .1 in
     omega (arith, ok .bytes-low k, l .0, l .1)
@@ -56,14 +49,7 @@ copy-string-requires c κs =
 cast-size : tie.Need-cast-size
 cast-size c =
     let a = c .before .before .before .before .before .before .before .before .before .before .before .args in
-    let json = a .json .now in
-    let i = a .spot .at in
     let k = a .spot .level in
-    let rows = a .rows .now in
-    let bytes = a .bytes .now in
-    let words = a .words .now in
-    let text = a .text .now in
-    let d : Desk = deskOf k (a .spot .start) (a .spot .size) rows bytes words text in
     let ok = c .before .before .before .before .before .before .before .before .before .before .before .pre .1 .0 in
     let l = c .before .before .before .before .before .before .before .before .before .before .before .pre .1 .1 in
     omega (arith, ok .bytes-low k, l .0, l .1)
@@ -79,9 +65,7 @@ sub-size c =
     let words = a .words .now in
     let text = a .text .now in
     let d : Desk = deskOf k (a .spot .start) (a .spot .size) rows bytes words text in
-    let ok = c .before .before .before .before .before .before .before .before .before .before .before .before .pre .1 .0 in
     let l = c .before .before .before .before .before .before .before .before .before .before .before .before .pre .1 .1 in
-    let r = c .before .before .before .copy-string .result in
     let c₀ = c .before .before .before .copy-string .ensures (string-at (a .n) json i d (c .before .before .before .before .before .before .before .before .before .before .before .before .pre .0) (l .0) (l .2)) in
     omega (arith, c₀ .size-is)
 
@@ -98,7 +82,6 @@ cast-size-2 c =
     let d : Desk = deskOf k (a .spot .start) (a .spot .size) rows bytes words text in
     let ok = c .before .before .before .before .before .before .before .before .before .before .before .before .pre .1 .0 in
     let l = c .before .before .before .before .before .before .before .before .before .before .before .before .pre .1 .1 in
-    let r = c .before .before .before .copy-string .result in
     let c₀ = c .before .before .before .copy-string .ensures (string-at (a .n) json i d (c .before .before .before .before .before .before .before .before .before .before .before .before .pre .0) (l .0) (l .2)) in
     omega (arith, ok .bytes-low k, l .0, l .1, c₀ .size-is, c₀ .within, c₀ .no-longer)
 
@@ -115,7 +98,6 @@ add-bytes c =
     let d : Desk = deskOf k (a .spot .start) (a .spot .size) rows bytes words text in
     let ok = c .before .before .before .before .before .before .before .before .before .before .before .before .pre .1 .0 in
     let l = c .before .before .before .before .before .before .before .before .before .before .before .before .pre .1 .1 in
-    let r = c .before .before .before .copy-string .result in
     let c₀ = c .before .before .before .copy-string .ensures (string-at (a .n) json i d (c .before .before .before .before .before .before .before .before .before .before .before .before .pre .0) (l .0) (l .2)) in
     omega (arith, ok .bytes-low k, l .0, l .1, c₀ .size-is, c₀ .within, c₀ .no-longer)
 
@@ -136,9 +118,7 @@ skip-requires c κs =
     let words = a .words .now in
     let text = a .text .now in
     let d : Desk = deskOf k (a .spot .start) (a .spot .size) rows bytes words text in
-    let ok = c .before .before .before .before .before .before .before .before .before .before .before .before .pre .1 .0 in
     let l = c .before .before .before .before .before .before .before .before .before .before .before .before .pre .1 .1 in
-    let r = c .before .before .before .copy-string .result in
     let c₀ = c .before .before .before .copy-string .ensures (string-at (a .n) json i d (c .before .before .before .before .before .before .before .before .before .before .before .before .pre .0) (l .0) (l .2)) in
     omega (arith, c₀ .within, l .1)
 
@@ -147,20 +127,7 @@ byte-at-requires c κs = search needs
 
 add-t24 : tie.Need-add-t24
 add-t24 c =
-    let a = c .before .before .before .before .before .before .before .before .before .before .before .before .before .before .before .args in
-    let json = a .json .now in
-    let i = a .spot .at in
-    let k = a .spot .level in
-    let rows = a .rows .now in
-    let bytes = a .bytes .now in
-    let words = a .words .now in
-    let text = a .text .now in
-    let d : Desk = deskOf k (a .spot .start) (a .spot .size) rows bytes words text in
-    let ok = c .before .before .before .before .before .before .before .before .before .before .before .before .before .before .before .pre .1 .0 in
-    let l = c .before .before .before .before .before .before .before .before .before .before .before .before .before .before .before .pre .1 .1 in
-    let r = c .before .before .before .before .before .before .copy-string .result in
-    let c₀ = c .before .before .before .before .before .before .copy-string .ensures (string-at (a .n) json i d (c .before .before .before .before .before .before .before .before .before .before .before .before .before .before .before .pre .0) (l .0) (l .2)) in
-    let b : getD json (c .before .before .skip .result) 0 ≡ 0x3A = sym (c .before .byte-at .ensures) ∙ c .if1 .taken in let m = byte-inside json (c .before .before .skip .result) (λ z. omega arith) in omega (arith, l .1)
+    let a = c .before .before .before .before .before .before .before .before .before .before .before .before .before .before .before .args in let json = a .json .now in let l = c .before .before .before .before .before .before .before .before .before .before .before .before .before .before .before .pre .1 .1 in let b : getD json (c .before .before .skip .result) 0 ≡ 0x3A = sym (c .before .byte-at .ensures) ∙ c .if1 .taken in let m = byte-inside json (c .before .before .skip .result) (λ z. omega (arith, b)) in omega (arith, m, l .1)
 
 same-length : tie.Need-same-length
 same-length c = search needs
@@ -195,18 +162,9 @@ returns c =
 take-row-requires : tie.Need-take-row-requires
 take-row-requires c κs =
     let a = c .before .before .before .before .before .before .before .before .before .before .before .before .before .before .before .before .before .args in
-    let json = a .json .now in
-    let i = a .spot .at in
     let k = a .spot .level in
-    let rows = a .rows .now in
-    let bytes = a .bytes .now in
-    let words = a .words .now in
-    let text = a .text .now in
-    let d : Desk = deskOf k (a .spot .start) (a .spot .size) rows bytes words text in
     let ok = c .before .before .before .before .before .before .before .before .before .before .before .before .before .before .before .before .before .pre .1 .0 in
     let l = c .before .before .before .before .before .before .before .before .before .before .before .before .before .before .before .before .before .pre .1 .1 in
-    let r = c .before .before .before .before .before .before .before .before .copy-string .result in
-    let c₀ = c .before .before .before .before .before .before .before .before .copy-string .ensures (string-at (a .n) json i d (c .before .before .before .before .before .before .before .before .before .before .before .before .before .before .before .before .before .pre .0) (l .0) (l .2)) in
     (omega (arith, ok .low, ok .rows-long), ok .words-long, omega (arith, ok .rows-low k, l .0, l .1))
 
 same-length-3 : tie.Need-same-length-3
