@@ -293,17 +293,20 @@ def check_archive(results):
 
 
 def deep_cases():
-    """32 levels, each judged by a chain of 32 schemas: 1,024 pairs are open at the deepest."""
+    """32 levels, each judged by a chain of 32 schemas: 1,024 pairs are open at the deepest. Once with an enum that every level
+    but the last fails, at which judging for the verdict only stops, and once without."""
     chain = [(34, s + 1, 0) for s in range(31)]
-    leaf = [(3, 0, 1), (10, 2 ** 32 - 999_999_999, 9), (14, 7, 9)]
+    tests = [(10, 2 ** 32 - 999_999_999, 9), (14, 7, 9)]
     last = (3, 999_999_999, 9, 30, 0, 1)
-    items = second.rules_of([(s, 1) for s in range(31)] + [(31, 4)], chain + leaf + [(44, 0, 0)], [(3, 1, 0)], b'p')
-    arrays = [(5, j + 1, 1, max(j - 1, 0), 0, 0) for j in range(31)]
-    yield 'items', second.record_of(arrays + [(*last[:4], 0, 0)], b'p'), b'p', items, b'p'
-    named = second.rules_of([(s, 1) for s in range(31)] + [(31, 5)],
-                            chain + leaf + [(40, 1, 1), (60, 0, 0)], [(3, 1, 0), (0, 1, 0)], b'p')
-    objects = [(6, j + 1, 1, max(j - 1, 0), 0, j > 0) for j in range(31)]
-    yield 'properties', second.record_of(objects + [last], b'p'), b'p', named, b'p'
+    arrays = [(5, j + 1, 1, max(j - 1, 0), 0, 0) for j in range(31)] + [(*last[:4], 0, 0)]
+    objects = [(6, j + 1, 1, max(j - 1, 0), 0, j > 0) for j in range(31)] + [last]
+    for end, enum, entries in ((', an enum failing', [(3, 0, 1)], [(3, 1, 0)]), ('', [], [])):
+        leaf = enum + tests
+        items = second.rules_of([(s, 1) for s in range(31)] + [(31, len(leaf) + 1)], chain + leaf + [(44, 0, 0)], entries, b'p')
+        yield 'items' + end, second.record_of(arrays, b'p'), b'p', items, b'p'
+        named = second.rules_of([(s, 1) for s in range(31)] + [(31, len(leaf) + 2)],
+                                chain + leaf + [(40, len(entries), 1), (60, 0, 0)], entries + [(0, 1, 0)], b'p')
+        yield 'properties' + end, second.record_of(objects, b'p'), b'p', named, b'p'
 
 
 def check_stack(results):
