@@ -3,7 +3,7 @@
 --     size-is          a character takes as many bytes
 -- Assumes nothing.
 use mathlib.Core.List.{List}
-use mathlib.Core.Logic.{⊎-elim}
+use mathlib.Core.Logic.{_≢_, ⊎-elim}
 use mathlib.Core.Path.{_≡_, ap, _∙_}
 use Prim.Native.Nat.{ℕ, _+_, _-_, _≤_, _<_}
 use native.Mathlib.Omega.{arith}
@@ -11,7 +11,7 @@ use borrow.Author.Tests.{le-leb, lt-leb, lt-ltb, le-ltb}
 use lib.ListN.{length}
 use Rattle.laws.proofs.Tests.{le-or-lt}
 use Rattle.json.specs.Utf8.{encode}
-use Rattle.json.specs.Text.{capital, small, Hex, decimal, letter, hex}
+use Rattle.json.specs.Text.{capital, small, Hex, decimal, letter, hex, Short, quote, backslash, slash, backspace, formFeed, lineFeed, carriageReturn, tabulator, short}
 use Rattle.json.specs.Value.{hexWorth}
 use Rattle.json.proofs.Strings.{encode-1, encode-2, encode-3, encode-4}
 use Rattle.escapes.specs.Escapes.{HexByte, hexAt, encodedSize}
@@ -39,6 +39,21 @@ hex-byte (decimal d) =
     record { low = omega arith; no-mark = λ (x : 0x39 < 0x30 + d .worth). omega arith; no-other = λ (x : 0x46 < 0x30 + d .worth). omega arith }
 hex-byte (letter capital k p) = record { low = omega arith; no-mark = λ (x : 0x39 < 0x41 + k). omega arith; no-other = λ (x : 0x46 < 0x41 + k). omega arith }
 hex-byte (letter small k p) = record { low = omega arith; no-mark = λ (x : 0x39 < 0x61 + k). omega arith; no-other = λ (x : 0x46 < 0x61 + k). omega arith }
+
+pub hex-small : (h : Hex) → hexWorth h < 16
+hex-small (decimal d) = omega (arith, d .small)
+hex-small (letter l k p) = omega arith
+
+-- no escape of one letter starts as one of four digits
+pub no-u : (m : Short) → short m ≢ 0x75
+no-u quote = λ e. omega arith
+no-u backslash = λ e. omega arith
+no-u slash = λ e. omega arith
+no-u backspace = λ e. omega arith
+no-u formFeed = λ e. omega arith
+no-u lineFeed = λ e. omega arith
+no-u carriageReturn = λ e. omega arith
+no-u tabulator = λ e. omega arith
 
 pub size-1 : (c : ℕ) → c < 0x80 → encodedSize c ≡ 1
 unfolding encodedSize

@@ -31,7 +31,7 @@ use Rattle.survey.specs.Watching.{noEscapes, found, withFigure, numeric,
 use Rattle.survey.specs.Told.{told, unnamed}
 use Rattle.survey.proofs.Orders.{stopping, going, stopped, stays, stays-stopped}
 use Rattle.survey.proofs.Strung.{verdict, frozen, still}
-use Rattle.survey.proofs.Still.{ending-still, whole-stay, digits-stay}
+use Rattle.survey.proofs.Still.{ending-still, whole-still, digits-still}
 
 pub eq-or-not : (a b : ℕ) → (a ≡ b) ⊎ (a ≢ b)
 eq-or-not a b = go (eqb a b) refl
@@ -216,13 +216,13 @@ module _ (ks : List Bracket) where
         go true i =
             let f : Watch = found 22 (suc (length (T.whole i end))) s in
             ap (whole-does watching stopping minus ks i end) (too-many 0x2D (T.whole i end) h (omega arith))
-            ∙ whole-stay watching stopping f (stays f (no (suc (length (T.whole i end))))) (stays-stopped f (no (suc (length (T.whole i end))))) minus ks i end
+            ∙ whole-still watching stopping f (stays f (no (suc (length (T.whole i end))))) (stays-stopped f (no (suc (length (T.whole i end))))) minus ks i end
         go false T.nought = too-many 0x30 end h (omega arith)
         go false (from d q ds) =
             let l : d .worth < 10 = d .small in
             let f : Watch = found 22 (suc (length (digits ds end))) s in
             ap (digits-do watching stopping whole ks ds end) (too-many (digit d) (digits ds end) h (omega arith))
-            ∙ digits-stay watching stopping f (stays f (no (suc (length (digits ds end))))) (stays-stopped f (no (suc (length (digits ds end))))) whole ks ds end
+            ∙ digits-still watching stopping f (stays f (no (suc (length (digits ds end))))) (stays-stopped f (no (suc (length (digits ds end))))) whole ks ds end
 
     number-over : (n : Number) (rest : List ℕ) → s .values ≡ rows-max → number-does watching stopping ks n rest s ≡ found 22 (length (number n rest)) s
     unfolding number-does

@@ -1,5 +1,5 @@
 -- What no byte moves, no part of a tree moves.
---     value-still, elements-still, members-still, string-still, number-still
+--     digits-still, whole-still, ending-still, pieces-still, string-still, value-still, elements-still, members-still
 -- Assumes nothing.
 use mathlib.Core.Bool.{Bool, true, false}
 use mathlib.Core.List.{List, [], _∷_, _++_}
@@ -16,7 +16,7 @@ use Rattle.json.proofs.Doing.{digits-do, digits1-do, whole-does, whole-end, fra
 module _ {S : Type 0} (act : Act S) (finish : List Bracket → S → S) (s : S)
     (unmoved : (p : Place) (ks : List Bracket) (b : ℕ) (bs : List ℕ) → act p ks b bs s ≡ s)
     (kept : (ks : List Bracket) → finish ks s ≡ s) where
-  digits-still : (p : Place) (ks : List Bracket) (ds : List Digit) (rest : List ℕ) → digits-do act finish p ks ds rest s ≡ s
+  pub digits-still : (p : Place) (ks : List Bracket) (ds : List Digit) (rest : List ℕ) → digits-do act finish p ks ds rest s ≡ s
   unfolding digits-do
   digits-still p ks [] rest = refl
   digits-still p ks (d ∷ ds) rest = ap (digits-do act finish p ks ds rest) (unmoved p ks (digit d) (digits ds rest)) ∙ digits-still p ks ds rest
@@ -25,7 +25,7 @@ module _ {S : Type 0} (act : Act S) (finish : List Bracket → S → S) (s : S)
   digits1-still p q ks ds rest =
       ap (digits-do act finish q ks (ds .others) rest) (unmoved p ks (digit (ds .first)) (digits (ds .others) rest)) ∙ digits-still q ks (ds .others) rest
 
-  whole-still : (p : Place) (ks : List Bracket) (i : Whole) (rest : List ℕ) → whole-does act finish p ks i rest s ≡ s
+  pub whole-still : (p : Place) (ks : List Bracket) (i : Whole) (rest : List ℕ) → whole-does act finish p ks i rest s ≡ s
   whole-still p ks T.nought rest = unmoved p ks 0x30 rest
   whole-still p ks (from d q ds) rest = ap (digits-do act finish whole ks ds rest) (unmoved p ks (digit d) (digits ds rest)) ∙ digits-still whole ks ds rest
 
@@ -52,12 +52,6 @@ module _ {S : Type 0} (act : Act S) (finish : List Bracket → S → S) (s : S)
   -- the rest of a number whose first byte was read
   pub ending-still : (p : Place) (ks : List Bracket) (g : Fraction) (x : Exponent) (rest : List ℕ) → finish ks (tail-does act finish p ks g x rest s) ≡ s
   ending-still p ks g x rest = ap (finish ks) (tail-still p ks g x rest) ∙ kept ks
-
-  pub digits-stay : (p : Place) (ks : List Bracket) (ds : List Digit) (rest : List ℕ) → digits-do act finish p ks ds rest s ≡ s
-  digits-stay = digits-still
-
-  pub whole-stay : (p : Place) (ks : List Bracket) (i : Whole) (rest : List ℕ) → whole-does act finish p ks i rest s ≡ s
-  whole-stay = whole-still
 
   number-still : (ks : List Bracket) (n : Number) (rest : List ℕ) → number-does act finish ks n rest s ≡ s
   unfolding number-does

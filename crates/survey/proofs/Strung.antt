@@ -24,7 +24,7 @@ use Rattle.json.proofs.Strings.{spelled}
 use Rattle.json.proofs.Trimming.{by-zero}
 use Rattle.json.proofs.Doing.{tails-do, char-does, pieces-do, string-does}
 use Rattle.escapes.specs.Escapes.{hexAt}
-use Rattle.escapes.proofs.Escaped.{hex-read}
+use Rattle.escapes.proofs.Escaped.{hex-read, hex-small, no-u}
 use Rattle.reader.specs.Faults.{firstFault}
 use Rattle.survey.specs.declared.Escapes.{Escapes}
 use Rattle.survey.specs.declared.Watch.{Watch}
@@ -64,20 +64,6 @@ short-moves r ks m rest s e =
     ap (watching (escape r) ks (short m) rest) (going (text r) ks 0x5C (short m ∷ rest) s e)
     ∙ going (escape r) ks (short m) rest (slashed (suc (suc (length rest))) s) e
     ∙ rw (ne-eqb (short m) 0x75 (no-u m))
-  where
-    no-u : (m : Short) → short m ≢ 0x75
-    no-u quote = λ e. omega arith
-    no-u backslash = λ e. omega arith
-    no-u slash = λ e. omega arith
-    no-u backspace = λ e. omega arith
-    no-u formFeed = λ e. omega arith
-    no-u lineFeed = λ e. omega arith
-    no-u carriageReturn = λ e. omega arith
-    no-u tabulator = λ e. omega arith
-
-hex-small : (h : Hex) → hexWorth h < 16
-hex-small (T.decimal d) = omega (arith, d .small)
-hex-small (T.letter l k p) = omega arith
 
 -- where an escape of four digits starts
 abbrev unitLeft : Hex → Hex → Hex → Hex → List ℕ → ℕ

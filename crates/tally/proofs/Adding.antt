@@ -25,7 +25,7 @@ use Rattle.json.proofs.Strings.{spelled}
 use Rattle.json.proofs.Numbers.{Ending, Stops, at-nought, at-whole, at-part, at-power}
 use Rattle.json.proofs.Doing.{Waits, waits-ahead, waits-first, waits-after, waits-name, waits-first-name, waits-colon, Orderly, digits-do, digits1-do, whole-does, whole-end, fraction-does, fraction-end, signed-does, exponent-does, tail-does, minus-does, number-does, tails-do, char-does, pieces-do, string-does}
 use Rattle.escapes.specs.Escapes.{hexAt, encodedSize}
-use Rattle.escapes.proofs.Escaped.{hex-read, size-is}
+use Rattle.escapes.proofs.Escaped.{hex-read, hex-small, no-u, size-is}
 use Rattle.tally.specs.Tallying.{Tally, addAt, valueMore, nameMore, bytesMore, withCode, unitSize, counting, tallying}
 use Rattle.tally.proofs.Sizes.{strSize}
 
@@ -219,24 +219,10 @@ module _ (j : ℕ) where
           calmed = tails-high r (f .others) rest u;
         })
 
-    no-u : (m : Short) → short m ≢ 0x75
-    no-u quote = λ e. omega arith
-    no-u backslash = λ e. omega arith
-    no-u slash = λ e. omega arith
-    no-u backspace = λ e. omega arith
-    no-u formFeed = λ e. omega arith
-    no-u lineFeed = λ e. omega arith
-    no-u carriageReturn = λ e. omega arith
-    no-u tabulator = λ e. omega arith
-
     -- after an escape
     coded-more : (n : ℕ) (high : Bool) (c : ℕ) (s : Tally) → Adds 0 (hit (length ks) j n) s (bytesMore (length ks) n high (withCode c s))
     coded-more n high c s =
         record { values-long = refl; texts-long = add-long (s .texts) (length ks) n; values-more = λ h. omega arith; texts-more = λ h. add-at (s .texts) (length ks) j n h }
-
-    hex-small : (h : Hex) → hexWorth h < 16
-    hex-small (T.decimal d) = omega (arith, d .small)
-    hex-small (T.letter l k p) = omega arith
 
     -- the state after an escape of four digits
     unit-adds : (r : Role) (h i j′ l : Hex) (s : Tally) → (code : ℕ) → code ≡ ((0 % 0x1000 * 16 + hexAt (hex h)) % 0x1000 * 16 + hexAt (hex i)) % 0x1000 * 16 + hexAt (hex j′)

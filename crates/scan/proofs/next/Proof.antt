@@ -22,7 +22,7 @@ step-requires c κs = search needs
 returns : tie.Need-returns
 returns c =
     let a = c .before .before .before .before .before .args in
-    let ks = brackets (a .p .open) in
+    let ks = brackets (a .p .opened) in
     let r = c .before .before .around .result in
     dies refl (stepped-none (a .p .place) (a .byte) r ks (c .before .before .around .ensures) (sym (c .before .step .ensures) ∙ c .if1 .taken))
 
@@ -35,7 +35,7 @@ move-on-requires c κs = search needs
 returns-2 : tie.Need-returns-2
 returns-2 c =
     let a = c .before .before .before .before .before .before .before .args in
-    let ks : List Bracket = brackets (a .p .open) in
+    let ks : List Bracket = brackets (a .p .opened) in
     let r = c .before .before .before .before .around .result in
     let n : ℕ = c .before .before .before .step .result in
     let is = c .before .before .before .step .ensures in
