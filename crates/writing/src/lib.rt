@@ -20,11 +20,11 @@ use strings::copy_string;
 use text::Range;
 
 // A place of the text, how many brackets are open there, and the label that waits for its value.
-pub struct Spot {
-    pub at: usize,
-    pub level: usize,
-    pub start: u32,
-    pub size: u32,
+struct Spot {
+    at: usize,
+    level: usize,
+    start: u32,
+    size: u32,
 }
 
 // The first words of a row.
