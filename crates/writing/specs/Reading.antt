@@ -77,8 +77,6 @@ pub record Writable (json : List ℕ) (n room-for : ℕ) (rowStarts byteStarts w
   pub shallow : depth (tree (datumOf of)) < levels
   pub rows-start : Holds rowStarts (begin one (tokens (tree (datumOf of)))) levels
   pub bytes-start : Holds byteStarts (begin size (tokens (tree (datumOf of)))) levels
-  pub rows-low : Bounded rowStarts 65_536
-  pub bytes-low : Bounded byteStarts 65_536
   pub rows-many : n ≡ length (rows (tree (datumOf of)))
   pub bytes-many : room-for ≡ length (text (tree (datumOf of)))
   pub words-fit : row-words * n + 4 ≤ length words

@@ -20,11 +20,11 @@ use strings::copy_string;
 use text::Range;
 
 // A place of the text, how many brackets are open there, and the label that waits for its value.
-pub struct Spot {
-    pub at: usize,
-    pub level: usize,
-    pub start: u32,
-    pub size: u32,
+struct Spot {
+    at: usize,
+    level: usize,
+    start: u32,
+    size: u32,
 }
 
 // The first words of a row.
@@ -266,7 +266,7 @@ pub fn write_sheet(
     text: &mut [u8],
 )
     requires { ⌜ Writable (now json) n size (now rows) (now bytes) (now words) (now text) ⌝ }
-    requires { ⌜ (length (now json) ≤ 65_536) × (n < 65_536) ⌝ }
+    requires { ⌜ (length (now json) ≤ 65_536) × (n < 65_536) × (size ≤ 65_536) ⌝ }
     ensures { λ _. ⌜ ((w : Writable (now (json .entry)) n size (now (rows .entry)) (now (bytes .entry)) (now (words .entry)) (now (text .entry))) → Stands (w .of) (now (words .entry)) (now (text .entry)) (now (words .exit)) (now (text .exit))) ⌝ }
 {
     let many = n as usize;

@@ -35,7 +35,7 @@ loop-holds c =
     let words = a .words .now in
     let text = a .text .now in
     let w₀ = c .before .before .before .before .before .before .before .before .before .pre .0 in
-    let e = c .before .before .clear-rows .ensures in ((λ (s : Reading json 0 0). going-none (a .n) json 0 (deskOf 0 0 0 rows bytes _ text) s), rw e (text-ready json (a .n) (a .size) rows bytes words text w₀), refl, refl, refl, refl)
+    let e = c .before .before .clear-rows .ensures in ((λ (s : Reading json 0 0). going-none (a .n) json 0 (deskOf 0 0 0 rows bytes _ text) s), rw e (text-ready json (a .n) (a .size) rows bytes words text w₀ (omega (arith, (c .before .before .before .before .before .before .before .before .before .pre .1) .1)) ((c .before .before .before .before .before .before .before .before .before .pre .1) .2)), refl, refl, refl, refl)
 
 turn-requires : tie.Need-turn-requires Inv-loop μ-loop
 turn-requires c κs =
