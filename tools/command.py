@@ -50,7 +50,7 @@ def parser():
                       help='schema documents to be referred to by their $id')
     made.add_argument('-l', '--lines', action='store_true', help='every line of a RECORD file is a record')
     made.add_argument('-v', '--verbose', action='store_true', help='every cause, on a line each')
-    made.add_argument('-q', '--quiet', action='store_true', help='print nothing')
+    made.add_argument('-q', '--quiet', action='store_true', help='print nothing, and judge no more than the verdict needs')
     made.add_argument('--json', action='store_true', help="an object for each record, with the draft's output units")
     made.add_argument('--strict', action='store_true', help='what would be warned of in the schema is an error')
     made.add_argument('--version', action='version', version='amphorust %s (JSON Schema Draft 2020-12)' % VERSION)
@@ -116,7 +116,7 @@ def check_records(teller, judge, rules, sources):
 def check_record(teller, judge, rules, source):
     try:
         record = record_of(inputs.record_in(source))
-        answer = judge.judge(record.sheet)
+        answer = judge.verdict(record.sheet) if teller.quiet else judge.judge(record.sheet)
         refusals.refuse_record(answer, record)
     except CannotJudge as fault:
         teller.record_fault(source, fault)

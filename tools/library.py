@@ -16,7 +16,8 @@ ROWS_MAX, SCHEMAS_MAX, CLAUSES_MAX, ENTRIES_MAX, TEXT_MAX = 1024, 1024, 4096, 40
 ROOM_MAX = ROWS_MAX * SCHEMAS_MAX
 CELL_HELD, CELL_FAILED, CELL_MARKED = 1, 2, 4
 
-# word: 'valid' (of rules: in order), 'invalid' or 'refused', then with number and place; cells only of the invalid.
+# word: 'valid' (of rules: in order), 'invalid' or 'refused', then with number and place; cells only of the invalid that
+# were judged in whole.
 Answer = namedtuple('Answer', 'word number place cells', defaults=(None, None, None))
 
 
@@ -46,6 +47,7 @@ class Loaded:
         sheet = [ctypes.c_void_p, ctypes.c_size_t] * 2
         self.call('amphorust_check', sheet)
         self.call('amphorust_judge', sheet * 3)
+        self.call('amphorust_verdict', sheet * 2 + sheet[:2])
         self.cells, self.list = (ctypes.c_uint8 * ROOM_MAX)(), (ctypes.c_uint32 * ROOM_MAX)()
         self.schemas, self.rules = 0, ()
 
@@ -67,6 +69,10 @@ class Loaded:
         number = self.library.amphorust_judge(*lent(record), *self.rules, self.cells, ROOM_MAX, self.list, ROOM_MAX)
         return answer_in(number, lambda: bytes(memoryview(self.cells)[:sheets.rows(record) * self.schemas]))
 
+    def verdict(self, record):
+        """The same without the cells: no more is judged than the verdict needs."""
+        return answer_in(self.library.amphorust_verdict(*lent(record), *self.rules, self.cells, ROOM_MAX), lambda: None)
+
 
 def lent(sheet):
     """A sheet as a call takes it, its words where words may stand."""
@@ -77,7 +83,7 @@ def lent(sheet):
 class Worker:
     """The library in a process of its own: tools/worker.c says what is written and read."""
 
-    RULES, RECORD = 1, 2
+    RULES, RECORD, VERDICT = 1, 2, 3
 
     def __init__(self):
         try:
@@ -94,6 +100,9 @@ class Worker:
     def judge(self, record):
         number = self.asked(self.RECORD, record)
         return answer_in(number, lambda: self.read(sheets.rows(record) * self.schemas))
+
+    def verdict(self, record):
+        return answer_in(self.asked(self.VERDICT, record), lambda: None)
 
     def asked(self, what, sheet):
         try:

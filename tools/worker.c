@@ -4,6 +4,7 @@
  * A request is three words (what, how many words, how many bytes) and then a sheet, its words and its text:
  *     1  rules: they are kept, and the answer is that of amphorust_check
  *     2  a record: the answer is that of amphorust_judge by the rules kept, and for an invalid record the cells follow
+ *     3  a record: the answer is that of amphorust_verdict by the rules kept
  * The end of the input ends it, with 0; anything that is no request, with 1. */
 #include "amphorust.h"
 
@@ -76,11 +77,35 @@ static int answer_record(const uint32_t *request)
     return give(&answer, sizeof answer) && (!amphorust_is_invalid(answer) || give(cells, room));
 }
 
+static int answer_verdict(const uint32_t *request)
+{
+    if (!take_sheet(&record, request))
+        return 0;
+    uint64_t answer = amphorust_verdict(record.words, record.words_length, record.text, record.text_length,
+                                        rules.words, rules.words_length, rules.text, rules.text_length,
+                                        cells, AMPHORUST_ROOM_MAX);
+    return give(&answer, sizeof answer);
+}
+
+static int answered(const uint32_t *request)
+{
+    switch (request[0]) {
+    case 1:
+        return answer_rules(request);
+    case 2:
+        return answer_record(request);
+    case 3:
+        return answer_verdict(request);
+    default:
+        return 0;
+    }
+}
+
 int main(void)
 {
     uint32_t request[3];
     while (take(request, sizeof request)) {
-        if (!(request[0] == 1 ? answer_rules(request) : request[0] == 2 && answer_record(request)))
+        if (!answered(request))
             return 1;
     }
     return 0;
