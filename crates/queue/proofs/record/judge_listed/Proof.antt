@@ -2,6 +2,7 @@ use mathlib.Core.Path.{_≡_, sym, ap, _∙_}
 use native.Mathlib.Omega.{arith}
 use lib.ListN.{length}
 use Rattle.text.specs.Part.{fits}
+use Rattle.meaning.specs.Rules.{whole}
 use Rattle.number.proofs.Calls.{count-fits, call-told}
 use Rattle.queue.proofs.Turns.{called-listed}
 use Rattle.queue.proofs.Tables.{words-inside, text-inside}
@@ -36,7 +37,7 @@ judge-record-requires c κs = search needs
 
 number-of-requires : tie.Need-number-of-requires
 number-of-requires c κs =
-    count-fits _ _ _ _ _ _ (c .before .before .before .before .judge-record .result) (c .before .before .before .before .judge-record .ensures)
+    count-fits whole _ _ _ _ _ _ (c .before .before .before .before .judge-record .result) (c .before .before .before .before .judge-record .ensures)
 
 same-length : tie.Need-same-length
 same-length c = search needs
@@ -46,7 +47,7 @@ same-length-2 c = search needs
 
 returns : tie.Need-returns
 returns c =
-    called-listed (c .before .before .before .before .before .before .before .before .before .before .before .before .before .before .before .before .before .before .before .args .words .now) (c .before .before .before .before .before .before .before .before .before .before .before .before .before .before .before .before .before .before .before .args .bytes .now) (c .before .before .before .before .before .before .before .before .before .before .before .before .before .before .before .before .before .before .before .args .listing .now) (c .before .before .before .before .before .before .before .before .before .before .before .before .before .before .before .before .before .before .before .args .i) (c .before .before .before .before .before .before .before .before .before .before .words-of .ensures) (c .before .before .before .before .before .before .before .before .before .before .before .words-at .ensures) (c .before .before .before .before .before .before .before .before .bytes-of .ensures) (c .before .before .before .before .before .before .before .before .before .text-at .ensures) (call-told _ _ _ _ _ _ (c .before .before .before .before .before .judge-record .result) (c .before .before .before .before .before .judge-record .ensures) (c .number-of .ensures))
+    called-listed (c .before .before .before .before .before .before .before .before .before .before .before .before .before .before .before .before .before .before .before .args .words .now) (c .before .before .before .before .before .before .before .before .before .before .before .before .before .before .before .before .before .before .before .args .bytes .now) (c .before .before .before .before .before .before .before .before .before .before .before .before .before .before .before .before .before .before .before .args .listing .now) (c .before .before .before .before .before .before .before .before .before .before .before .before .before .before .before .before .before .before .before .args .i) (c .before .before .before .before .before .before .before .before .before .before .words-of .ensures) (c .before .before .before .before .before .before .before .before .before .before .before .words-at .ensures) (c .before .before .before .before .before .before .before .before .bytes-of .ensures) (c .before .before .before .before .before .before .before .before .before .text-at .ensures) (call-told whole _ _ _ _ _ _ (c .before .before .before .before .before .judge-record .result) (c .before .before .before .before .before .judge-record .ensures) (c .number-of .ensures))
 
 pub judge-listed-spec : {M : Type 1} → statement M
 judge-listed-spec =
