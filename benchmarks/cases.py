@@ -8,6 +8,7 @@ from collections import namedtuple
 
 from tools import records, schemas, sheets
 from tools.reading import read_json
+from tools.references import References
 
 # record and rules are sheets; schema and value are the JSON for rapidjson, None if it is not asked.
 Case = namedtuple('Case', 'name record rules schema value')
@@ -16,7 +17,7 @@ SAME = object()     # rapidjson is asked by the schema that we judge by
 
 def case(name, schema, value, draft4=SAME):
     """A case of JSON; draft4 says the same for rapidjson, or is None if that draft cannot."""
-    rules = schemas.rules_of(read_json(json.dumps(schema).encode()))
+    rules = schemas.rules_of(References(read_json(json.dumps(schema).encode())))
     record = records.record_of(read_json(json.dumps(value).encode()))
     return Case(name, record.sheet, rules.sheet, schema if draft4 is SAME else draft4, value)
 

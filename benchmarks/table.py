@@ -13,8 +13,8 @@ from tools import sheets
 LIMIT = 20      # seconds that a hostile case may take
 
 HEADING = '''The smallest times; both sheets are checked in each call, 'verdict' is the call for the verdict only, and
-'checks' is what the two checks take as calls of their own. rapidjson: its time as a multiple of ours, with its schema compiled and the record parsed
-beforehand, where draft 4 can say the case. Slopes: how the time grows from size to size, 1.0 in proportion,
+'checks' is what the two checks take as calls of their own. rapidjson: its time as a multiple of ours, with its
+schema compiled and the record parsed beforehand, where draft 4 can say the case. Slopes: how the time grows from size to size, 1.0 in proportion,
 2.0 by the square. Overlapping names: of {:,} bytes each, in {:,} bytes of text.
 '''
 
@@ -86,8 +86,12 @@ def multiple(one):
 
 
 def said(one):
+    return said_of(one.answer)
+
+
+def said_of(answer):
     """What is said of an answer that is not 'valid', which all cases but one should get."""
-    kind = one.answer % 256
+    kind = answer % 256
     return '' if kind == 0 else '  invalid' if kind == 1 else '  refused %d' % (kind - 10)
 
 
@@ -149,7 +153,7 @@ def print_queue(folder, case):
     print('\na queue of %d: %s, %s a record; in single calls %s (%.2f of it)%s%s' % (
         int(answer) // 256, case.name, duration(float(whole)), duration(float(single)), float(whole) / float(single),
         '' if theirs == '-' else '; rapidjson %s (%.1f times)' % (duration(float(theirs)), float(theirs) / float(whole)),
-        said(Measured(0, 0, int(last), 0, 0, None, False))))
+        said_of(int(last))))
 
 
 def main(folder):
