@@ -238,6 +238,6 @@ BAD_SCHEMAS = [
 ]
 
 # Keywords that assert and have no clause, with a value that says something.
-NO_CLAUSE = {'pattern': 'x', 'patternProperties': {'x': {}}, 'propertyNames': {}, 'uniqueItems': True, 'contains': {},
-             'if': {}, 'dependentSchemas': P, 'dependentRequired': P, 'dependencies': P, '$dynamicRef': '#x',
+NO_CLAUSE = {'pattern': 'x', 'patternProperties': {'x': {}}, 'propertyNames': {}, 'uniqueItems': True,
+             'dependencies': P, '$dynamicRef': '#x',
              '$recursiveRef': '#'}

@@ -19,20 +19,22 @@ LONGEST_TEXT = 65_535
 HIGHEST_LEVEL = 32
 LONGEST_CHAIN = 32
 
-# Codes of clauses whose first and count are a list of entries, with the fewest entries each may have.
-FEWEST_ENTRIES = {3: 1, 26: 0, 30: 1, 31: 1, 32: 1, 40: 0, 43: 1}
+# Codes of clauses whose first and count are a list of entries, with the fewest entries each may have,
+# and those that have exactly so many.
+FEWEST_ENTRIES = {3: 1, 26: 0, 30: 1, 31: 1, 32: 1, 36: 3, 37: 0, 40: 0, 43: 1, 45: 1}
+EXACTLY = (36, 45)
 NUMBER_CODES = (10, 11, 12, 13, 14)
 SIZE_CODES = (20, 21, 22, 23, 24, 25)
-UNGUARDED_CODES = (30, 31, 32, 33, 34)
-CHILD_CODES = (40, 42, 43, 44, 60, 61)
+UNGUARDED_CODES = (30, 31, 32, 33, 34, 36, 37)
+CHILD_CODES = (40, 42, 43, 44, 45, 60, 61)
 ONE_SCHEMA_CODES = (33, 34, 42, 44, 60, 61)
-SCHEMA_LIST_CODES = (30, 31, 32, 43)
-NAME_LIST_CODES = (26, 40)
+SCHEMA_LIST_CODES = (30, 31, 32, 36, 43)
+NAME_LIST_CODES = (26, 37, 40)
 
 # The kind of row a clause is about; codes not named here concern every type.
 CONCERNS = {code: kind for kind, codes in (
     (NUMBER, (10, 11, 12, 13, 14)), (STRING, (20, 21)),
-    (ARRAY, (22, 23, 43, 44, 61)), (OBJECT, (24, 25, 26, 40, 42, 60))) for code in codes}
+    (ARRAY, (22, 23, 43, 44, 45, 61)), (OBJECT, (24, 25, 26, 37, 40, 42, 60))) for code in codes}
 
 Row = namedtuple('Row', 'kind first count owner label_start label_length')
 Schema = namedtuple('Schema', 'first count')
@@ -272,7 +274,8 @@ def lowest_clause_fault(rules):
             return i
         if clause.code in FEWEST_ENTRIES:
             if (does_not_follow(clause, list_before, len(rules.entries))
-                    or clause.count < FEWEST_ENTRIES[clause.code]):
+                    or clause.count < FEWEST_ENTRIES[clause.code]
+                    or clause.code in EXACTLY and clause.count != FEWEST_ENTRIES[clause.code]):
                 return i
             list_before = clause
         elif clause_fields_are_bad(rules, clause):
@@ -286,6 +289,8 @@ def entry_is_bad(rules, code, entry):
         return not leaf_fits(*entry, rules.text)
     if code in SCHEMA_LIST_CODES:
         return entry[0] >= m or entry[1:] != (0, 0)
+    if code == 45:                          # least and most may be any word
+        return entry[0] >= m
     if not range_fits(entry[0], entry[1], rules.text):
         return True
     return entry[2] != 0 if code == 26 else entry[2] >= m
@@ -316,7 +321,7 @@ def lowest_layout_fault(rules):
 
 
 def lowest_repeated_name(rules):
-    """Refusal 7: the lowest entry of a 26 or 40 that an earlier one of the same clause equals."""
+    """Refusal 7: the lowest entry of a 26, 37 or 40 that an earlier one of the same clause equals."""
     for i in lists(rules):
         clause = rules.clauses[i]
         if clause.code not in NAME_LIST_CODES:
@@ -352,6 +357,8 @@ def unguarded_steps(rules, s):
     for clause in clauses_of(rules, s):
         if clause.code in (33, 34):
             reached.add(clause.first)
+        elif clause.code == 37:
+            reached.update(entry[2] for entry in entries_of(rules, clause))
         elif clause.code in UNGUARDED_CODES:
             reached.update(entry[0] for entry in entries_of(rules, clause))
     return reached
@@ -463,6 +470,15 @@ class Derivation:
             return [(j, entry[0]) for entry in entries_of(self.rules, clause)]
         if clause.code in (33, 34):
             return [(j, clause.first)]
+        if clause.code == 36:               # the condition, then the branch that it chooses
+            condition, then, otherwise = [(j, entry[0]) for entry in entries_of(self.rules, clause)]
+            return [condition, then if self.holds(condition) else otherwise]
+        if clause.code == 37:
+            names = [self.name(child) for child in children(self.rows, j)]
+            return [(j, entry[2]) for entry in entries_of(self.rules, clause) if entry_name(self.rules, entry) in names]
+        if clause.code == 45:
+            (schema, _, _), = entries_of(self.rules, clause)
+            return [(child, schema) for child in children(self.rows, j)]
         if clause.code == 40:
             return [(child, entry[2]) for entry in entries_of(self.rules, clause)
                     for child in children(self.rows, j)
@@ -494,9 +510,11 @@ class Derivation:
     # -- verdict and marks of a clause --
 
     def clause_marks(self, clause, pairs):
-        """30 to 34 pass on marks, 40 to 61 mark the children they apply to, others mark nothing."""
+        """30 to 37 pass on marks, 40 to 61 mark the children they apply to (45 those that hold), others mark nothing."""
         if clause.code in UNGUARDED_CODES:
             return frozenset().union(*[self.marks(pair) for pair in pairs])
+        if clause.code == 45:
+            return frozenset(pair[0] for pair in pairs if self.holds(pair))
         if clause.code in CHILD_CODES:
             return frozenset(child for child, _ in pairs)
         return frozenset()
@@ -512,6 +530,11 @@ class Derivation:
             return holding == 1
         if code == 33:
             return holding == 0
+        if code == 36:                      # the condition only chooses
+            return self.holds(pairs[1])
+        if code == 45:
+            (_, least, most), = entries_of(self.rules, clause)
+            return least <= holding <= most
         return holding == len(pairs)
 
     def assertion_holds(self, row, j, clause):

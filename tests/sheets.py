@@ -17,14 +17,14 @@ CODE = 0                                                   # a clause is code, F
 ARRAY, OBJECT = 5, 6
 LIMIT = 999_999_999
 
-FEWEST = {3: 1, 26: 0, 30: 1, 31: 1, 32: 1, 40: 0, 43: 1}  # list codes and their fewest entries
-ABOUT = {0: (2, 3, 31, 33), 1: (2, 3, 30, 32), 2: (2, 3, 31, 34),      # codes to be met on rows of a kind
-         3: (2, 2, 2, 3, 3, 3, 10, 11, 12, 13, 14, 10, 11, 12, 13, 14, 30, 31, 32, 33, 34),
-         4: (2, 3, 3, 20, 21, 20, 21, 30, 31, 32, 33, 34),
-         5: (2, 22, 23, 30, 31, 31, 32, 33, 34, 34, 43, 43, 43, 44, 61, 61, 61),
-         6: (2, 24, 25, 26, 30, 31, 31, 32, 33, 34, 34, 40, 40, 40, 40, 42, 60, 60, 60)}
-UNGUARDED = (30, 31, 32, 33, 34)
-CODES = (1, 2, 3, 10, 11, 12, 13, 14, 20, 21, 22, 23, 24, 25, 26, 30, 31, 32, 33, 34, 40, 42, 43, 44, 60, 61)
+FEWEST = {3: 1, 26: 0, 30: 1, 31: 1, 32: 1, 36: 3, 37: 0, 40: 0, 43: 1, 45: 1}  # list codes and their fewest entries
+ABOUT = {0: (2, 3, 31, 33, 36), 1: (2, 3, 30, 32, 36), 2: (2, 3, 31, 34, 36),      # codes to be met on rows of a kind
+         3: (2, 2, 2, 3, 3, 3, 10, 11, 12, 13, 14, 10, 11, 12, 13, 14, 30, 31, 32, 33, 34, 36),
+         4: (2, 3, 3, 20, 21, 20, 21, 30, 31, 32, 33, 34, 36),
+         5: (2, 22, 23, 30, 31, 31, 32, 33, 34, 34, 36, 36, 43, 43, 43, 44, 45, 45, 45, 61, 61, 61),
+         6: (2, 24, 25, 26, 30, 31, 31, 32, 33, 34, 34, 36, 36, 37, 37, 40, 40, 40, 40, 42, 60, 60, 60)}
+UNGUARDED = (30, 31, 32, 33, 34, 36, 37)
+CODES = (1, 2, 3, 10, 11, 12, 13, 14, 20, 21, 22, 23, 24, 25, 26, 30, 31, 32, 33, 34, 36, 37, 40, 42, 43, 44, 45, 60, 61)
 TYPE_BITS = {0: (1,), 1: (2,), 2: (2,), 3: (4, 4, 8), 4: (16,), 5: (32,), 6: (64,)}
 
 NAMES = (b'', b'a', b'b', b'ab', b'aa', b'ba', b'p', b'q', b'r', b'pq', b'\x00', b'\xc3\xa9', b'name')
@@ -246,10 +246,12 @@ class Writer:
             return [[self.inner(code, s), 0, 0] for _ in range(self.rng.choice((1, 2, 2, 3, 4)))]
         if code in (33, 34):
             return [self.inner(code, s), 0]
+        if code == 36:
+            return [[self.inner(code, s), 0, 0] for _ in range(3)]
         if code in (42, 44, 60, 61):
             return [self.outer(self.near(self.view[s])), 0]
         return {1: self.never, 2: self.types, 3: self.values, 14: self.factor, 26: self.required,
-                40: self.properties, 43: self.prefix}[code](s)
+                37: self.depending, 40: self.properties, 43: self.prefix, 45: self.counted}[code](s)
 
     def never(self, s):
         return [0, 0]
@@ -332,6 +334,17 @@ class Writer:
         names = self.names(s) + self.rng.sample(ABSENT, self.rng.choice((0, 0, 1)))
         return [[*self.text.place(name), self.outer(children.get(name, 0))] for name in dict.fromkeys(names)]
 
+    def depending(self, s):
+        names = self.names(s) + self.rng.sample(ABSENT, self.rng.choice((0, 0, 1)))
+        return [[*self.text.place(name), self.inner(37, s)] for name in dict.fromkeys(names)]
+
+    def counted(self, s):
+        """A schema for elements, with least and most about as many as there are."""
+        many = len(self.record.children(self.view[s]))
+        least = self.rng.choice((0, 0, 1, 1, 2, many, many + 1, WORD - 1))
+        most = self.rng.choice((WORD - 1, WORD - 1, many, many + 1, 1, 0))
+        return [[self.outer(self.near(self.view[s])), least, most]]
+
     def prefix(self, s):
         children = list(self.record.children(self.view[s])) or [self.view[s]]
         count = self.rng.randint(1, len(children) + 1)
@@ -357,7 +370,12 @@ def good_rules(rng, record, most=10, full=False):
 
 def add_step(rng, schema, t, code):
     """Let a schema reach schema t by an unguarded clause."""
-    if code in FEWEST:
+    if code == 36:
+        entries = schema.setdefault(code, [[t, 0, 0] for _ in range(3)])
+        entries[rng.randrange(3)] = [t, 0, 0]
+    elif code == 37:
+        schema[code] = [[0, 0, t]]
+    elif code in FEWEST:
         entries = schema.setdefault(code, [])
         entries.insert(rng.randint(0, len(entries)), [t, 0, 0])
     else:
@@ -537,7 +555,7 @@ RULE_DAMAGES = (
     ('schema length', 'schemas', any_one, shift(1, -1, 1)),
     ('schema end', 'schemas', any_one, compute(1, end_of_list(0, 'clauses'))),
     ('schema far off', 'schemas', any_one, put(0, WORD - 1, WORD // 2)),
-    ('unknown code', 'clauses', any_one, put(CODE, 0, 4, 9, 15, 19, 27, 29, 35, 39, 41, 45, 50, 59, 62, WORD - 1)),
+    ('unknown code', 'clauses', any_one, put(CODE, 0, 4, 9, 15, 19, 27, 29, 35, 38, 39, 41, 46, 50, 59, 62, WORD - 1)),
     ('another code', 'clauses', any_one, put(CODE, *CODES)),
     ('code equal or falling', 'clauses', follows_in_schema, compute(CODE, code_before)),
     ('first of never', 'clauses', of_code(1), put(FIRST, *ANYTHING)),
@@ -558,12 +576,14 @@ RULE_DAMAGES = (
     ('enum number bound', 'entries', enum_entry(3), put(FIRST, *BOUNDS)),
     ('enum number scale', 'entries', enum_entry(3), put(COUNT, *SCALES)),
     ('enum string range', 'entries', enum_entry(4), put_range(1)),
-    ('name range', 'entries', entry_of(26, 40), put_range(0)),
+    ('name range', 'entries', entry_of(26, 37, 40), put_range(0)),
     ('third word of required', 'entries', entry_of(26), put(2, *ANYTHING)),
-    ('schema of an entry', 'entries', entry_of(30, 31, 32, 43), compute(0, schema_numbers)),
-    ('schema beside a name', 'entries', entry_of(40), compute(2, schema_numbers)),
-    ('second word of a schema entry', 'entries', entry_of(30, 31, 32, 43), put(1, *ANYTHING)),
-    ('third word of a schema entry', 'entries', entry_of(30, 31, 32, 43), put(2, *ANYTHING)),
+    ('schema of an entry', 'entries', entry_of(30, 31, 32, 36, 43, 45), compute(0, schema_numbers)),
+    ('schema beside a name', 'entries', entry_of(37, 40), compute(2, schema_numbers)),
+    ('second word of a schema entry', 'entries', entry_of(30, 31, 32, 36, 43), put(1, *ANYTHING)),
+    ('third word of a schema entry', 'entries', entry_of(30, 31, 32, 36, 43), put(2, *ANYTHING)),
+    ('least and most of any number', 'entries', entry_of(45), put(1, *ANYTHING)),
+    ('most of any number', 'entries', entry_of(45), put(2, *ANYTHING)),
 )
 
 
@@ -685,7 +705,7 @@ def rule_ranges(sheet):
     found = []
     for code, first, count in sheet.clauses:
         entries = sheet.entries[first:first + count]
-        found += [(entry, 0) for entry in entries if code in (26, 40)]
+        found += [(entry, 0) for entry in entries if code in (26, 37, 40)]
         found += [(entry, 1) for entry in entries if code == 3 and entry[0] == 4]
     return found
 
@@ -731,8 +751,8 @@ def swap_clauses(rng, sheet):
 def retarget(rng, sheet):
     """Unguarded references now go anywhere, perhaps in a loop."""
     for code, first, count in sheet.clauses:
-        if code in UNGUARDED and code in FEWEST:
-            sheet.entries[first + rng.randrange(count)][0] = rng.randrange(len(sheet.schemas))
+        if code in UNGUARDED and code in FEWEST and count > 0:
+            sheet.entries[first + rng.randrange(count)][2 if code == 37 else 0] = rng.randrange(len(sheet.schemas))
     for clause in sheet.clauses:
         if clause[CODE] in (33, 34):
             clause[FIRST] = rng.randrange(len(sheet.schemas))

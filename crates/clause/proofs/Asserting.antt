@@ -18,16 +18,16 @@ use Rattle.rulesheet.specs.declared.clause.Entries.{Entries}
 use Rattle.rulesheet.specs.declared.clause.Clause.{Clause}
 use Rattle.rulesheet.specs.declared.clause.Clause.the-variants.{Never, Types, Enum, Minimum, Maximum, ExclusiveMinimum, ExclusiveMaximum, MultipleOf}
 use Rattle.rulesheet.specs.declared.clause.Clause.the-variants.{MinLength, MaxLength, MinItems, MaxItems, MinProperties, MaxProperties, Required}
-use Rattle.rulesheet.specs.declared.clause.Clause.the-variants.{AllOf, AnyOf, OneOf as Exactly, Not, Ref, Properties, AdditionalProperties, PrefixItems, Items, UnevaluatedProperties, UnevaluatedItems}
+use Rattle.rulesheet.specs.declared.clause.Clause.the-variants.{AllOf, AnyOf, OneOf as Exactly, Not, Ref, IfThenElse, DependentSchemas, Properties, AdditionalProperties, PrefixItems, Items, Contains, UnevaluatedProperties, UnevaluatedItems}
 use Rattle.rulesheet.specs.Ruleset.{Test, asserts}
-use Rattle.rulesheet.specs.Clauses.{clauseMeans, list, held, Bounded, Listed, Tested}
+use Rattle.rulesheet.specs.Clauses.{clauseMeans, list, held, Bounded, Listed, Sized, Tested}
 use Rattle.meaning.specs.Rules.{passes}
 use Rattle.clause.specs.declared.test.Tried.the-variants.{Passed}
 use Rattle.clause.specs.Read.{RulesRead, ListRead, Tries}
 
 -- the positions of the variants that apply schemas
 abbrev appliers : List ℕ
-appliers = 15 ∷ 16 ∷ 17 ∷ 18 ∷ 19 ∷ 20 ∷ 21 ∷ 22 ∷ 23 ∷ 24 ∷ 25 ∷ []
+appliers = 15 ∷ 16 ∷ 17 ∷ 18 ∷ 19 ∷ 20 ∷ 21 ∷ 22 ∷ 23 ∷ 24 ∷ 25 ∷ 26 ∷ 27 ∷ 28 ∷ []
 
 module _ (ws ts : List ℕ) where
   pub answered : (d : Doc) (j : ℕ) (clause variant : Clause) (s : Test) (ok : Bool) → clause ≡ variant → clauseMeans ws ts variant ≡ asserts s → ok ≡ passes d j s
@@ -55,16 +55,22 @@ module _ (ws ts : List ℕ) where
   no-test (Exactly es) k t e = let z : _≡_ {A = ℕ} 0 1 = cc in omega arith
   no-test (Not row) k t e = let z : _≡_ {A = ℕ} 0 1 = cc in omega arith
   no-test (Ref row) k t e = let z : _≡_ {A = ℕ} 0 1 = cc in omega arith
+  no-test (IfThenElse es) k t e = let z : _≡_ {A = ℕ} 0 1 = cc in omega arith
+  no-test (DependentSchemas es) k t e = let z : _≡_ {A = ℕ} 0 1 = cc in omega arith
   no-test (Properties es) k t e = let z : _≡_ {A = ℕ} 0 1 = cc in omega arith
   no-test (AdditionalProperties row) k t e = let z : _≡_ {A = ℕ} 0 1 = cc in omega arith
   no-test (PrefixItems es) k t e = let z : _≡_ {A = ℕ} 0 1 = cc in omega arith
   no-test (Items row) k t e = let z : _≡_ {A = ℕ} 0 1 = cc in omega arith
+  no-test (Contains es) k t e = let z : _≡_ {A = ℕ} 0 1 = cc in omega arith
   no-test (UnevaluatedProperties row) k t e = let z : _≡_ {A = ℕ} 0 1 = cc in omega arith
   no-test (UnevaluatedItems row) k t e = let z : _≡_ {A = ℕ} 0 1 = cc in omega arith
 
 module _ {ws ts : List ℕ} {form : RuleForm} {clause : Clause} (tested : Tested ws form clause) (rules : RulesRead ws ts form) (variant : Clause) (e : clause ≡ variant) where
   pub bounds : Bounded form (held variant)
   bounds = rw e at (tested .bounded (rules .laid .clauses-laid))
+
+  pub sizes : Sized (held variant)
+  sizes = rw e at (tested .sized (rules .laid .clauses-laid))
 
   pub list-read : (fields : Fields) (es : Entries) → held variant ≡ list fields es → ListRead ws form fields es
   list-read fields es h =

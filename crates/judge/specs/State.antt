@@ -19,7 +19,7 @@ use Rattle.meaning.specs.Settling.{samePair, listed, inTurn, settle, shown}
 use Rattle.meaning.specs.Fit.{Fit, Inside, rank}
 use Rattle.clause.specs.Read.{RecordRead, RulesRead}
 use Rattle.areas.specs.Cells.{cellAt, verd, Unsettled, bit, settledAs, column}
-use Rattle.areas.specs.Writers.{Writes, Marked, HandsOn}
+use Rattle.areas.specs.Writers.{Writes, Marked, handedOn, HandsOn}
 use Rattle.steps.specs.declared.turn.Turn.{Turn}
 use Rattle.steps.specs.Plan.{stepsOf, finishOf, stopsBy, afterMiss}
 use Rattle.steps.specs.Read.{Started}
@@ -216,17 +216,17 @@ pub record Turns (T : Case) (p : Pair) (i from : ℕ) (cells : List ℕ) : Type 
   pub room : T .n * T .m ≤ length cells
   pub unsettled : Unsettled (T .m) p cells
 
--- where it stands once its first x steps are taken
-abbrev pub TurnsTo : Case → Pair → ℕ → ℕ → List ℕ → Turn → Type 0
-TurnsTo T p i x cells r = Turned (T .doc) p (beforeOf T p i) (clauseAt T p i) x (column (T .m) cells (p .rule)) r
+-- where it stands once its first x steps are taken and t is carried
+abbrev pub TurnsTo : Case → Pair → ℕ → ℕ → ℕ → List ℕ → Turn → Type 0
+TurnsTo T p i x t cells r = Turned (T .doc) p (beforeOf T p i) (clauseAt T p i) x (column (T .m) cells (p .rule)) t r
 
--- what it says in the end, where `misses` of its steps applied a pair that failed
+-- what it says in the end, by what is carried
 abbrev pub finishAt : Case → Pair → ℕ → ℕ → Bool
-finishAt T p i misses = finishOf (T .doc) p (clauseAt T p i) (manySteps T p i - misses) (manySteps T p i)
+finishAt T p i tally = finishOf (T .doc) p (clauseAt T p i) tally
 
--- the step that it goes on with after one of its steps, where it stops or not by the misses
+-- the step that it goes on with after one of its steps, where it stops or not by what is carried
 abbrev pub nextAt : Case → Pair → ℕ → ℕ → ℕ → ℕ
-nextAt T p i step misses = cond (stopsBy (T .way) misses) (afterMiss (clauseAt T p i) step) (step + 1)
+nextAt T p i step tally = cond (stopsBy (T .way) tally) (afterMiss (clauseAt T p i) step) (step + 1)
 
 -- the marks of p may be written, those handed on by q, and only those of its row's children
 abbrev pub WritesMarks : Case → Pair → List ℕ → Type 0
@@ -234,6 +234,10 @@ WritesMarks T p cells = Writes (T .m) (firstKid T p) (kidCount T p) (p .rule) (p
 
 abbrev pub Hands : Case → Pair → Pair → List ℕ → Type 0
 Hands T p q cells = HandsOn (T .m) (firstKid T p) (kidCount T p) (p .row) (p .rule) (q .row) (q .rule) cells
+
+-- the marks of p once it has applied q: those handed on, or as they were
+unfoldable pub givenOn : Bool → ℕ → List ℕ → ℕ → ℕ → ℕ → ℕ → Marks
+givenOn keeps m cells row rule aimed from k = cond keeps (handedOn m cells row rule aimed from k) (column m cells rule k)
 
 abbrev pub MarksWritten : Case → Pair → Marks → (cells₀ cells : List ℕ) → Type 0
 MarksWritten T p κ cells₀ cells = Marked (T .m) (firstKid T p) (kidCount T p) (p .rule) κ cells₀ cells

@@ -18,7 +18,7 @@ use crate::read::RULES;
 use crate::read::clauses_of;
 use crate::read::finish;
 use crate::read::give;
-use crate::read::more;
+use crate::read::moved;
 use crate::read::next_clause;
 use crate::read::next_step;
 use crate::read::schemas_of;
@@ -120,20 +120,21 @@ fn judge_clause<'a, 'b>(
     ensures { λ r. ⌜ ClauseJudged (lentCase (now (sheets .entry)) (now (texts .entry)) (now (forms .entry))) (pairIs p) i (now (cells .entry)) (now (list .entry)) count (now (cells .exit)) (now (list .exit)) r ⌝ }
 {
     let from = start(sheets, texts, forms, p, i);
-    let mut misses = 0;
+    let mut tally = 0;
     let mut now = count;
     let mut x = 0;
     loop {
-        let at = turn(sheets, texts, forms, cells, p, i, from, x);
+        let at = turn(sheets, texts, forms, cells, p, i, from, x, tally);
         if !at.go {
             return Done {
-                ok: finish(sheets, texts, forms, p, i, misses),
+                ok: finish(sheets, texts, forms, p, i, tally),
                 count: now,
             };
         }
         now = apply(sheets, texts, forms, cells, list, now, at.pair);
-        misses = more(misses, verdict_of(forms, cells, at.pair) != 1);
-        give(sheets, texts, forms, cells, p, at.pair);
-        x = next_step(sheets, texts, forms, p, i, at.step, misses);
+        let held = verdict_of(forms, cells, at.pair) == 1;
+        tally = moved(at.hits, at.branch, at.step, tally, held);
+        give(sheets, texts, forms, cells, p, at.pair, !at.hits | held);
+        x = next_step(sheets, texts, forms, p, i, at.step, tally);
     }
 }

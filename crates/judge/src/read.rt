@@ -6,16 +6,17 @@
 // The contracts cite `specs/State.antt`.
 ghost use mathlib.Core.Path.{_≡_};
 ghost use mathlib.Core.Bool.{cond};
-ghost use Prim.Native.Nat.{_+_, _≤_, _<_};
+ghost use Prim.Native.Nat.{_+_, _<_};
 ghost use lib.ListN.{length, getD};
 ghost use Rattle.rulesheet.specs.Read.{RulesFormed};
 ghost use Rattle.rulesheet.specs.Sheet.{schemaAt};
-ghost use Rattle.areas.specs.Cells.{pairIs, cellAt, verd, Unsettled, plus};
-ghost use Rattle.areas.specs.Writers.{kept, handedOn};
+ghost use Rattle.areas.specs.Cells.{pairIs, cellAt, verd, Unsettled};
+ghost use Rattle.areas.specs.Writers.{kept};
 ghost use Rattle.clause.specs.Read.{Tries};
+ghost use Rattle.steps.specs.Plan as P;
 ghost use Rattle.steps.specs.Read.{Started};
-ghost use Rattle.judge.specs.State.{lentCase, wayBy, wayWord, wayLent, goesOn, nextAt, formsOf, recordFormIn, ruleFormIn, FormsFit, clauseAt, beforeOf, Reads, ReadsClause, Applying, manySteps};
-ghost use Rattle.judge.specs.State.{Turns, TurnsTo, finishAt, WritesMarks, Hands, MarksWritten};
+ghost use Rattle.judge.specs.State.{lentCase, wayBy, wayWord, wayLent, goesOn, nextAt, formsOf, recordFormIn, ruleFormIn, FormsFit, clauseAt, beforeOf, Reads, ReadsClause, Applying};
+ghost use Rattle.judge.specs.State.{Turns, TurnsTo, finishAt, WritesMarks, Hands, givenOn, MarksWritten};
 use areas::hand_on;
 use areas::shut_marks;
 use clause::test::Tried;
@@ -38,12 +39,28 @@ pub(crate) const RECORD: usize = 0;
 
 pub(crate) const RULES: usize = 1;
 
-// One more if so.
-pub(crate) fn more(n: u32, so: bool) -> u32
-    requires { ⌜ n < 4294967295 ⌝ }
-    ensures { λ r. ⌜ r ≡ plus n so ⌝ }
+// What is carried after step `step`, where `tally` was carried to it: one more step that holds, or
+// that fails; of a condition and its branches which of them failed.
+pub(crate) fn moved(hits: bool, branch: bool, step: u32, tally: u32, held: bool) -> u32
+    requires { ⌜ tally < 4294967295 ⌝ }
+    ensures { λ r. ⌜ r ≡ P.moved hits branch step tally held ⌝ }
 {
-    if so { n + 1 } else { n }
+    if hits {
+        if held {
+            return tally + 1;
+        }
+        return tally;
+    }
+    if held {
+        return tally;
+    }
+    if branch {
+        if step == 0 {
+            return 1;
+        }
+        return 2;
+    }
+    tally + 1
 }
 
 // ---- the forms
@@ -127,8 +144,8 @@ pub(crate) fn next_clause(forms: &[usize; 9], many: u32, i: u32, ok: bool) -> u3
     if goes_on(forms, ok) { i + 1 } else { many }
 }
 
-// The step of clause i of the pair after one of its steps, where `misses` so far applied a pair that
-// failed; none of allOf if judging stops.
+// The step of clause i of the pair after one of its steps, where `tally` is carried: none of allOf is
+// left if judging stops.
 pub(crate) fn next_step<'a, 'b>(
     sheets: &'a [&'b [u32]; 2],
     texts: &'a [&'b [u8]; 2],
@@ -136,12 +153,12 @@ pub(crate) fn next_step<'a, 'b>(
     p: Pair,
     i: u32,
     step: u32,
-    misses: u32,
+    tally: u32,
 ) -> u32
     requires { ⌜ ReadsClause (now sheets) (now texts) (now forms) (pairIs p) i × (step < 4294967295) ⌝ }
-    ensures { λ r. ⌜ r ≡ nextAt (lentCase (now (sheets .entry)) (now (texts .entry)) (now (forms .entry))) (pairIs p) i step misses ⌝ }
+    ensures { λ r. ⌜ r ≡ nextAt (lentCase (now (sheets .entry)) (now (texts .entry)) (now (forms .entry))) (pairIs p) i step tally ⌝ }
 {
-    if goes_on(forms, misses == 0) {
+    if goes_on(forms, tally == 0) {
         return step + 1;
     }
     let rule_form = rules_form(forms);
@@ -211,7 +228,7 @@ pub(crate) fn start<'a, 'b>(
     start_of(sheets[RULES], texts[RULES], rule_form, p.rule, i)
 }
 
-// Where clause i of the pair stands once its first x steps are taken.
+// Where clause i of the pair stands once its first x steps are taken and `tally` is carried.
 pub(crate) fn turn<'a, 'b>(
     sheets: &'a [&'b [u32]; 2],
     texts: &'a [&'b [u8]; 2],
@@ -221,10 +238,11 @@ pub(crate) fn turn<'a, 'b>(
     i: u32,
     from: u32,
     x: u32,
+    tally: u32,
 ) -> Turn
     requires { ⌜ ReadsClause (now sheets) (now texts) (now forms) (pairIs p) i ⌝ }
     requires { ⌜ Turns (lentCase (now sheets) (now texts) (now forms)) (pairIs p) i from (now cells) ⌝ }
-    ensures { λ r. ⌜ TurnsTo (lentCase (now (sheets .entry)) (now (texts .entry)) (now (forms .entry))) (pairIs p) i x (now (cells .entry)) r ⌝ }
+    ensures { λ r. ⌜ TurnsTo (lentCase (now (sheets .entry)) (now (texts .entry)) (now (forms .entry))) (pairIs p) i x tally (now (cells .entry)) r ⌝ }
 {
     let form = record_form(forms);
     let rule_form = rules_form(forms);
@@ -240,10 +258,11 @@ pub(crate) fn turn<'a, 'b>(
         i,
         from,
         x,
+        tally,
     )
 }
 
-// Hands on to the pair p what the pair q that it applied has to give.
+// Hands on to the pair p what the pair q that it applied has to give, if it is to be kept.
 pub(crate) fn give<'a, 'b>(
     sheets: &'a [&'b [u32]; 2],
     texts: &'a [&'b [u8]; 2],
@@ -251,32 +270,43 @@ pub(crate) fn give<'a, 'b>(
     cells: &mut [u8],
     p: Pair,
     q: Pair,
+    keeps: bool,
 )
     requires { ⌜ Reads (now sheets) (now texts) (now forms) (pairIs p) ⌝ }
     requires { ⌜ Hands (lentCase (now sheets) (now texts) (now forms)) (pairIs p) (pairIs q) (now cells) ⌝ }
-    ensures { λ r. ⌜ MarksWritten (lentCase (now (sheets .entry)) (now (texts .entry)) (now (forms .entry))) (pairIs p) (handedOn (lentCase (now (sheets .entry)) (now (texts .entry)) (now (forms .entry)) .m) (now (cells .entry)) (p .row .0) (p .rule .0) (q .row .0) (q .rule .0)) (now (cells .entry)) (now (cells .exit)) ⌝ }
+    ensures { λ r. ⌜ MarksWritten (lentCase (now (sheets .entry)) (now (texts .entry)) (now (forms .entry))) (pairIs p) (givenOn keeps (lentCase (now (sheets .entry)) (now (texts .entry)) (now (forms .entry)) .m) (now (cells .entry)) (p .row .0) (p .rule .0) (q .row .0) (q .rule .0)) (now (cells .entry)) (now (cells .exit)) ⌝ }
 {
-    let form = record_form(forms);
-    let kids = children_of(sheets[RECORD], form, p.row);
-    hand_on(cells, schemas_of(forms), kids, p, q);
+    if keeps {
+        let form = record_form(forms);
+        let kids = children_of(sheets[RECORD], form, p.row);
+        hand_on(cells, schemas_of(forms), kids, p, q);
+    }
 }
 
-// Whether clause i of the pair, which applies schemas, holds where `misses` of its steps applied a
-// pair that failed.
+// Whether clause i of the pair, which applies schemas, holds where `tally` is carried in the end.
 pub(crate) fn finish<'a, 'b>(
     sheets: &'a [&'b [u32]; 2],
     texts: &'a [&'b [u8]; 2],
     forms: &'a [usize; 9],
     p: Pair,
     i: u32,
-    misses: u32,
+    tally: u32,
 ) -> bool
     requires { ⌜ ReadsClause (now sheets) (now texts) (now forms) (pairIs p) i × Applying (lentCase (now sheets) (now texts) (now forms)) (pairIs p) i ⌝ }
-    requires { ⌜ misses ≤ manySteps (lentCase (now sheets) (now texts) (now forms)) (pairIs p) i ⌝ }
-    ensures { λ r. ⌜ r ≡ finishAt (lentCase (now (sheets .entry)) (now (texts .entry)) (now (forms .entry))) (pairIs p) i misses ⌝ }
+    ensures { λ r. ⌜ r ≡ finishAt (lentCase (now (sheets .entry)) (now (texts .entry)) (now (forms .entry))) (pairIs p) i tally ⌝ }
 {
+    let form = record_form(forms);
     let rule_form = rules_form(forms);
-    finish_of(sheets[RULES], texts[RULES], rule_form, p.rule, i, misses)
+    finish_of(
+        sheets[RECORD],
+        form,
+        sheets[RULES],
+        texts[RULES],
+        rule_form,
+        p,
+        i,
+        tally,
+    )
 }
 
 // Takes the marks of the pair away, unless it holds.

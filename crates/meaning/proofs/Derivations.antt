@@ -2,23 +2,27 @@
 --     derived        what the function finds the rules derive, where some number falls along every application
 --     one-result     the rules derive at most one result of a pair
 -- Assumes nothing.
-use mathlib.Core.Bool.{Bool, true, false, _&&_}
+use mathlib.Core.Bool.{Bool, true, false, _&&_, cond}
 use mathlib.Core.List.{List, [], _∷_, _++_, map, append-assoc, append-nil}
 use mathlib.Core.Path.{_≡_, refl, sym, ap, ap₂, _∙_, subst}
 use Prim.Native.Nat.{ℕ, zero, suc, _+_, _≤_, _<_, max}
 use native.Mathlib.Nat.{not-suc-le-zero, le-of-suc-le-suc}
 use native.Mathlib.Omega.{arith}
 use Rattle.sheet.specs.Doc.{Doc}
-use Rattle.rulesheet.specs.Ruleset.{Clause, asserts, inPlace, takes, Ruleset}
-use Rattle.meaning.specs.Rules.{Pair, Marks, nothing, _∪_, Result, joined, here, taken}
+use Rattle.rulesheet.specs.Ruleset.{Clause, asserts, inPlace, ifThenElse, dependentSchemas, contains, takes, Ruleset}
+use Rattle.meaning.specs.Rules.{Pair, Marks, nothing, _∪_, Result, joined, to, here, under, elementsOf, taken, depended}
 use Rattle.meaning.specs.Rules.{Judgement, found, answer, applied, whole, stops, each, wayIn, clause, clauses, judgement, derive}
-use Rattle.meaning.specs.Derivation.{Schema, schema-true, schema-false, Clauses, klist-0, klist-n, Keyword, assertion, in-place, children, Each, no-more, one-more}
+use Rattle.meaning.specs.Derivation.{Schema, schema-true, schema-false, Clauses, klist-0, klist-n, Keyword, assertion, in-place, if-then, if-else, dependent, containing, children, Each, no-more, one-more}
 use Rattle.meaning.proofs.Lists.{Every, every-nil, every-cons, every-map, every-left, every-right}
 use Rattle.meaning.proofs.Judgements.{answer-each, applied-each, answer-then, applied-then}
 
 -- no clause has been judged
 abbrev pub start : Result
 start = record { holds = true; marks = nothing }
+
+-- what a condition and the branch taken come to
+abbrev pub both : Result → Result → Result
+both q r = record { holds = r .holds; marks = q .marks ∪ r .marks }
 
 -- ---- the function finds what the rules derive
 
@@ -35,9 +39,17 @@ module _ (D : Doc) (R : Ruleset) (sub : Pair → Result) where
 
   keyword-derived : (p : Pair) (cs : List Clause) (μ : Marks) (c : Clause) → Every Known (applied sub (clause D whole p cs μ c))
       → Keyword D R p cs μ c (answer sub (clause D whole p cs μ c))
-  unfolding clause answer joined wayIn
+  unfolding clause answer applied joined wayIn
   keyword-derived p cs μ (asserts t) h = assertion refl refl
   keyword-derived p cs μ (inPlace m ss) h = rw answer-each (in-place (asked (here p ss) _ h) refl refl)
+  keyword-derived p cs μ (ifThenElse i t e) h = chosen ((sub (to p (p .row) i)) .holds) refl h
+    where
+      chosen : (b : Bool) → (sub (to p (p .row) i)) .holds ≡ b → Every Known (to p (p .row) i ∷ to p (p .row) (cond b t e) ∷ [])
+          → Keyword D R p cs μ (ifThenElse i t e) (both (sub (to p (p .row) i)) (sub (to p (p .row) (cond b t e))))
+      chosen true s (every-cons d (every-cons d′ every-nil)) = if-then d s d′ refl refl
+      chosen false s (every-cons d (every-cons d′ every-nil)) = if-else d s d′ refl refl
+  keyword-derived p cs μ (dependentSchemas es) h = rw answer-each (dependent (asked (depended D p es) _ h) refl refl)
+  keyword-derived p cs μ (contains s least most) h = rw answer-each (containing (asked (under p s (elementsOf D (p .row))) _ h) refl refl)
   keyword-derived p cs μ (takes c) h = rw answer-each (children (asked (taken D p cs μ c) _ h) refl refl)
 
   clauses-derived : (p : Pair) (before : List Clause) (r : Result) (cs : List Clause) → Clauses D R p before r
@@ -103,6 +115,19 @@ module _ (D : Doc) (R : Ruleset) where
   unfolding answer
   step f ps rs g e = answer-each (at f) ps (λ qs. found (g qs)) ∙ ap g e
 
+  -- the branch that a condition takes
+  module _ (sub : Pair → Result) (p : Pair) (cs : List Clause) (μ : Marks) (i t e : ℕ) (q : Result) (b : Bool) (x : sub (to p (p .row) i) ≡ q) (y : q .holds ≡ b) where
+    chosen : (sub (to p (p .row) i)) .holds ≡ b
+    chosen = ap (λ (r : Result). r .holds) x ∙ y
+
+    pub if-applied : applied sub (clause D p cs μ (ifThenElse i t e)) ≡ to p (p .row) i ∷ to p (p .row) (cond b t e) ∷ []
+    unfolding clause applied
+    if-applied = ap (λ (z : Bool). to p (p .row) i ∷ to p (p .row) (cond z t e) ∷ []) chosen
+
+    pub if-step : (q′ : Result) → sub (to p (p .row) (cond b t e)) ≡ q′ → answer sub (clause D p cs μ (ifThenElse i t e)) ≡ both q q′
+    unfolding clause answer
+    if-step q′ z = ap (λ (w : Bool). both (sub (to p (p .row) i)) (sub (to p (p .row) (cond w t e)))) chosen ∙ ap₂ both x z
+
   pub klist-step : (sub : Pair → Result) (p : Pair) (cs : List Clause) (c : Clause) (q q′ : Result)
       → answer sub (clauses D whole p [] start cs) ≡ q
       → answer sub (clause D whole p cs (q .marks) c) ≡ q′
@@ -149,6 +174,16 @@ module _ (D : Doc) (R : Ruleset) where
         → Finds (λ f. answer (at f) (clause D whole p cs μ c)) r
     keyword-found (assertion a b) = (0, λ f h. alike (sym a) (sym b))
     keyword-found {p} (in-place {ss = ss} e a b) = let n = each-found e in (n .0, λ f h. step f (here p ss) _ _ (n .1 f h) ∙ alike (sym a) (sym b))
+    keyword-found {p} {cs} {μ} (if-then {i = i} {t = t} {e = e} {q = q} {q′ = q′} d s d′ a b) =
+        let n = schema-found d in
+        let m = schema-found d′ in
+        (max (n .0) (m .0), λ f h. if-step (at f) p cs μ i t e q true (n .1 f (omega arith)) s q′ (m .1 f (omega arith)) ∙ alike (sym a) (sym b))
+    keyword-found {p} {cs} {μ} (if-else {i = i} {t = t} {e = e} {q = q} {q′ = q′} d s d′ a b) =
+        let n = schema-found d in
+        let m = schema-found d′ in
+        (max (n .0) (m .0), λ f h. if-step (at f) p cs μ i t e q false (n .1 f (omega arith)) s q′ (m .1 f (omega arith)) ∙ alike (sym a) (sym b))
+    keyword-found {p} (dependent {es = es} e a b) = let n = each-found e in (n .0, λ f h. step f (depended D p es) _ _ (n .1 f h) ∙ alike (sym a) (sym b))
+    keyword-found {p} (containing {s = s} e a b) = let n = each-found e in (n .0, λ f h. step f (under p s (elementsOf D (p .row))) _ _ (n .1 f h) ∙ alike (sym a) (sym b))
     keyword-found {p} {cs} {μ} (children {c = c} e a b) = let n = each-found e in (n .0, λ f h. step f (taken D p cs μ c) _ _ (n .1 f h) ∙ alike (sym a) (sym b))
 
     each-found : {ps : List Pair} {rs : List Result} → Each D R ps rs → (n : ℕ) × ((f : ℕ) → n ≤ f → map (at f) ps ≡ rs)

@@ -7,12 +7,13 @@ use mathlib.Core.Logic.{_↔_}
 use mathlib.Core.Path.{_≡_, refl, sym, ap, _∙_}
 use Prim.Native.Nat.{ℕ, zero, suc}
 use native.Mathlib.Omega.{arith}
-use lib.Dec.{eqb}
+use lib.Dec.{eqb, leb}
 use lib.ListN.{getD}
-use borrow.Author.Tests.{eqb-true, eq-eqb}
+use borrow.Author.Tests.{eqb-true, eq-eqb, leb-true, le-leb}
+use Rattle.laws.proofs.Tests.{both, left, right}
 use Rattle.rulesheet.specs.Ruleset.{allOf, anyOf, oneOf, notOf, ref}
 use Rattle.meaning.specs.Lists.{all, any, count}
-use Rattle.meaning.specs.Rules.{one?, none?, joined}
+use Rattle.meaning.specs.Rules.{one?, none?, within, joined}
 use Rattle.meaning.specs.Keywords.{Joinings}
 use Rattle.meaning.proofs.Members.{all-is, any-is}
 
@@ -71,7 +72,7 @@ counted-one (false ∷ bs) w = below (w .0) (w .1) (w .2) (counted-one bs)
         less e = omega (arith, e)
 
 pub joinings : Joinings
-unfolding joined one? none? any all
+unfolding joined one? none? within any all
 joinings =
     record {
       allOf-is = all-is;
@@ -79,6 +80,10 @@ joinings =
       oneOf-is = λ bs. ((λ e. one-counted bs (eqb-true (count bs) 1 e)), λ w. eq-eqb (count bs) 1 (counted-one bs w));
       not-is = not-one;
       ref-is = same-one;
+      contains-count = λ least most n. (
+        λ e. (leb-true least n (left (leb least n) (leb n most) e), leb-true n most (right (leb least n) (leb n most) e)),
+        λ h. both (leb least n) (leb n most) (le-leb least n (h .0)) (le-leb n most (h .1)),
+      );
     }
   where
     not-one : (b : Bool) → (joined notOf (b ∷ []) ≡ true) ↔ (b ≡ false)

@@ -1,4 +1,5 @@
 pub mod Samples
+pub mod Conditions
 pub mod Lists
 pub mod Members
 pub mod Rows

@@ -1,9 +1,9 @@
 -- The keywords that take children, in words.
 --     reaches     what `Reaches` says, for every record, pair and clauses before
 -- Assumes nothing.
-use mathlib.Core.Bool.{Bool, true, false, not, true≢false}
+use mathlib.Core.Bool.{Bool, true, false, not, cond, true≢false}
 use mathlib.Core.List.{List, [], _∷_, _++_, map, List·Memᴰ as In, List·Memᴰ·head as at-head, List·Memᴰ·tail as in-tail}
-use mathlib.Core.List.{List·Memᴰ·cases-cons, Memᴰ·map, Memᴰ·of-map, Memᴰ·cast, append-nil}
+use mathlib.Core.List.{List·Memᴰ·cases-cons, List·Memᴰ·eq-of-singleton, Memᴰ·map, Memᴰ·of-map, Memᴰ·cast, append-nil}
 use mathlib.Core.Logic.{_↔_, ⊎-elim}
 use mathlib.Core.Option.{Option, none, some}
 use mathlib.Core.Path.{_≡_, refl, sym, ap, _∙_, subst}
@@ -12,10 +12,10 @@ use native.Mathlib.Omega.{arith}
 use lib.ListN.{length, getD, drop}
 use Rattle.laws.proofs.Tests.{decide}
 use Rattle.sheet.specs.Doc.{Doc}
-use Rattle.rulesheet.specs.Ruleset.{properties, additionalProperties, prefixItems, items, unevaluatedProperties, unevaluatedItems, Clause, asserts, inPlace, takes}
+use Rattle.rulesheet.specs.Ruleset.{properties, additionalProperties, prefixItems, items, unevaluatedProperties, unevaluatedItems, Clause, asserts, inPlace, ifThenElse, dependentSchemas, contains, takes}
 use Rattle.meaning.specs.Lists.{any, range, keep, concatMap}
 use Rattle.meaning.specs.Tests.{elements?, members?, rows}
-use Rattle.meaning.specs.Rules.{Pair, Marks, none?, to, under, across, called, membersOf, elementsOf, namesOf, prefixOf, taken}
+use Rattle.meaning.specs.Rules.{Pair, Marks, none?, to, under, across, called, membersOf, elementsOf, namesOf, prefixOf, hasMember, taken, depended}
 use Rattle.meaning.specs.Keywords.{Within, NoPrefix, Member, Element, Named, Reaches}
 use Rattle.meaning.proofs.Members.{in-range, drop-range, in-keep, in-concat, concat-append, one-passes}
 use Rattle.meaning.proofs.Found.{only-array, only-object}
@@ -65,6 +65,9 @@ module _ (D : Doc) where
   unfolding namesOf
   names-in (asserts t) n i = elim i [ ]
   names-in (inPlace m ss) n i = elim i [ ]
+  names-in (ifThenElse a b c) n i = elim i [ ]
+  names-in (dependentSchemas es) n i = elim i [ ]
+  names-in (contains s least most) n i = elim i [ ]
   names-in (takes (properties es)) n i = let w = Memᴰ·of-map (λ e. e .0) es i in (es, w .0, refl, w .1, w .2)
   names-in (takes (additionalProperties s)) n i = elim i [ ]
   names-in (takes (prefixItems ss)) n i = elim i [ ]
@@ -102,6 +105,9 @@ module _ (D : Doc) where
       of-clause : (c : Clause) → ((ss : List ℕ) → takes (prefixItems ss) ≡ c → ⊥) → prefixOf c ≡ []
       of-clause (asserts t) g = refl
       of-clause (inPlace m ss) g = refl
+      of-clause (ifThenElse a b c) g = refl
+      of-clause (dependentSchemas es) g = refl
+      of-clause (contains s least most) g = refl
       of-clause (takes (properties es)) g = refl
       of-clause (takes (additionalProperties s)) g = refl
       of-clause (takes (prefixItems ss)) g = absurd (g ss refl)
@@ -231,6 +237,34 @@ module _ (D : Doc) where
         (e, h .1 .1, kept-members p q (e .1) (called D (e .0)) (called-is D (e .0) (q .row)) .1 (h .0, sym (h .1 .3), sym (h .1 .2))),
   )
 
+  -- a name that a member has
+  has-is : (j : ℕ) (name : List ℕ) → (hasMember D j name ≡ true) ↔ ((k : ℕ) × Member D j k × (name ≡ D .name k))
+  unfolding hasMember
+  has-is j name = (
+    λ e. let w = one-passes (λ k. called D name k) (membersOf D j) .0 e in (w .0, member-in j (w .0) .0 (w .1), sym (called-is D name (w .0) .0 (w .2))),
+    λ h. one-passes (λ k. called D name k) (membersOf D j) .1 (h .0, member-in j (h .0) .1 (h .1), called-is D name (h .0) .1 (sym (h .2))),
+  )
+
+  depended-is : (p : Pair) (es : List (List ℕ × ℕ)) (q : Pair) → In q (depended D p es) ↔
+      ((q .row ≡ p .row) × ((e : List ℕ × ℕ) × In e es × (e .1 ≡ q .rule) × ((k : ℕ) × Member D (p .row) k × (e .0 ≡ D .name k))))
+  unfolding depended to
+  depended-is p es q = (
+    λ i.
+        let w = in-concat (λ e. cond (hasMember D (p .row) (e .0)) (to p (p .row) (e .1) ∷ []) []) q es .0 i in
+        let o = only (hasMember D (p .row) (w .0 .0)) (w .0 .1) (w .2) in
+        (o .1, (w .0, w .1, o .2, has-is (p .row) (w .0 .0) .0 (o .0))),
+    λ h.
+        let e = h .1 .0 in
+        in-concat (λ x. cond (hasMember D (p .row) (x .0)) (to p (p .row) (x .1) ∷ []) []) q es .1
+        (e, h .1 .1, rw (has-is (p .row) (e .0) .1 (h .1 .3)) (at-head (λ i. record { row = h .0 i; rule = sym (h .1 .2) i }))),
+  )
+    where
+      only : (b : Bool) (s : ℕ) → In q (cond b (to p (p .row) s ∷ []) []) → (b ≡ true) × (q .row ≡ p .row) × (s ≡ q .rule)
+      only true s i =
+          let e = List·Memᴰ·eq-of-singleton i in
+          (refl, ap (λ (x : Pair). x .row) e, sym (ap (λ (x : Pair). x .rule) e))
+      only false s i = elim i [ ]
+
   pub reaches : (p : Pair) (before : List Clause) (κ : Marks) → Reaches D p before κ
   unfolding taken
   reaches p before κ =
@@ -241,6 +275,11 @@ module _ (D : Doc) where
         items-is = λ s q h. and-then (later-elements p q s (length (concatMap prefixOf before)) 0 (ap length (no-prefix before h))) (any-elements p q s);
         items-after = λ s ss cs ds q e h g.
             later-elements p q s (length (concatMap prefixOf before)) (length ss) (ap (λ l. length (concatMap prefixOf l)) e ∙ ap length (one-prefix cs ds ss h g));
+        dependentSchemas-is = λ es q. depended-is p es q;
+        contains-is = λ s q. (
+          λ i. let u = under-is p s (elementsOf D (p .row)) q .0 i in let e = element-in (p .row) (q .row) .0 (u .0) in (e .0, e .1, u .1),
+          λ h. under-is p s (elementsOf D (p .row)) q .1 (element-in (p .row) (q .row) .1 (h .0, h .1), h .2),
+        );
         unevaluatedProperties-is = λ s q. kept-members p q s (λ k. not (κ k)) (not-is-false (κ (q .row)));
         unevaluatedItems-is = λ s q. kept-elements p q s (λ k. not (κ k)) (not-is-false (κ (q .row)));
       }

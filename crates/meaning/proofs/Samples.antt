@@ -416,10 +416,10 @@ t17 =
       leaves = record { answer = refuses 13 3; cells = 9 ∷ []; list = 77 ∷ [] };
     }
 
-abbrev leftOf : Sample → Left
+abbrev pub leftOf : Sample → Left
 leftOf s = judge Rules.whole (s .words) (s .text) (s .ruleWords) (s .ruleText) (replicate (s .cells) 9) (replicate (s .list) 77)
 
-unfoldable samples-compute : Unit {0}
+unfoldable pub samples-compute : Unit {0}
 unfolding lowestFrom Part.part-computes Value.value-computes repeatsBy kindOf levels level D.formOf D.rowAt D.docOf F.wordsOk F.ownsOk F.placeOk F.rowOk F.repeated F.notUtf8 Automaton.automaton-computes R.steps lineIn S.formOf S.schemaAt S.clauseAt S.entryAt S.run S.clauseOf S.rulesOf C.wordsOk C.schemaStart C.schemaFine C.schemaOver C.rises C.listStart C.listOk C.clauseFineIn C.clauseFine C.listOver C.entryFine C.repeated C.notUtf8 someOf chain via onLoop Lists.lists-computes Tests.tests-computes Rules.rules-computes Settling.settling-computes Answer.answer-computes
 samples-compute = tt
 

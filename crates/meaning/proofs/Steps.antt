@@ -6,7 +6,7 @@
 --     stays-inside      a step from one of the n × m pairs leads to one of them
 --     deep              every rank is below `depth`
 -- Assumes nothing.
-use mathlib.Core.Bool.{Bool, true, false}
+use mathlib.Core.Bool.{Bool, true, false, cond}
 use mathlib.Core.List.{List, [], _∷_, _++_, map, List·Memᴰ as In, List·Memᴰ·head as at-head, List·Memᴰ·tail as in-tail, Memᴰ·append-left, Memᴰ·append-right, Memᴰ·cast, Memᴰ·map, List·Memᴰ·cases-cons}
 use mathlib.Core.Logic.{⊎-elim}
 use mathlib.Core.Path.{_≡_, refl, sym, ap, _∙_}
@@ -17,13 +17,13 @@ use Rattle.laws.proofs.Tests.{le-or-lt}
 use Rattle.sheet.proofs.Levels.{level-next}
 use Rattle.sheet.specs.Doc.{Value, null, bool, number, string, array, object, Doc, firstChild, childCount, Child, level}
 use Rattle.sheet.specs.Faults.{level-refused}
-use Rattle.rulesheet.specs.Ruleset.{Clause, asserts, inPlace, takes, Reach, properties, additionalProperties, prefixItems, items}
+use Rattle.rulesheet.specs.Ruleset.{Clause, asserts, inPlace, ifThenElse, dependentSchemas, contains, takes, Reach, properties, additionalProperties, prefixItems, items}
 use Rattle.rulesheet.specs.Ruleset.{unevaluatedProperties, unevaluatedItems, Ruleset, unguarded, guarded, named, next, steps as reaches}
 use Rattle.rulesheet.proofs.Naming.{steps-named}
 use Rattle.unguarded.specs.Graph.{chain-steps, longest}
 use Rattle.meaning.specs.Lists.{range, concatMap}
 use Rattle.meaning.specs.Tests.{elements?, members?, rows}
-use Rattle.meaning.specs.Rules.{Pair, Marks, nothing, Result, found, applied, Way, whole, stops, each, wayIn, to, here, under, across, membersOf, elementsOf, prefixOf, taken, clause, clauses, depth, judgement}
+use Rattle.meaning.specs.Rules.{Pair, Marks, nothing, Result, found, applied, Way, whole, stops, each, wayIn, to, here, under, across, membersOf, elementsOf, prefixOf, hasMember, taken, depended, clause, clauses, depth, judgement}
 use Rattle.meaning.specs.Fit.{Fit, Inside, levelsLeft, rank}
 use Rattle.meaning.proofs.Lists.{Every, every-nil, every-cons, every-map, every-in, every-append, every-image, every-keep, every-drop, every-concat, by-test}
 use Rattle.meaning.proofs.Judgements.{applied-then}
@@ -96,6 +96,23 @@ module _ (D : Doc) where
   taken-steps p before κ (unevaluatedProperties s) = under-taken p s (s ∷ []) (at-head refl) (every-keep _ (members-children (p .row)))
   taken-steps p before κ (unevaluatedItems s) = under-taken p s (s ∷ []) (at-head refl) (every-keep _ (elements-children (p .row)))
 
+  -- the elements, with one schema
+  pub elements-taken : (p : Pair) (s : ℕ) → Every (Taken p (s ∷ [])) (under p s (elementsOf D (p .row)))
+  elements-taken p s = under-taken p s (s ∷ []) (at-head refl) (elements-children (p .row))
+
+  -- the row itself, with a schema that a name goes with
+  abbrev pub Here : Pair → List (List ℕ × ℕ) → Pair → Type 0
+  Here p es q = (q .row ≡ p .row) × In (q .rule) (map (λ (x : List ℕ × ℕ). x .1) es)
+
+  pub depended-here : (p : Pair) (es : List (List ℕ × ℕ)) → Every (Here p es) (depended D p es)
+  unfolding depended to
+  depended-here p es =
+      every-concat (Here p es) _ es (λ e i. maybe (to p (p .row) (e .1)) (hasMember D (p .row) (e .0)) (refl, Memᴰ·map (λ (x : List ℕ × ℕ). x .1) i))
+    where
+      maybe : (q : Pair) (b : Bool) → Here p es q → Every (Here p es) (cond b (q ∷ []) [])
+      maybe q true h = every-cons h every-nil
+      maybe q false h = every-nil
+
 module _ (D : Doc) (R : Ruleset) where
   pub data Step (p q : Pair) : Type 0 where
     stays : (c : Clause) → In c (R .clauses (p .rule)) → In (q .rule) (unguarded c) → q .row ≡ p .row → Step p q
@@ -114,9 +131,20 @@ module _ (D : Doc) (R : Ruleset) where
     here-steps c ss i h = every-image (λ s. to p (p .row) s) (λ s (j : In s (unguarded c)). stays c i j refl) (every-in _ ss h)
 
     pub clause-steps : (before : List Clause) (κ : Marks) (c : Clause) → In c (R .clauses (p .rule)) → Every (Step p) (applied sub (clause D w p before κ c))
-    unfolding clause applied
+    unfolding clause applied to
     clause-steps before κ (asserts t) i = every-nil
     clause-steps before κ (inPlace m ss) i = each-steps (wayIn w m) _ (here-steps (inPlace m ss) ss i (λ s j. j))
+    clause-steps before κ (ifThenElse a b c) i =
+        every-cons (stays (ifThenElse a b c) i (at-head refl) refl) (every-cons (stays (ifThenElse a b c) i (branch ((sub (to p (p .row) a)) .holds)) refl) every-nil)
+      where
+        branch : (z : Bool) → In (cond z b c) (a ∷ b ∷ c ∷ [])
+        branch true = in-tail (at-head refl)
+        branch false = in-tail (in-tail (at-head refl))
+    clause-steps before κ (dependentSchemas es) i =
+        each-steps whole _ (every-map (λ q (h : Here D p es q). stays (dependentSchemas es) i (h .1) (h .0)) (depended-here D p es))
+    clause-steps before κ (contains s least most) i =
+        each-steps whole _
+        (every-map (λ q (t : Taken D p (s ∷ []) q). descends (contains s least most) i (t .schema) (t .child)) (elements-taken D p s))
     clause-steps before κ (takes c) i =
         each-steps whole _
         (every-map (λ q (t : Taken D p (guarded c) q). descends (takes c) i (t .schema) (t .child)) (taken-steps D p before κ c))

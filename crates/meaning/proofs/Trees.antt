@@ -3,14 +3,14 @@
 --     cuts      the pairs settled when cut are those that cut judgements reach, among those of the root\'s derivation
 -- Assumes nothing.
 use mathlib.Core.List.{List, [], _∷_, _++_, List·Memᴰ as In, List·Memᴰ·head as at-head, List·Memᴰ·tail as in-tail}
-use mathlib.Core.List.{List·Memᴰ·cases-cons, List·Memᴰ·append-cases, Memᴰ·append-left, Memᴰ·append-right}
+use mathlib.Core.List.{List·Memᴰ·cases-cons, List·Memᴰ·append-cases, Memᴰ·append-left, Memᴰ·append-right, append-nil}
 use mathlib.Core.Logic.{⊎-elim}
 use mathlib.Core.Path.{_≡_, refl, sym, subst}
 use Prim.Native.Nat.{ℕ}
 use Rattle.sheet.specs.Doc.{Doc}
 use Rattle.rulesheet.specs.Ruleset.{Clause, Ruleset}
-use Rattle.meaning.specs.Rules.{Pair, Marks, Result, whole, cut, applies}
-use Rattle.meaning.specs.Derivation.{Schema, schema-true, schema-false, Clauses, klist-0, klist-n, Keyword, assertion, in-place, children, Each, no-more, one-more}
+use Rattle.meaning.specs.Rules.{Pair, Marks, Result, to, whole, cut, applies}
+use Rattle.meaning.specs.Derivation.{Schema, schema-true, schema-false, Clauses, klist-0, klist-n, Keyword, assertion, in-place, if-then, if-else, dependent, containing, children, Each, no-more, one-more}
 use Rattle.meaning.specs.Derivation.{eachApplies, keywordApplies, clausesApplies, schemaApplies, eachPairs, keywordPairs, clausesPairs, schemaPairs}
 use Rattle.meaning.specs.Settling.{root, Reached, itself, further, settled}
 use Rattle.meaning.specs.Fit.{Fit}
@@ -38,9 +38,13 @@ module _ (D : Doc) (R : Ruleset) where
 
   keyword-above : {p : Pair} {cs : List Clause} {μ : Marks} {c : Clause} {r : Result} (k : Keyword D R p cs μ c r) (o : Pair)
       → In o (keywordApplies D R k) → Above o (keywordPairs D R k)
-  unfolding keywordApplies keywordPairs
+  unfolding keywordApplies keywordPairs eachPairs
   keyword-above (assertion a b) o i = elim i [ ]
   keyword-above (in-place e a b) o i = each-above e o i
+  keyword-above (if-then d h d′ a b) o i = subst (λ l. Above o (schemaPairs D R d ++ l)) (append-nil _) (each-above (one-more d (one-more d′ no-more)) o i)
+  keyword-above (if-else d h d′ a b) o i = subst (λ l. Above o (schemaPairs D R d ++ l)) (append-nil _) (each-above (one-more d (one-more d′ no-more)) o i)
+  keyword-above (dependent e a b) o i = each-above e o i
+  keyword-above (containing e a b) o i = each-above e o i
   keyword-above (children e a b) o i = each-above e o i
 
   clauses-above : {p : Pair} {cs : List Clause} {r : Result} (d : Clauses D R p cs r) (o : Pair) → In o (clausesApplies D R d) → Above o (clausesPairs D R d)
@@ -99,6 +103,14 @@ module _ (D : Doc) (R : Ruleset) where
           → In q (keywordPairs D R k) → Met q (keywordApplies D R k)
       keyword-met (assertion a b) q i = elim i [ ]
       keyword-met (in-place e a b) q i = each-met e q i
+      keyword-met (if-then {p = p} {i = x} {t = y} d h d′ a b) q i =
+          ⊎-elim (λ j. (to p (p .row) x, at-head refl, schema-met d q j)) (λ j. (to p (p .row) y, in-tail (at-head refl), schema-met d′ q j))
+          (List·Memᴰ·append-cases (schemaPairs D R d) i)
+      keyword-met (if-else {p = p} {i = x} {e = y} d h d′ a b) q i =
+          ⊎-elim (λ j. (to p (p .row) x, at-head refl, schema-met d q j)) (λ j. (to p (p .row) y, in-tail (at-head refl), schema-met d′ q j))
+          (List·Memᴰ·append-cases (schemaPairs D R d) i)
+      keyword-met (dependent e a b) q i = each-met e q i
+      keyword-met (containing e a b) q i = each-met e q i
       keyword-met (children e a b) q i = each-met e q i
 
       each-met : {ps : List Pair} {rs : List Result} (e : Each D R ps rs) (q : Pair) → In q (eachPairs D R e) → Met q (eachApplies D R e)

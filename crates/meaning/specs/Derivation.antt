@@ -5,9 +5,9 @@ use mathlib.Core.Bool.{Bool, true, false, _&&_}
 use mathlib.Core.Path.{_≡_}
 use mathlib.Core.List.{List, [], _∷_, _++_, map}
 use Rattle.sheet.specs.Doc.{Doc}
-use Rattle.rulesheet.specs.Ruleset.{Test, Mode, Reach, Clause, asserts, inPlace, takes, Ruleset}
-use Rattle.meaning.specs.Lists.{all}
-use Rattle.meaning.specs.Rules.{Pair, Marks, nothing, _∪_, these, Result, unions, verdicts, joined, here, passes, taken}
+use Rattle.rulesheet.specs.Ruleset.{Test, Mode, Reach, Clause, asserts, inPlace, ifThenElse, dependentSchemas, contains, takes, Ruleset}
+use Rattle.meaning.specs.Lists.{all, count}
+use Rattle.meaning.specs.Rules.{Pair, Marks, nothing, _∪_, these, Result, unions, verdicts, joined, to, here, under, holding, elementsOf, passes, taken, depended, contained}
 
 module _ (D : Doc) (R : Ruleset) where
   mutual
@@ -48,6 +48,30 @@ module _ (D : Doc) (R : Ruleset) where
           → r .holds ≡ joined m (verdicts rs)
           → r .marks ≡ unions rs
           → Keyword p cs μ (inPlace m ss) r
+      if-then : {p : Pair} {cs : List Clause} {μ : Marks} {i t e : ℕ} {q q′ r : Result}
+          → Schema (to p (p .row) i) q
+          → q .holds ≡ true
+          → Schema (to p (p .row) t) q′
+          → r .holds ≡ q′ .holds
+          → r .marks ≡ (q .marks ∪ q′ .marks)
+          → Keyword p cs μ (ifThenElse i t e) r
+      if-else : {p : Pair} {cs : List Clause} {μ : Marks} {i t e : ℕ} {q q′ r : Result}
+          → Schema (to p (p .row) i) q
+          → q .holds ≡ false
+          → Schema (to p (p .row) e) q′
+          → r .holds ≡ q′ .holds
+          → r .marks ≡ (q .marks ∪ q′ .marks)
+          → Keyword p cs μ (ifThenElse i t e) r
+      dependent : {p : Pair} {cs : List Clause} {μ : Marks} {es : List (List ℕ × ℕ)} {rs : List Result} {r : Result}
+          → Each (depended D p es) rs
+          → r .holds ≡ all (verdicts rs)
+          → r .marks ≡ unions rs
+          → Keyword p cs μ (dependentSchemas es) r
+      containing : {p : Pair} {cs : List Clause} {μ : Marks} {s least most : ℕ} {rs : List Result} {r : Result}
+          → Each (under p s (elementsOf D (p .row))) rs
+          → r .holds ≡ contained D (p .row) least most (count (verdicts rs))
+          → r .marks ≡ these (map (λ q. q .row) (holding (under p s (elementsOf D (p .row))) rs))
+          → Keyword p cs μ (contains s least most) r
       children : {p : Pair} {cs : List Clause} {μ : Marks} {c : Reach} {rs : List Result} {r : Result}
           → Each (taken D p cs μ c) rs
           → r .holds ≡ all (verdicts rs)
@@ -71,6 +95,10 @@ module _ (D : Doc) (R : Ruleset) where
   unfoldable pub keywordApplies : {p : Pair} {cs : List Clause} {μ : Marks} {c : Clause} {r : Result} → Keyword p cs μ c r → List Pair
   keywordApplies (assertion a b) = []
   keywordApplies (in-place e a b) = eachApplies e
+  keywordApplies (if-then d h d′ a b) = eachApplies (one-more d (one-more d′ no-more))
+  keywordApplies (if-else d h d′ a b) = eachApplies (one-more d (one-more d′ no-more))
+  keywordApplies (dependent e a b) = eachApplies e
+  keywordApplies (containing e a b) = eachApplies e
   keywordApplies (children e a b) = eachApplies e
 
   unfoldable pub clausesApplies : {p : Pair} {cs : List Clause} {r : Result} → Clauses p cs r → List Pair
@@ -94,6 +122,10 @@ module _ (D : Doc) (R : Ruleset) where
     pub keywordPairs : {p : Pair} {cs : List Clause} {μ : Marks} {c : Clause} {r : Result} → Keyword p cs μ c r → List Pair
     keywordPairs (assertion a b) = []
     keywordPairs (in-place e a b) = eachPairs e
+    keywordPairs (if-then d h d′ a b) = schemaPairs d ++ schemaPairs d′
+    keywordPairs (if-else d h d′ a b) = schemaPairs d ++ schemaPairs d′
+    keywordPairs (dependent e a b) = eachPairs e
+    keywordPairs (containing e a b) = eachPairs e
     keywordPairs (children e a b) = eachPairs e
 
     pub eachPairs : {ps : List Pair} {rs : List Result} → Each ps rs → List Pair

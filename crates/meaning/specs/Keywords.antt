@@ -1,6 +1,6 @@
 -- Each keyword's rule in words, under the name that document 000 gives it in Figure 7 or in its tables; 01's code stands beside it. These are laws about
 -- the lines of `passes`, `joined` and `taken` in `Rules`, which are the premises of the trees in `Derivation`: `figure-7` (`proofs/Keywords.antt`) shows
--- them for every record. The rules of schemas and of lists of keywords, (schema-true), (schema-false), (klist-0) and (klist-(n+1)), are constructors there.
+-- them for every record. The rules of schemas and of lists of keywords, (schema-true), (schema-false), (klist-0) and (klist-(n+1)), are constructors there, and so are the two of 36, (if-then) and (if-else).
 -- Assumes nothing.
 use mathlib.Core.Bool.{Bool, true, false}
 use mathlib.Core.List.{List, [], _∷_, _++_, List·Memᴰ as In}
@@ -17,7 +17,7 @@ use Rattle.rulesheet.specs.Ruleset.{never, type, enum, minimum, maximum, exclus
 use Rattle.rulesheet.specs.Ruleset.{minLength, maxLength, minItems, maxItems, minProperties, maxProperties, required}
 use Rattle.rulesheet.specs.Ruleset.{allOf, anyOf, oneOf, notOf, ref, Reach, properties, additionalProperties, prefixItems, items}
 use Rattle.rulesheet.specs.Ruleset.{unevaluatedProperties, unevaluatedItems, Clause, takes}
-use Rattle.meaning.specs.Rules.{Pair, Marks, joined, passes, taken}
+use Rattle.meaning.specs.Rules.{Pair, Marks, joined, within, under, elementsOf, passes, taken, depended}
 
 -- ---- the words
 
@@ -125,13 +125,18 @@ module _ (D : Doc) where
         ((i : ℕ) × Element (p .row) i (q .row) × (q .rule ≡ s))
     pub items-after : (s : ℕ) (ss : List ℕ) (cs ds : List Clause) (q : Pair) → before ≡ cs ++ takes (prefixItems ss) ∷ ds → NoPrefix cs → NoPrefix ds
         → In q (taken D p before κ (items s)) ↔ ((i : ℕ) × Element (p .row) i (q .row) × (q .rule ≡ s) × (length ss ≤ i))
+    -- 37, (dependentSchemas): the row itself, with the schema of an entry whose name a member has
+    pub dependentSchemas-is : (es : List (List ℕ × ℕ)) (q : Pair) → In q (depended D p es) ↔
+        ((q .row ≡ p .row) × ((e : List ℕ × ℕ) × In e es × (e .1 ≡ q .rule) × ((k : ℕ) × Member (p .row) k × (e .0 ≡ D .name k))))
+    -- 45, (contains): every element
+    pub contains-is : (s : ℕ) (q : Pair) → In q (under p s (elementsOf D (p .row))) ↔ ((i : ℕ) × Element (p .row) i (q .row) × (q .rule ≡ s))
     -- 60 and 61, (unevaluatedProperties), (unevaluatedItems): a child that no earlier clause of the schema has marked
     pub unevaluatedProperties-is : (s : ℕ) (q : Pair) → In q (taken D p before κ (unevaluatedProperties s)) ↔
         (Member (p .row) (q .row) × (q .rule ≡ s) × (κ (q .row) ≡ false))
     pub unevaluatedItems-is : (s : ℕ) (q : Pair) → In q (taken D p before κ (unevaluatedItems s)) ↔
         ((i : ℕ) × Element (p .row) i (q .row) × (q .rule ≡ s) × (κ (q .row) ≡ false))
 
--- ---- keywords that apply schemas to the row itself: how their verdicts are joined
+-- ---- keywords that join verdicts on the row itself, or count those on its children
 
 pub record Joinings : Type 0 where
   -- 30, (allOf)
@@ -144,3 +149,5 @@ pub record Joinings : Type 0 where
   pub not-is : (b : Bool) → (joined notOf (b ∷ []) ≡ true) ↔ (b ≡ false)
   -- 34, ($ref)
   pub ref-is : (b : Bool) → (joined ref (b ∷ []) ≡ true) ↔ (b ≡ true)
+  -- 45, (minContains), (maxContains): both ends are within
+  pub contains-count : (least most n : ℕ) → (within least most n ≡ true) ↔ ((least ≤ n) × (n ≤ most))

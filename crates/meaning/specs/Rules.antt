@@ -4,7 +4,7 @@
 use Prim.Native.Nat.{ℕ, zero, suc, _+_, _*_}
 use mathlib.Core.Bool.{Bool, true, false, not, _&&_, _||_, cond}
 use mathlib.Core.List.{List, [], _∷_, _++_, map}
-use lib.Dec.{eqb}
+use lib.Dec.{eqb, leb}
 use lib.ListN.{length, drop}
 use lib.IntN.{ℤ}
 use lib.Signed.{leZ, ltZ}
@@ -16,7 +16,7 @@ use Rattle.unguarded.specs.Graph.{chain-steps}
 use Rattle.rulesheet.specs.Ruleset.{Test, never, type, enum, minimum, maximum, exclusiveMinimum, exclusiveMaximum, multipleOf}
 use Rattle.rulesheet.specs.Ruleset.{minLength, maxLength, minItems, maxItems, minProperties, maxProperties, required}
 use Rattle.rulesheet.specs.Ruleset.{Mode, allOf, anyOf, oneOf, notOf, ref, Reach, properties, additionalProperties, prefixItems, items}
-use Rattle.rulesheet.specs.Ruleset.{unevaluatedProperties, unevaluatedItems, Clause, asserts, inPlace, takes, Ruleset}
+use Rattle.rulesheet.specs.Ruleset.{unevaluatedProperties, unevaluatedItems, Clause, asserts, inPlace, ifThenElse, dependentSchemas, contains, takes, Ruleset}
 use Rattle.meaning.specs.Lists.{all, any, count, elem, keep, concatMap}
 use Rattle.meaning.specs.Tests.{number?, bytes?, elements?, members?, given, rows, lengthOf, atLeast, atMost, typed, equal}
 
@@ -102,6 +102,10 @@ one? bs = eqb (count bs) 1
 unfoldable pub none? : List Bool → Bool
 none? bs = not (any bs)
 
+-- no fewer and no more
+unfoldable pub within : ℕ → ℕ → ℕ → Bool
+within least most n = leb least n && leb n most
+
 -- the verdicts of schemas on the row itself, joined
 unfoldable pub joined : Mode → List Bool → Bool
 joined allOf bs = all bs  -- 30 (allOf)
@@ -114,6 +118,9 @@ joined ref bs = all bs  -- 34 ($ref)
 unfoldable pub namesOf : Clause → List (List ℕ)
 namesOf (asserts t) = []
 namesOf (inPlace m ss) = []
+namesOf (ifThenElse i t e) = []
+namesOf (dependentSchemas es) = []
+namesOf (contains s least most) = []
 namesOf (takes (properties es)) = map (λ e. e .0) es
 namesOf (takes (additionalProperties s)) = []
 namesOf (takes (prefixItems ss)) = []
@@ -125,6 +132,9 @@ namesOf (takes (unevaluatedItems s)) = []
 unfoldable pub prefixOf : Clause → List ℕ
 prefixOf (asserts t) = []
 prefixOf (inPlace m ss) = []
+prefixOf (ifThenElse i t e) = []
+prefixOf (dependentSchemas es) = []
+prefixOf (contains s least most) = []
 prefixOf (takes (properties es)) = []
 prefixOf (takes (additionalProperties s)) = []
 prefixOf (takes (prefixItems ss)) = ss
@@ -150,6 +160,12 @@ across p [] ss = []
 across p (k ∷ ks) [] = []
 across p (k ∷ ks) (s ∷ ss) = to p k s ∷ across p ks ss
 
+-- those of the pairs that hold
+unfoldable pub holding : List Pair → List Result → List Pair
+holding [] rs = []
+holding (p ∷ ps) [] = []
+holding (p ∷ ps) (r ∷ rs) = let rest = holding ps rs in cond (r .holds) (p ∷ rest) rest
+
 module _ (D : Doc) where
   unfoldable pub called : List ℕ → ℕ → Bool
   called name k = sameBytes (D .name k) name
@@ -163,6 +179,10 @@ module _ (D : Doc) where
   -- each name is the name of one of the rows
   unfoldable pub present : List (List ℕ) → List ℕ → Bool
   present names ks = all (map (λ n. any (map (λ k. called n k) ks)) names)
+
+  -- a member of the row has the name
+  unfoldable pub hasMember : ℕ → List ℕ → Bool
+  hasMember j name = any (map (λ k. called name k) (membersOf j))
 
   unfoldable pub passes : ℕ → Test → Bool
   passes j never = false  -- 1 (false)
@@ -191,6 +211,14 @@ module _ (D : Doc) where
   taken p before κ (unevaluatedProperties s) = under p s (keep (λ k. not (κ k)) (membersOf (p .row)))  -- 60 (unevaluatedProperties)
   taken p before κ (unevaluatedItems s) = under p s (keep (λ k. not (κ k)) (elementsOf (p .row)))  -- 61 (unevaluatedItems)
 
+  -- each schema on the row itself whose name a member has
+  unfoldable pub depended : Pair → List (List ℕ × ℕ) → List Pair
+  depended p es = concatMap (λ e. cond (hasMember (p .row) (e .0)) (to p (p .row) (e .1) ∷ []) []) es
+
+  -- of an array, whether so many elements are enough
+  unfoldable pub contained : ℕ → ℕ → ℕ → ℕ → Bool
+  contained j least most n = given (elements? (D .value j)) (λ ks. within least most n)
+
   -- ---- the rules
 
   -- J : K, after the clauses `before` of the same schema, which mark κ
@@ -198,6 +226,15 @@ module _ (D : Doc) where
   clause w p before κ (asserts t) = found (record { holds = passes (p .row) t; marks = nothing })
   clause w p before κ (inPlace m ss) =
       each (wayIn w m) (here p ss) (λ rs. found (record { holds = joined m (verdicts rs); marks = unions rs }))
+  clause w p before κ (ifThenElse i t e) =  -- 36 (if, then, else)
+      apply (to p (p .row) i) (λ q.
+      apply (to p (p .row) (cond (q .holds) t e)) (λ r.
+      found (record { holds = r .holds; marks = q .marks ∪ r .marks })))
+  clause w p before κ (dependentSchemas es) =  -- 37 (dependentSchemas)
+      each whole (depended p es) (λ rs. found (record { holds = all (verdicts rs); marks = unions rs }))
+  clause w p before κ (contains s least most) =  -- 45 (contains, minContains, maxContains)
+      let ps = under p s (elementsOf (p .row)) in
+      each whole ps (λ rs. found (record { holds = contained (p .row) least most (count (verdicts rs)); marks = these (map (λ q. q .row) (holding ps rs)) }))
   clause w p before κ (takes c) =
       let ps = taken p before κ c in
       each whole ps (λ rs. found (record { holds = all (verdicts rs); marks = these (map (λ q. q .row) ps) }))
@@ -236,5 +273,5 @@ module _ (D : Doc) (R : Ruleset) where
 
 -- opens this module to a computation
 unfoldable pub rules-computes : Unit {0}
-unfolding nothing _∪_ these unions verdicts answer applied andThen stops each wayIn one? none? joined namesOf prefixOf to here under across called membersOf elementsOf present passes taken clause clauses depth judgement derive truth applies
+unfolding nothing _∪_ these unions verdicts answer applied andThen stops each wayIn one? none? within joined namesOf prefixOf to here under across holding called membersOf elementsOf present hasMember passes taken depended contained clause clauses depth judgement derive truth applies
 rules-computes = tt

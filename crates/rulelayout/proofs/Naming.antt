@@ -23,7 +23,7 @@ use Rattle.names.specs.declared.Names.{Names}
 use Rattle.names.specs.Names.{rangeAt, nameAt, repeatsBy, repeatsAt, Lying}
 use Rattle.names.proofs.Repeats.{repeats-agree}
 use Rattle.rulesheet.specs.declared.code.Fields.{Fields}
-use Rattle.rulesheet.specs.declared.code.Fields.the-variants.{Unknown, Bare, Types, Number, Positive, Limit, Schema, Values, Names as NamesOf, Schemas, Members}
+use Rattle.rulesheet.specs.declared.code.Fields.the-variants.{Unknown, Bare, Types, Number, Positive, Limit, Schema, Values, Names as NamesOf, Schemas, Members, Branches, Counted}
 use Rattle.rulesheet.specs.declared.form.RuleForm.{RuleForm}
 use Rattle.rulesheet.specs.Codes.{entryRange, entryName}
 use Rattle.rulesheet.specs.Sheet.{entry-words, schemasWord, clausesWord, entriesWord, textWord, formOf, clauseAt, entryAt}
@@ -46,6 +46,8 @@ named-list Values n = cc
 named-list NamesOf n = refl
 named-list Schemas n = cc
 named-list Members n = refl
+named-list Branches n = cc
+named-list Counted n = cc
 
 -- ---- names of entries that stand one after the other, from `first` on
 

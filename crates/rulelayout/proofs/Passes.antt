@@ -18,7 +18,7 @@ use Rattle.laws.specs.Lowest.{lowestFrom}
 use Rattle.laws.proofs.Tests.{le-or-lt}
 use Rattle.laws.proofs.Searches.{left, begun, found, passed as on, ended}
 use Rattle.rulesheet.specs.declared.code.Fields.{Fields}
-use Rattle.rulesheet.specs.declared.code.Fields.the-variants.{Unknown, Bare, Types, Number, Positive, Limit, Schema, Values, Names, Schemas, Members}
+use Rattle.rulesheet.specs.declared.code.Fields.the-variants.{Unknown, Bare, Types, Number, Positive, Limit, Schema, Values, Names, Schemas, Members, Branches, Counted}
 use Rattle.rulesheet.specs.declared.code.Shape.{Shape}
 use Rattle.rulesheet.specs.declared.form.SchemaRow.{SchemaRow}
 use Rattle.rulesheet.specs.declared.form.ClauseRow.{ClauseRow}
@@ -48,10 +48,12 @@ list-fields Values m first count l = refl
 list-fields Names m first count l = refl
 list-fields Schemas m first count l = refl
 list-fields Members m first count l = refl
+list-fields Branches m first count l = refl
+list-fields Counted m first count l = refl
 
 module _ (ws : List ℕ) (form : RuleForm) (formed : RulesFormed ws form) (start : ℕ) (clause : ClauseRow) (shape : Shape) (known : shape ≡ shapeOf (clause .code)) where
   pub list-passed : {r : Bool} → isList (shape .fields) ≡ true
-      → (eqb (clause .first) start && (leb (clause .first + clause .count) (form .e) && leb (shape .least) (clause .count))) ≡ r
+      → (eqb (clause .first) start && (leb (clause .first + clause .count) (form .e) && (leb (shape .least) (clause .count) && leb (clause .count) (shape .most)))) ≡ r
       → passed r (clause .first + clause .count) ≡ passedBy ws start clause
   unfolding listOk
   list-passed l e =

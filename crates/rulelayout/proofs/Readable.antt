@@ -27,7 +27,7 @@ use Rattle.sheet.specs.Doc.{stringBytes}
 use Rattle.sheet.specs.Faults.{scalarOk}
 use Rattle.sheet.proofs.Readable as sheets
 use Rattle.rulesheet.specs.declared.code.Fields.{Fields}
-use Rattle.rulesheet.specs.declared.code.Fields.the-variants.{Unknown, Bare, Types, Number, Positive, Limit, Schema, Values, Names, Schemas, Members}
+use Rattle.rulesheet.specs.declared.code.Fields.the-variants.{Unknown, Bare, Types, Number, Positive, Limit, Schema, Values, Names, Schemas, Members, Branches, Counted}
 use Rattle.rulesheet.specs.declared.form.RuleForm.{RuleForm}
 use Rattle.rulesheet.specs.declared.form.ClauseRow.{ClauseRow}
 use Rattle.rulesheet.specs.declared.form.EntryRow.{EntryRow}
@@ -115,6 +115,8 @@ range-of Values entry = string-of (kindOf (entry .first)) refl
 range-of Names entry = (entryRange entry, a-name entry)
 range-of Schemas entry = (nothing, no-text Schemas entry (λ ts. refl))
 range-of Members entry = (entryRange entry, a-member entry)
+range-of Branches entry = (nothing, no-text Branches entry (λ ts. refl))
+range-of Counted entry = (nothing, no-text Counted entry (λ ts. refl))
 
 -- ---- an entry of clause k
 

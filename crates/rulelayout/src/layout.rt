@@ -112,6 +112,8 @@ pub fn fields_ok(fields: Fields, m: u32, first: u32, count: u32) -> bool
         Fields::Names => true,
         Fields::Schemas => true,
         Fields::Members => true,
+        Fields::Branches => true,
+        Fields::Counted => true,
     }
 }
 
@@ -133,7 +135,10 @@ fn pass_clause(words: &[u32], form: RuleForm, start: usize, clause: ClauseRow) -
     if fields.is_list() {
         let first = wide(clause.first);
         let end = first + wide(clause.count);
-        if (first == start) & ((end <= wide(form.e)) & (shape.least <= clause.count)) {
+        if (first == start)
+            & ((end <= wide(form.e))
+                & ((shape.least <= clause.count) & (clause.count <= shape.most)))
+        {
             return Passed::Next(end);
         }
         return Passed::Fault;
@@ -229,6 +234,8 @@ fn entry_ok(fields: Fields, size: usize, m: u32, entry: EntryRow) -> bool
         Fields::Names => text::range_fits(size, range) & (entry.third == 0),
         Fields::Schemas => (entry.first < m) & ((entry.second == 0) & (entry.third == 0)),
         Fields::Members => text::range_fits(size, range) & (entry.third < m),
+        Fields::Branches => (entry.first < m) & ((entry.second == 0) & (entry.third == 0)),
+        Fields::Counted => entry.first < m,
     }
 }
 

@@ -63,6 +63,8 @@ fn text_range(fields: Fields, entry: EntryRow) -> Range
         Fields::Names => name,
         Fields::Schemas => none,
         Fields::Members => name,
+        Fields::Branches => none,
+        Fields::Counted => none,
     }
 }
 

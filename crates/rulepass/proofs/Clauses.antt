@@ -7,32 +7,39 @@
 use mathlib.Core.Bool.{Bool, true, false, _&&_, false≢true}
 use mathlib.Core.List.{List, map, List·Memᴰ as In, List·Memᴰ·not-nil as in-none, List·Memᴰ·cases-cons as in-cons, List·Memᴰ·eq-of-singleton as in-one}
 use mathlib.Core.Logic.{⊎-elim}
-use mathlib.Core.Path.{_≡_, refl, sym, _∙_}
+use mathlib.Core.Path.{_≡_, refl, sym, ap, _∙_}
 use Prim.Native.Nat.{ℕ, zero, suc, _+_, _≤_, _<_}
 use native.Mathlib.Omega.{arith}
 use lib.Dec.{eqb, leb}
+use lib.ListN.{getD}
 use borrow.Author.Tests.{leb-true}
 use Rattle.laws.proofs.Tests.{left, right}
+use Rattle.rulesheet.specs.declared.code.Fields.{Fields}
+use Rattle.rulesheet.specs.declared.code.Fields.the-variants.{Unknown, Bare, Types, Number, Positive, Limit, Schema, Values, Names, Schemas, Members, Branches, Counted}
 use Rattle.rulesheet.specs.declared.code.Shape.{Shape}
 use Rattle.rulesheet.specs.declared.form.ClauseRow.{ClauseRow}
 use Rattle.rulesheet.specs.declared.form.EntryRow.{EntryRow}
 use Rattle.rulesheet.specs.declared.form.RuleForm.{RuleForm}
-use Rattle.rulesheet.specs.Codes.{shapeOf}
+use Rattle.rulesheet.specs.Codes.{no-entry, shapeOf}
 use Rattle.rulesheet.specs.Sheet.{schemasWord, entryAt, run}
-use Rattle.rulesheet.specs.Faults.{isList, fieldsOk, listOk}
+use Rattle.rulesheet.specs.Faults.{isList, isNamed, fieldsOk, listOk}
+use Rattle.rulesheet.specs.Clauses.{SizedBy}
 use Rattle.rulesheet.specs.Read.{RulesFormed}
 use Rattle.rulesheet.proofs.Trailers.{form-m, form-e}
+use Rattle.rulesheet.proofs.Reaching.{namedBy, made-at}
+use Rattle.rulesheet.proofs.Sizes.{counts-of}
 use Rattle.rulelayout.proofs.Passes.{list-fields}
 use Rattle.rulepass.specs.declared.Pass.{Pass}
-use Rattle.rulepass.specs.Pass.{ListFine, AllLater, Counted, schemasBy, LeadsOn, ClausePassed}
+use Rattle.rulepass.specs.Pass as Pass
+use Rattle.rulepass.specs.Pass.{ListFine, schemaIn, AllLater, schemasBy, LeadsOn, ClausePassed}
 
-pub counted-so : {u : Bool} {A B : Type 0} {steps r : ℕ} → (A → B) → Counted u A steps r → Counted u B steps r
+pub counted-so : {u : Bool} {A B : Type 0} {steps r : ℕ} → (A → B) → Pass.Counted u A steps r → Pass.Counted u B steps r
 counted-so f c = record { count = c .count; leads = λ l t. f (c .leads l t) }
 
-pub counted : (u : Bool) {A B : Type 0} {steps r : ℕ} → u ≡ true → (A → B) → Counted true A steps r → Counted u B steps r
+pub counted : (u : Bool) {A B : Type 0} {steps r : ℕ} → u ≡ true → (A → B) → Pass.Counted true A steps r → Pass.Counted u B steps r
 counted u {A} {B} {steps} {r} some f c = record { count = λ l. rw some (c .count l); leads = λ l t. f (c .leads l refl) }
 
-pub uncounted : (u : Bool) {A : Type 0} {steps : ℕ} → u ≡ false → Counted u A steps steps
+pub uncounted : (u : Bool) {A : Type 0} {steps : ℕ} → u ≡ false → Pass.Counted u A steps steps
 uncounted u {A} {steps} none =
     record { count = λ l. rw none (omega arith); leads = λ l (t : u ≡ true). absurd (false≢true (sym none ∙ t)) }
 
@@ -42,34 +49,81 @@ ends-within at fits enough sum e is tests = leb-true sum e (sym is ∙ left fits
 
 -- ---- the schemas that a list names
 
-later-in : (ws : List ℕ) (s many from : ℕ) → ((x : ℕ) → from ≤ x → x < from + many → s < entryAt ws x .first)
-    → (t : ℕ) → In t (map (λ (e : EntryRow). e .first) (map (entryAt ws) (run many from))) → s < t
+later-in : (ws : List ℕ) (schema : EntryRow → ℕ) (s many from : ℕ) → ((x : ℕ) → from ≤ x → x < from + many → s < schema (entryAt ws x))
+    → (t : ℕ) → In t (map schema (map (entryAt ws) (run many from))) → s < t
 unfolding run
-later-in ws s zero from later t i = absurd (in-none i)
-later-in ws s (suc many) from later t i =
+later-in ws schema s zero from later t i = absurd (in-none i)
+later-in ws schema s (suc many) from later t i =
     ⊎-elim
-    (λ (e : t ≡ entryAt ws from .first). omega (arith, later from (omega arith) (omega arith)))
-    (λ m. later-in ws s many (from + 1) (λ x low high. later x (omega arith) (omega arith)) t m)
+    (λ (e : t ≡ schema (entryAt ws from)). omega (arith, later from (omega arith) (omega arith)))
+    (λ m. later-in ws schema s many (from + 1) (λ x low high. later x (omega arith) (omega arith)) t m)
     (in-cons i)
 
+no-list : {A : Type 0} → false ≡ true → A
+no-list e = absurd (false≢true e)
+
+entry-later : (ws : List ℕ) (s first count t : ℕ) → ((x : ℕ) → first ≤ x → x < first + count → s < entryAt ws x .first)
+    → (i : ℕ) → i < count → t ≡ getD (map (entryAt ws) (run count first)) i no-entry .first → s < t
+entry-later ws s first count t later i low e =
+    omega (arith, later (first + i) (omega arith) (omega arith), ap (λ (r : EntryRow). r .first) (made-at (entryAt ws) count first i no-entry low))
+
+-- those of a list, by its fields
+list-later : (ws : List ℕ) (fields : Fields) (s first count t : ℕ) → isList fields ≡ true → SizedBy fields count
+    → ((x : ℕ) → first ≤ x → x < first + count → s < schemaIn (isNamed fields) (entryAt ws x))
+    → In t (namedBy fields first (map (entryAt ws) (run count first))) → s < t
+list-later ws Unknown s first count t l n later i = no-list l
+list-later ws Bare s first count t l n later i = no-list l
+list-later ws Types s first count t l n later i = no-list l
+list-later ws Number s first count t l n later i = no-list l
+list-later ws Positive s first count t l n later i = no-list l
+list-later ws Limit s first count t l n later i = no-list l
+list-later ws Schema s first count t l n later i = no-list l
+list-later ws Values s first count t l n later i = absurd (in-none i)
+list-later ws Names s first count t l n later i = absurd (in-none i)
+list-later ws Schemas s first count t l n later i = later-in ws (λ (e : EntryRow). e .first) s count first later t i
+list-later ws Members s first count t l n later i = later-in ws (λ (e : EntryRow). e .third) s count first later t i
+list-later ws Branches s first count t l n later i =
+    ⊎-elim
+    (λ e. entry-later ws s first count t later 0 (omega arith) e)
+    (λ j. ⊎-elim (λ e. entry-later ws s first count t later 1 (omega arith) e) (λ k. entry-later ws s first count t later 2 (omega arith) (in-one k)) (in-cons j))
+    (in-cons i)
+list-later ws Counted s first count t l n later i = entry-later ws s first count t later 0 (omega arith) (in-one i)
+
+-- the one of another clause
+other-first : (fields : Fields) (first t : ℕ) (es : List EntryRow) → isList fields ≡ false → In t (namedBy fields first es) → t ≡ first
+other-first Unknown first t es l i = absurd (in-none i)
+other-first Bare first t es l i = absurd (in-none i)
+other-first Types first t es l i = absurd (in-none i)
+other-first Number first t es l i = absurd (in-none i)
+other-first Positive first t es l i = absurd (in-none i)
+other-first Limit first t es l i = absurd (in-none i)
+other-first Schema first t es l i = in-one i
+other-first Values first t es l i = no-list (sym l)
+other-first Names first t es l i = no-list (sym l)
+other-first Schemas first t es l i = no-list (sym l)
+other-first Members first t es l i = no-list (sym l)
+other-first Branches first t es l i = no-list (sym l)
+other-first Counted first t es l i = no-list (sym l)
+
 module _ (ws ts : List ℕ) (form : RuleForm) (formed : RulesFormed ws form) (s : ℕ) (clause : ClauseRow) (shape : Shape) (known : shape ≡ shapeOf (clause .code)) (start steps : ℕ) (r : Pass) where
-  list-leads : isList (shape .fields) ≡ true → AllLater ws s (clause .first) (clause .first + clause .count) → LeadsOn ws s clause
-  list-leads list all =
+  list-leads : isList (shape .fields) ≡ true → shape .least ≤ clause .count → clause .count ≤ shape .most
+      → AllLater ws (isNamed (shape .fields)) s (clause .first) (clause .first + clause .count) → LeadsOn ws s clause
+  list-leads list least most all =
       record {
-        later = λ (t : ℕ) (i : In t (schemasBy ws clause)). later-in ws s (clause .count) (clause .first) (all .later) t (rw (← known, list) at i);
+        later = λ (t : ℕ) (i : In t (schemasBy ws clause)). list-later ws (shapeOf (clause .code) .fields) s (clause .first) (clause .count) t (rw (← known) list) (counts-of (clause .code) (clause .count) (rw (← known) least) (rw (← known) most)) (rw known at (all .later)) i;
       }
 
   other-leads : isList (shape .fields) ≡ false → s < clause .first → LeadsOn ws s clause
   other-leads other later =
       record {
-        later = λ (t : ℕ) (i : In t (schemasBy ws clause)). let e = in-one (rw (← known, other) at i) in omega arith;
+        later = λ (t : ℕ) (i : In t (schemasBy ws clause)). let e = other-first (shapeOf (clause .code) .fields) (clause .first) t (map (entryAt ws) (run (clause .count) (clause .first))) (rw (← known) other) i in omega arith;
       }
 
   pub passed-list : isList (shape .fields) ≡ true
-      → (eqb (clause .first) start && (leb (clause .first + clause .count) (form .e) && leb (shape .least) (clause .count))) ≡ true
+      → (eqb (clause .first) start && (leb (clause .first + clause .count) (form .e) && (leb (shape .least) (clause .count) && leb (clause .count) (shape .most)))) ≡ true
       → ListFine ws ts (shape .fields) (clause .first) (clause .count)
       → r .start ≡ clause .first + clause .count
-      → Counted (shape .unguarded) (AllLater ws s (clause .first) (clause .first + clause .count)) steps (r .steps)
+      → Pass.Counted (shape .unguarded) (AllLater ws (isNamed (shape .fields)) s (clause .first) (clause .first + clause .count)) steps (r .steps)
       → ClausePassed ws ts s clause start steps r
   unfolding listOk
   passed-list list tests entries next counted =
@@ -78,13 +132,22 @@ module _ (ws ts : List ℕ) (form : RuleForm) (formed : RulesFormed ws form) (s 
         listed = rw (← known, list, ← form-e ws form formed) tests;
         list = λ t. rw (← known) entries;
         next = rw (← known, list) next;
-        counted = rw (← known) (counted-so (list-leads list) counted);
+        counted = rw (← known) (counted-so (list-leads list (leb-true (shape .least) (clause .count) (left few many sizes)) (leb-true (clause .count) (shape .most) (right few many sizes))) counted);
       }
+    where
+      few : Bool
+      few = leb (shape .least) (clause .count)
+
+      many : Bool
+      many = leb (clause .count) (shape .most)
+
+      sizes : (few && many) ≡ true
+      sizes = right (leb (clause .first + clause .count) (form .e)) (few && many) (right (eqb (clause .first) start) (leb (clause .first + clause .count) (form .e) && (few && many)) tests)
 
   pub passed-other : isList (shape .fields) ≡ false
       → fieldsOk (shape .fields) (form .m) (clause .first) (clause .count) ≡ true
       → r .start ≡ start
-      → Counted (shape .unguarded) (s < clause .first) steps (r .steps)
+      → Pass.Counted (shape .unguarded) (s < clause .first) steps (r .steps)
       → ClausePassed ws ts s clause start steps r
   unfolding listOk
   passed-other other fine next counted =

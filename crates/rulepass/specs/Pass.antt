@@ -1,7 +1,7 @@
 -- What one pass over a rule sheet tells. Only `Told` is cited by the check of a sheet; the rest says how far a pass has come.
 -- Assumes nothing.
 use mathlib.Core.Bool.{Bool, true, false, cond}
-use mathlib.Core.List.{List, [], _∷_, map, List·Memᴰ as In}
+use mathlib.Core.List.{List, map, List·Memᴰ as In}
 use mathlib.Core.Path.{_≡_}
 use Prim.Native.Nat.{ℕ, zero, suc, _+_, _≤_, _<_}
 use Rattle.text.specs.Part.{fits}
@@ -14,6 +14,7 @@ use Rattle.rulesheet.specs.Codes.{shapeOf, entryRange, entryName}
 use Rattle.rulesheet.specs.Sheet.{schemasWord, textWord, schemaAt, clauseAt, entryAt, run, targetsOf, nextOf}
 use Rattle.rulesheet.specs.Faults.{isList, isNamed, fieldsOk, fieldsAt, entryOk, listStart, listOk, clauseFineIn, repeated}
 use Rattle.rulesheet.specs.Read.{RulesLaid}
+use Rattle.rulesheet.proofs.Reaching.{namedBy}
 use Rattle.unguarded.specs.Graph.{chain-steps}
 use Rattle.unguarded.specs.Places.{chainPlace}
 use Rattle.rulepass.specs.declared.Pass.{Pass}
@@ -57,9 +58,14 @@ unfoldable pub stepsBefore : List ℕ → ℕ → ℕ
 stepsBefore ws zero = 0
 stepsBefore ws (suc k) = stepsBefore ws k + unit (shapeOf (clauseAt ws k .code) .unguarded)
 
--- the schemas that these entries name stand after s
-pub record AllLater (ws : List ℕ) (s first end : ℕ) : Type 0 where
-  pub later : (x : ℕ) → first ≤ x → x < end → s < entryAt ws x .first
+-- the schema of an entry, which has a name or not
+abbrev pub schemaIn : Bool → EntryRow → ℕ
+schemaIn true entry = entry .third
+schemaIn false entry = entry .first
+
+-- the schemas of these entries stand after s
+pub record AllLater (ws : List ℕ) (named : Bool) (s first end : ℕ) : Type 0 where
+  pub later : (x : ℕ) → first ≤ x → x < end → s < schemaIn named (entryAt ws x)
 
 -- one more than `steps` if the clause has steps, and then they lead to later schemas; from `chain-steps` on nothing is told
 pub record Counted (unguarded : Bool) (later : Type 0) (steps r : ℕ) : Type 0 where
@@ -68,10 +74,7 @@ pub record Counted (unguarded : Bool) (later : Type 0) (steps r : ℕ) : Type 0 
 
 -- the schemas that a clause names, by its words
 abbrev pub schemasBy : List ℕ → ClauseRow → List ℕ
-schemasBy ws clause =
-    cond (isList (shapeOf (clause .code) .fields))
-    (map (λ (e : EntryRow). e .first) (map (entryAt ws) (run (clause .count) (clause .first))))
-    (clause .first ∷ [])
+schemasBy ws clause = namedBy (shapeOf (clause .code) .fields) (clause .first) (map (entryAt ws) (run (clause .count) (clause .first)))
 
 -- they stand after s
 pub record LeadsOn (ws : List ℕ) (s : ℕ) (clause : ClauseRow) : Type 0 where

@@ -3,8 +3,11 @@
 ghost use mathlib.Core.Bool.{true};
 ghost use mathlib.Core.Path.{_≡_};
 ghost use Prim.Native.Nat.{_≤_, _<_};
+ghost use Rattle.rulesheet.specs.Faults.{isNamed};
 ghost use Rattle.rulesheet.specs.Read.{RulesFormed};
-ghost use Rattle.rulepass.specs.Pass.{AllLater, Counted};
+ghost use Rattle.rulepass.specs.Pass.{schemaIn, AllLater, Counted};
+use rulesheet::code::Fields;
+use rulesheet::form::EntryRow;
 use rulesheet::form::RuleForm;
 use rulesheet::form::entry_at;
 use sheet::record::RuleRow;
@@ -13,15 +16,29 @@ use sheet::record::RuleRow;
 // tells nothing.
 pub(crate) const MANY: u32 = 32;
 
-// Whether the schemas that these entries name stand after s.
-fn all_later(words: &[u32], form: RuleForm, s: RuleRow, first: u32, end: u32) -> bool
+// The schema of an entry, which has a name or not.
+fn schema_in(named: bool, entry: EntryRow) -> u32
+    ensures { λ r. ⌜ r ≡ schemaIn named entry ⌝ }
+{
+    if named { entry.third } else { entry.first }
+}
+
+// Whether the schemas of these entries, which have names or not, stand after s.
+fn all_later(
+    words: &[u32],
+    form: RuleForm,
+    s: RuleRow,
+    named: bool,
+    first: u32,
+    end: u32,
+) -> bool
     requires { ⌜ RulesFormed (now words) form × (end ≤ form .e) ⌝ }
-    ensures { λ r. ⌜ (r ≡ true → AllLater (now (words .entry)) (s .0) first end) ⌝ }
+    ensures { λ r. ⌜ (r ≡ true → AllLater (now (words .entry)) named (s .0) first end) ⌝ }
 {
     let this = s.0;
     let mut x = first;
     while x < end {
-        if entry_at(words, form, x).first <= this {
+        if schema_in(named, entry_at(words, form, x)) <= this {
             return false;
         }
         x += 1;
@@ -42,23 +59,25 @@ fn one_more(steps: u32, later: bool) -> u32
     MANY
 }
 
-// The clauses with steps, after one of schema s whose schemas are these entries.
+// The clauses with steps, after one of schema s whose schemas are those of these entries.
 pub(crate) fn after_list(
     words: &[u32],
     form: RuleForm,
     s: RuleRow,
     unguarded: bool,
+    fields: Fields,
     first: u32,
     end: u32,
     steps: u32,
 ) -> u32
     requires { ⌜ RulesFormed (now words) form × (end ≤ form .e) ⌝ }
-    ensures { λ r. ⌜ Counted unguarded (AllLater (now (words .entry)) (s .0) first end) steps r ⌝ }
+    ensures { λ r. ⌜ Counted unguarded (AllLater (now (words .entry)) (isNamed fields) (s .0) first end) steps r ⌝ }
 {
     if !unguarded {
         return steps;
     }
-    one_more(steps, all_later(words, form, s, first, end))
+    let named = fields.is_named();
+    one_more(steps, all_later(words, form, s, named, first, end))
 }
 
 // The same, of one whose schema is t.

@@ -59,7 +59,8 @@ fn pass_list(
     let first = clause.first;
     let count = clause.count;
     if !((first == start)
-        & ((wide(first) + wide(count) <= wide(form.e)) & (shape.least <= count))) {
+        & ((wide(first) + wide(count) <= wide(form.e))
+            & ((shape.least <= count) & (count <= shape.most)))) {
         return Pass {
             fine: false,
             start: start,
@@ -72,7 +73,7 @@ fn pass_list(
     Pass {
         fine: fine,
         start: end,
-        steps: after_list(words, form, s, shape.unguarded, first, end, steps),
+        steps: after_list(words, form, s, shape.unguarded, fields, first, end, steps),
     }
 }
 

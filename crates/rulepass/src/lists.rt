@@ -76,5 +76,7 @@ pub(crate) fn entries_fine(
         Fields::Names => named_fine(words, text, form, Fields::Names, first, count),
         Fields::Schemas => first_bad_in(words, form, size, Fields::Schemas, first, end) == end,
         Fields::Members => named_fine(words, text, form, Fields::Members, first, count),
+        Fields::Branches => first_bad_in(words, form, size, Fields::Branches, first, end) == end,
+        Fields::Counted => first_bad_in(words, form, size, Fields::Counted, first, end) == end,
     }
 }

@@ -1,5 +1,5 @@
 -- Clauses of a few codes.
---     all-of-decoded, any-of-decoded, one-of-decoded, not-of-decoded, ref-of-decoded, members-decoded, additional-decoded, prefix-decoded, items-decoded, fresh-members-decoded, fresh-items-decoded
+--     all-of-decoded, any-of-decoded, one-of-decoded, not-of-decoded, ref-of-decoded, if-decoded, dependent-decoded, members-decoded, additional-decoded, prefix-decoded, items-decoded, contains-decoded, fresh-members-decoded, fresh-items-decoded
 --                       what each code that applies schemas is decoded to
 --     quiet             what is asked of a few codes is not asked of a clause of another
 --     telling-few, told-few, applying-few, sparing-few     the few of each question
@@ -13,7 +13,7 @@ use lib.Dec.{eqb}
 use borrow.Author.Tests.{eqb-true}
 use Rattle.sheet.specs.declared.record.RuleRow.{RuleRow}
 use Rattle.rulesheet.specs.declared.clause.Entries.{Entries}
-use Rattle.rulesheet.specs.declared.clause.Clause.the-variants.{AllOf, AnyOf, OneOf, Not, Ref, Properties, AdditionalProperties, PrefixItems, Items, UnevaluatedProperties, UnevaluatedItems}
+use Rattle.rulesheet.specs.declared.clause.Clause.the-variants.{AllOf, AnyOf, OneOf, Not, Ref, IfThenElse, DependentSchemas, Properties, AdditionalProperties, PrefixItems, Items, Contains, UnevaluatedProperties, UnevaluatedItems}
 use Rattle.rulesheet.specs.Ruleset as R
 use Rattle.rulesheet.specs.Ruleset.{asserts, never}
 use Rattle.rulesheet.specs.Codes.{Parts, CodeLine, codes, unknown, pickLine, lineIn, meansOf}
@@ -49,6 +49,14 @@ module _ (first count : ℕ) where
   unfolding lineIn
   ref-of-decoded = record { means = λ ws ts. refl; holds = (refl, refl) }
 
+  pub if-decoded : Decoded 36 first count (IfThenElse entries)
+  unfolding lineIn
+  if-decoded = record { means = λ ws ts. refl; holds = (refl, refl, refl, refl) }
+
+  pub dependent-decoded : Decoded 37 first count (DependentSchemas entries)
+  unfolding lineIn
+  dependent-decoded = record { means = λ ws ts. refl; holds = (refl, refl, refl, refl) }
+
   pub members-decoded : Decoded 40 first count (Properties entries)
   unfolding lineIn
   members-decoded = record { means = λ ws ts. refl; holds = (refl, refl, refl, refl) }
@@ -64,6 +72,10 @@ module _ (first count : ℕ) where
   pub items-decoded : Decoded 44 first count (Items schema)
   unfolding lineIn
   items-decoded = record { means = λ ws ts. refl; holds = (refl, refl) }
+
+  pub contains-decoded : Decoded 45 first count (Contains entries)
+  unfolding lineIn
+  contains-decoded = record { means = λ ws ts. refl; holds = (refl, refl, refl, refl) }
 
   pub fresh-members-decoded : Decoded 60 first count (UnevaluatedProperties schema)
   unfolding lineIn
@@ -109,25 +121,25 @@ telling-codes = 43 ∷ 40 ∷ []
 
 pub telling-few : (code : ℕ) → Differs code telling-codes → (p : Parts) → telling (meansOf code p) ≡ asserts never
 unfolding Quiet telling
-telling-few = quiet telling telling-codes (and (λ d p. refl) (and (λ d p. refl) (and (λ d p. refl) (and (λ d p. refl) (and (λ d p. refl) (and (λ d p. refl) (and (λ d p. refl) (and (λ d p. refl) (and (λ d p. refl) (and (λ d p. refl) (and (λ d p. refl) (and (λ d p. refl) (and (λ d p. refl) (and (λ d p. refl) (and (λ d p. refl) (and (λ d p. refl) (and (λ d p. refl) (and (λ d p. refl) (and (λ d p. refl) (and (λ d p. refl) (and (λ d p. absurd (d .0 .1 refl)) (and (λ d p. refl) (and (λ d p. absurd (d .1 refl)) (and (λ d p. refl) (and (λ d p. refl) (and (λ d p. refl) done)))))))))))))))))))))))))) refl
+telling-few = quiet telling telling-codes (and (λ d p. refl) (and (λ d p. refl) (and (λ d p. refl) (and (λ d p. refl) (and (λ d p. refl) (and (λ d p. refl) (and (λ d p. refl) (and (λ d p. refl) (and (λ d p. refl) (and (λ d p. refl) (and (λ d p. refl) (and (λ d p. refl) (and (λ d p. refl) (and (λ d p. refl) (and (λ d p. refl) (and (λ d p. refl) (and (λ d p. refl) (and (λ d p. refl) (and (λ d p. refl) (and (λ d p. refl) (and (λ d p. refl) (and (λ d p. refl) (and (λ d p. absurd (d .0 .1 refl)) (and (λ d p. refl) (and (λ d p. absurd (d .1 refl)) (and (λ d p. refl) (and (λ d p. refl) (and (λ d p. refl) (and (λ d p. refl) done))))))))))))))))))))))))))))) refl
 
 abbrev pub told-codes : List ℕ
 told-codes = 44 ∷ 42 ∷ []
 
 pub told-few : (code : ℕ) → Differs code told-codes → (p : Parts) → told (meansOf code p) ≡ asserts never
 unfolding Quiet told
-told-few = quiet told told-codes (and (λ d p. refl) (and (λ d p. refl) (and (λ d p. refl) (and (λ d p. refl) (and (λ d p. refl) (and (λ d p. refl) (and (λ d p. refl) (and (λ d p. refl) (and (λ d p. refl) (and (λ d p. refl) (and (λ d p. refl) (and (λ d p. refl) (and (λ d p. refl) (and (λ d p. refl) (and (λ d p. refl) (and (λ d p. refl) (and (λ d p. refl) (and (λ d p. refl) (and (λ d p. refl) (and (λ d p. refl) (and (λ d p. refl) (and (λ d p. absurd (d .0 .1 refl)) (and (λ d p. refl) (and (λ d p. absurd (d .1 refl)) (and (λ d p. refl) (and (λ d p. refl) done)))))))))))))))))))))))))) refl
+told-few = quiet told told-codes (and (λ d p. refl) (and (λ d p. refl) (and (λ d p. refl) (and (λ d p. refl) (and (λ d p. refl) (and (λ d p. refl) (and (λ d p. refl) (and (λ d p. refl) (and (λ d p. refl) (and (λ d p. refl) (and (λ d p. refl) (and (λ d p. refl) (and (λ d p. refl) (and (λ d p. refl) (and (λ d p. refl) (and (λ d p. refl) (and (λ d p. refl) (and (λ d p. refl) (and (λ d p. refl) (and (λ d p. refl) (and (λ d p. refl) (and (λ d p. refl) (and (λ d p. refl) (and (λ d p. absurd (d .0 .1 refl)) (and (λ d p. refl) (and (λ d p. absurd (d .1 refl)) (and (λ d p. refl) (and (λ d p. refl) (and (λ d p. refl) done))))))))))))))))))))))))))))) refl
 
 abbrev pub applying-codes : List ℕ
-applying-codes = 61 ∷ 60 ∷ 44 ∷ 43 ∷ 42 ∷ 40 ∷ 34 ∷ 33 ∷ 32 ∷ 31 ∷ 30 ∷ []
+applying-codes = 61 ∷ 60 ∷ 45 ∷ 44 ∷ 43 ∷ 42 ∷ 40 ∷ 37 ∷ 36 ∷ 34 ∷ 33 ∷ 32 ∷ 31 ∷ 30 ∷ []
 
 pub applying-few : (code : ℕ) → Differs code applying-codes → (p : Parts) → applying (meansOf code p) ≡ asserts never
 unfolding Quiet applying
-applying-few = quiet applying applying-codes (and (λ d p. refl) (and (λ d p. refl) (and (λ d p. refl) (and (λ d p. refl) (and (λ d p. refl) (and (λ d p. refl) (and (λ d p. refl) (and (λ d p. refl) (and (λ d p. refl) (and (λ d p. refl) (and (λ d p. refl) (and (λ d p. refl) (and (λ d p. refl) (and (λ d p. refl) (and (λ d p. refl) (and (λ d p. absurd (d .0 .0 .0 .0 .0 .0 .0 .0 .0 .0 .1 refl)) (and (λ d p. absurd (d .0 .0 .0 .0 .0 .0 .0 .0 .0 .1 refl)) (and (λ d p. absurd (d .0 .0 .0 .0 .0 .0 .0 .0 .1 refl)) (and (λ d p. absurd (d .0 .0 .0 .0 .0 .0 .0 .1 refl)) (and (λ d p. absurd (d .0 .0 .0 .0 .0 .0 .1 refl)) (and (λ d p. absurd (d .0 .0 .0 .0 .0 .1 refl)) (and (λ d p. absurd (d .0 .0 .0 .0 .1 refl)) (and (λ d p. absurd (d .0 .0 .0 .1 refl)) (and (λ d p. absurd (d .0 .0 .1 refl)) (and (λ d p. absurd (d .0 .1 refl)) (and (λ d p. absurd (d .1 refl)) done)))))))))))))))))))))))))) refl
+applying-few = quiet applying applying-codes (and (λ d p. refl) (and (λ d p. refl) (and (λ d p. refl) (and (λ d p. refl) (and (λ d p. refl) (and (λ d p. refl) (and (λ d p. refl) (and (λ d p. refl) (and (λ d p. refl) (and (λ d p. refl) (and (λ d p. refl) (and (λ d p. refl) (and (λ d p. refl) (and (λ d p. refl) (and (λ d p. refl) (and (λ d p. absurd (d .0 .0 .0 .0 .0 .0 .0 .0 .0 .0 .0 .0 .0 .1 refl)) (and (λ d p. absurd (d .0 .0 .0 .0 .0 .0 .0 .0 .0 .0 .0 .0 .1 refl)) (and (λ d p. absurd (d .0 .0 .0 .0 .0 .0 .0 .0 .0 .0 .0 .1 refl)) (and (λ d p. absurd (d .0 .0 .0 .0 .0 .0 .0 .0 .0 .0 .1 refl)) (and (λ d p. absurd (d .0 .0 .0 .0 .0 .0 .0 .0 .0 .1 refl)) (and (λ d p. absurd (d .0 .0 .0 .0 .0 .0 .0 .0 .1 refl)) (and (λ d p. absurd (d .0 .0 .0 .0 .0 .0 .0 .1 refl)) (and (λ d p. absurd (d .0 .0 .0 .0 .0 .0 .1 refl)) (and (λ d p. absurd (d .0 .0 .0 .0 .0 .1 refl)) (and (λ d p. absurd (d .0 .0 .0 .0 .1 refl)) (and (λ d p. absurd (d .0 .0 .0 .1 refl)) (and (λ d p. absurd (d .0 .0 .1 refl)) (and (λ d p. absurd (d .0 .1 refl)) (and (λ d p. absurd (d .1 refl)) done))))))))))))))))))))))))))))) refl
 
 abbrev pub sparing-codes : List ℕ
-sparing-codes = 33 ∷ 32 ∷ 31 ∷ []
+sparing-codes = 45 ∷ 36 ∷ 33 ∷ 32 ∷ 31 ∷ []
 
 pub sparing-few : (code : ℕ) → Differs code sparing-codes → (p : Parts) → sparing (meansOf code p) ≡ asserts never
 unfolding Quiet sparing
-sparing-few = quiet sparing sparing-codes (and (λ d p. refl) (and (λ d p. refl) (and (λ d p. refl) (and (λ d p. refl) (and (λ d p. refl) (and (λ d p. refl) (and (λ d p. refl) (and (λ d p. refl) (and (λ d p. refl) (and (λ d p. refl) (and (λ d p. refl) (and (λ d p. refl) (and (λ d p. refl) (and (λ d p. refl) (and (λ d p. refl) (and (λ d p. refl) (and (λ d p. absurd (d .0 .0 .1 refl)) (and (λ d p. absurd (d .0 .1 refl)) (and (λ d p. absurd (d .1 refl)) (and (λ d p. refl) (and (λ d p. refl) (and (λ d p. refl) (and (λ d p. refl) (and (λ d p. refl) (and (λ d p. refl) (and (λ d p. refl) done)))))))))))))))))))))))))) refl
+sparing-few = quiet sparing sparing-codes (and (λ d p. refl) (and (λ d p. refl) (and (λ d p. refl) (and (λ d p. refl) (and (λ d p. refl) (and (λ d p. refl) (and (λ d p. refl) (and (λ d p. refl) (and (λ d p. refl) (and (λ d p. refl) (and (λ d p. refl) (and (λ d p. refl) (and (λ d p. refl) (and (λ d p. refl) (and (λ d p. refl) (and (λ d p. refl) (and (λ d p. absurd (d .0 .0 .0 .0 .1 refl)) (and (λ d p. absurd (d .0 .0 .0 .1 refl)) (and (λ d p. absurd (d .0 .0 .1 refl)) (and (λ d p. refl) (and (λ d p. absurd (d .0 .1 refl)) (and (λ d p. refl) (and (λ d p. refl) (and (λ d p. refl) (and (λ d p. refl) (and (λ d p. refl) (and (λ d p. absurd (d .1 refl)) (and (λ d p. refl) (and (λ d p. refl) done))))))))))))))))))))))))))))) refl

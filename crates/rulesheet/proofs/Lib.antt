@@ -4,6 +4,7 @@ pub mod Runs
 pub mod Taking
 pub mod Walking
 pub mod Reaching
+pub mod Sizes
 pub mod Stepping
 pub mod Repeating
 pub mod Items

@@ -69,12 +69,24 @@ module _ (code : ℕ) where
   unfolding noneIn
   past-twenty-six a b f = gap 27 30 code (omega arith) b refl
 
-  pub past-thirty-four : 35 ≤ code → code < 60 → (code ≡ 40 → ⊥) → (code ≡ 42 → ⊥) → (code ≡ 43 → ⊥) → (code ≡ 44 → ⊥) → lineIn codes code ≡ unknown
+  late : 42 ≤ code → (code ≡ 42 → ⊥) → (code ≡ 43 → ⊥) → (code ≡ 44 → ⊥) → (code ≡ 45 → ⊥) → 46 ≤ code
+  late l a b c d = omega arith
+
+  forties : 40 ≤ code → code < 42 → (code ≡ 40 → ⊥) → lineIn codes code ≡ unknown
   unfolding noneIn
-  past-thirty-four a b f g h i =
+  forties l h a = gap 41 42 code (omega arith) h refl
+
+  thirties : 35 ≤ code → code < 40 → (code ≡ 36 → ⊥) → (code ≡ 37 → ⊥) → lineIn codes code ≡ unknown
+  unfolding noneIn
+  thirties l h a b =
+      ⊎-elim (λ (k : 36 ≤ code). gap 38 40 code (omega arith) h refl) (λ (k : code < 36). gap 35 36 code l k refl) (le-or-lt 36 code)
+
+  pub past-thirty-four : 35 ≤ code → code < 60 → (code ≡ 36 → ⊥) → (code ≡ 37 → ⊥) → (code ≡ 40 → ⊥) → (code ≡ 42 → ⊥) → (code ≡ 43 → ⊥) → (code ≡ 44 → ⊥) → (code ≡ 45 → ⊥) → lineIn codes code ≡ unknown
+  unfolding noneIn
+  past-thirty-four a b c d f g h i j =
       ⊎-elim
-      (λ (l : 42 ≤ code). gap 45 60 code (omega arith) b refl)
-      (λ (l : code < 42). ⊎-elim (λ (k : 40 ≤ code). gap 41 42 code (omega arith) l refl) (λ (k : code < 40). gap 35 40 code a k refl) (le-or-lt 40 code))
+      (λ (l : 42 ≤ code). gap 46 60 code (late l g h i j) b refl)
+      (λ (l : code < 42). ⊎-elim (λ (k : 40 ≤ code). forties k l f) (λ (k : code < 40). thirties a k c d) (le-or-lt 40 code))
       (le-or-lt 42 code)
 
   pub past-sixty-one : 62 ≤ code → code < 2 ^ 32 → lineIn codes code ≡ unknown

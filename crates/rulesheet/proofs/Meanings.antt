@@ -26,10 +26,11 @@ use Rattle.rulesheet.specs.Codes.{shapeOf}
 use Rattle.rulesheet.specs.Sheet.{schemasWord, clausesWord, textWord, clauseAt, entryAt, clauseOf}
 use Rattle.rulesheet.specs.Faults.{isList, positiveOk, fieldsOk, entryOk, fieldsAt}
 use Rattle.rulesheet.specs.Read.{ClausesLaid, RulesLaid}
-use Rattle.rulesheet.specs.Clauses.{clauseMeans, Held, bare, number, schema, list, held, Bounded, Listed, Tested, Holds, Decoded}
+use Rattle.rulesheet.specs.Clauses.{clauseMeans, Held, bare, number, schema, list, held, Bounded, Listed, Sized, Tested, Holds, Decoded}
 use Rattle.rulesheet.proofs.Trailers.{form-m, form-c}
 use Rattle.rulesheet.proofs.Taking.{clause-facts, entry-taken}
 use Rattle.rulesheet.proofs.Walking.{list-inside}
+use Rattle.rulesheet.proofs.Sizes.{clause-sized}
 
 -- ---- numbers
 
@@ -114,5 +115,13 @@ module _ (ws : List ℕ) (form : RuleForm) (k : ℕ) (h : k < form .c) (row : Cl
   listed-by (schema it) holds laid = tt
   listed-by (list named es) holds laid = λ i l. rw (holds .0, holds .2) (entries-fine-in (holds .3) laid i (omega (arith, holds .1)))
 
+  -- a list has as many entries as its fields fix
+  sized-by : (what : Held) → Holds fields (row .first) (row .count) what → ClausesLaid ws form → Sized what
+  sized-by bare holds laid = tt
+  sized-by (number dec) holds laid = tt
+  sized-by (schema it) holds laid = tt
+  sized-by (list named es) holds laid =
+      rw (holds .1, holds .2, read) (clause-sized ws k (laid .clauses-fine k h) (is-list (holds .3)))
+
   pub tested-by : Tested ws form clause
-  tested-by = record { bounded = bounded-by (held clause) (d .holds); listed = listed-by (held clause) (d .holds) }
+  tested-by = record { bounded = bounded-by (held clause) (d .holds); sized = sized-by (held clause) (d .holds); listed = listed-by (held clause) (d .holds) }

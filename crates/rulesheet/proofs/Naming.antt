@@ -5,62 +5,49 @@
 use mathlib.Core.Bool.{true}
 use mathlib.Core.List.{List, [], _∷_, map, List·Memᴰ as In, List·Memᴰ·not-nil, List·Memᴰ·cases-cons, List·Memᴰ·eq-of-singleton, Memᴰ·cast, Memᴰ·map, Memᴰ·of-map}
 use mathlib.Core.Logic.{⊎-elim}
-use mathlib.Core.Path.{_≡_, refl, sym, ap, _∙_}
+use mathlib.Core.Path.{_≡_, refl, sym, ap, subst, _∙_}
 use Prim.Native.Nat.{ℕ, zero, suc, _+_, _≤_, _<_}
 use native.Mathlib.Omega.{arith}
 use lib.Dec.{eqb, ltb}
+use lib.ListN.{getD}
 use borrow.Author.Tests.{ltb-true, lt-ltb, le-ltb}
 use Rattle.laws.proofs.Tests.{le-or-lt, left, right}
 use Rattle.text.specs.Part.{fits}
 use Rattle.sheet.specs.Faults.{none}
 use Rattle.rulesheet.specs.declared.code.Fields.{Fields}
-use Rattle.rulesheet.specs.declared.code.Fields.the-variants.{Unknown, Bare, Types, Number, Positive, Limit, Schema, Values, Names, Schemas, Members}
+use Rattle.rulesheet.specs.declared.code.Fields.the-variants.{Unknown, Bare, Types, Number, Positive, Limit, Schema, Values, Names, Schemas, Members, Branches, Counted}
 use Rattle.rulesheet.specs.declared.form.EntryRow.{EntryRow}
 use Rattle.rulesheet.specs.declared.form.RuleForm.{RuleForm}
-use Rattle.rulesheet.specs.Ruleset.{Clause, inPlace, unguarded, named}
-use Rattle.rulesheet.specs.Codes.{Parts, CodeLine, codes, entryRange, entryName, meansOf, shapeOf}
+use Rattle.rulesheet.specs.Ruleset.{Clause, inPlace, ifThenElse, dependentSchemas, unguarded, named}
+use Rattle.rulesheet.specs.Codes.{Parts, CodeLine, codes, no-entry, entryRange, entryName, meansOf, shapeOf}
 use Rattle.rulesheet.specs.Sheet.{schemasWord, clausesWord, textWord, schemaAt, clauseAt, entryAt, run, clauseOf, rulesOf}
 use Rattle.rulesheet.specs.Faults.{isList, fieldsAt, entryOk, clauseFine}
 use Rattle.rulesheet.specs.Read.{RulesLaid}
 use Rattle.rulesheet.proofs.Trailers.{form-m, form-c, form-e}
 use Rattle.rulesheet.proofs.Taking.{schema-within, clause-facts, list-facts, entry-taken}
-use Rattle.rulesheet.proofs.Reaching.{Every, done, and, in-table, partsAt}
+use Rattle.rulesheet.proofs.Reaching.{Every, done, and, in-table, namedBy, third-of, made-at, partsAt}
+use Rattle.rulesheet.proofs.Sizes.{clause-sized}
 
 pub steps-named : (clause : Clause) (t : ℕ) → In t (unguarded clause) → In t (named clause)
 steps-named (inPlace mode schemas) t i = i
+steps-named (ifThenElse a b c) t i = i
+steps-named (dependentSchemas members) t i = i
 
 -- ---- by a code's fields
 
--- the schemas that a clause of these fields names
-abbrev namedBy : Fields → Parts → List ℕ
-namedBy Unknown p = []
-namedBy Bare p = []
-namedBy Types p = []
-namedBy Number p = []
-namedBy Positive p = []
-namedBy Limit p = []
-namedBy Schema p = p .first ∷ []
-namedBy Values p = []
-namedBy Names p = []
-namedBy Schemas p = map (λ (e : EntryRow). e .first) (p .entries)
-namedBy Members p = map (λ (e : EntryRow). e .third) (p .entries)
-
 Naming : CodeLine → Type 0
-Naming line = (p : Parts) (t : ℕ) → In t (named (line .means p)) → In t (namedBy (line .shape .fields) p)
+Naming line = (p : Parts) (t : ℕ) → In t (named (line .means p)) → In t (namedBy (line .shape .fields) (p .first) (p .entries))
 
 -- members are mapped twice: to names with schemas, and to schemas
 twice : (name : EntryRow → List ℕ) (es : List EntryRow) (t : ℕ)
     → In t (map (λ (m : List ℕ × ℕ). m .1) (map (λ (e : EntryRow). (name e, e .third)) es)) → In t (map (λ (e : EntryRow). e .third) es)
-twice name es t i =
-    let a = Memᴰ·of-map (λ (m : List ℕ × ℕ). m .1) (map (λ (e : EntryRow). (name e, e .third)) es) i in
-    let b = Memᴰ·of-map (λ (e : EntryRow). (name e, e .third)) es (a .1) in
-    Memᴰ·cast (sym (ap (λ (m : List ℕ × ℕ). m .1) (b .2) ∙ a .2)) (Memᴰ·map (λ (e : EntryRow). e .third) (b .1))
+twice name es t i = subst (In t) (third-of name es) i
 
 table-names : Every Naming codes
 unfolding Naming
-table-names = and (λ p t i. i) (and (λ p t i. i) (and (λ p t i. i) (and (λ p t i. i) (and (λ p t i. i) (and (λ p t i. i) (and (λ p t i. i) (and (λ p t i. i) (and (λ p t i. i) (and (λ p t i. i) (and (λ p t i. i) (and (λ p t i. i) (and (λ p t i. i) (and (λ p t i. i) (and (λ p t i. i) (and (λ p t i. i) (and (λ p t i. i) (and (λ p t i. i) (and (λ p t i. i) (and (λ p t i. i) (and (λ p t i. twice (entryName (p .text)) (p .entries) t i) (and (λ p t i. i) (and (λ p t i. i) (and (λ p t i. i) (and (λ p t i. i) (and (λ p t i. i) done)))))))))))))))))))))))))
+table-names = and (λ p t i. i) (and (λ p t i. i) (and (λ p t i. i) (and (λ p t i. i) (and (λ p t i. i) (and (λ p t i. i) (and (λ p t i. i) (and (λ p t i. i) (and (λ p t i. i) (and (λ p t i. i) (and (λ p t i. i) (and (λ p t i. i) (and (λ p t i. i) (and (λ p t i. i) (and (λ p t i. i) (and (λ p t i. i) (and (λ p t i. i) (and (λ p t i. i) (and (λ p t i. i) (and (λ p t i. i) (and (λ p t i. i) (and (λ p t i. twice (entryName (p .text)) (p .entries) t i) (and (λ p t i. twice (entryName (p .text)) (p .entries) t i) (and (λ p t i. i) (and (λ p t i. i) (and (λ p t i. i) (and (λ p t i. i) (and (λ p t i. i) (and (λ p t i. i) done))))))))))))))))))))))))))))
 
-names-of : (code : ℕ) (p : Parts) (t : ℕ) → In t (named (meansOf code p)) → In t (namedBy (shapeOf code .fields) p)
+names-of : (code : ℕ) (p : Parts) (t : ℕ) → In t (named (meansOf code p)) → In t (namedBy (shapeOf code .fields) (p .first) (p .entries))
 unfolding Naming
 names-of code = in-table Naming codes code (λ p t i. i) table-names
 
@@ -91,7 +78,17 @@ module _ (ws ts : List ℕ) (form : RuleForm) (laid : RulesLaid ws form) (k : �
       (sym (entry-taken ws form (laid .clauses-laid) k (a .0) h list (r .0) (r .1))
       ∙ laid .entries-fine (a .0) (omega (arith, r .1, form-e ws form (laid .clauses-laid .schemas-laid .formed))))
 
-  by-fields : (f : Fields) (t : ℕ) → fieldsAt ws k ≡ f → In t (namedBy f (partsAt ws ts k)) → t < schemasWord ws
+  -- and so is the one at a place
+  at-entry : (i : ℕ) → i < clauseAt ws k .count → isList (fieldsAt ws k) ≡ true
+      → entryOk (fieldsAt ws k) (textWord ws) (schemasWord ws) (getD (partsAt ws ts k .entries) i no-entry) ≡ true
+  at-entry i l list =
+      let row = clauseAt ws k in
+      let inside = list-facts ws k fine list .list-within in
+      rw (made-at (entryAt ws) (row .count) (row .first) i no-entry l)
+      (sym (entry-taken ws form (laid .clauses-laid) k (row .first + i) h list (omega arith) (omega arith))
+      ∙ laid .entries-fine (row .first + i) (omega (arith, form-e ws form (laid .clauses-laid .schemas-laid .formed))))
+
+  by-fields : (f : Fields) (t : ℕ) → fieldsAt ws k ≡ f → In t (namedBy f (clauseAt ws k .first) (partsAt ws ts k .entries)) → t < schemasWord ws
   by-fields Unknown t e i = absurd (List·Memᴰ·not-nil i)
   by-fields Bare t e i = absurd (List·Memᴰ·not-nil i)
   by-fields Types t e i = absurd (List·Memᴰ·not-nil i)
@@ -115,6 +112,26 @@ module _ (ws ts : List ℕ) (form : RuleForm) (laid : RulesLaid ws form) (k : �
       let ok = rw e at (listed (a .0) (a .1) (rw e)) in
       let low = ltb-true (a .0 .third) (schemasWord ws) (right (fits (textWord ws) (entryRange (a .0))) (ltb (a .0 .third) (schemasWord ws)) ok) in
       rw (← a .2) low
+  by-fields Branches t e i =
+      let n = rw e at (clause-sized ws k fine (rw e)) in
+      let it : ℕ → ℕ = λ x. getD (partsAt ws ts k .entries) x no-entry .first in
+      ⊎-elim (λ (a : t ≡ it 0). rw a (at-first 0 e (omega arith)))
+      (λ (j : In t (it 1 ∷ it 2 ∷ [])).
+      ⊎-elim (λ (a : t ≡ it 1). rw a (at-first 1 e (omega arith)))
+      (λ (l : In t (it 2 ∷ [])). let a : t ≡ it 2 = List·Memᴰ·eq-of-singleton l in rw a (at-first 2 e (omega arith)))
+      (List·Memᴰ·cases-cons j))
+      (List·Memᴰ·cases-cons i)
+    where
+      at-first : (x : ℕ) → fieldsAt ws k ≡ Branches → x < clauseAt ws k .count → getD (partsAt ws ts k .entries) x no-entry .first < schemasWord ws
+      at-first x f l =
+          let it = getD (partsAt ws ts k .entries) x no-entry in
+          let ok = rw f at (at-entry x l (rw f)) in
+          ltb-true (it .first) (schemasWord ws) (left (ltb (it .first) (schemasWord ws)) (none (it .second) (it .third)) ok)
+  by-fields Counted t e i =
+      let n = rw e at (clause-sized ws k fine (rw e)) in
+      let it = getD (partsAt ws ts k .entries) 0 no-entry in
+      let ok = rw e at (at-entry 0 (omega arith) (rw e)) in
+      rw (List·Memᴰ·eq-of-singleton i) (ltb-true (it .first) (schemasWord ws) ok)
 
   pub clause-inside : (t : ℕ) → In t (named (clauseOf ws ts k)) → t < schemasWord ws
   unfolding clauseOf

@@ -13,13 +13,14 @@ use native.Mathlib.Omega.{arith}
 use lib.Dec.{eqb}
 use lib.ListN.{length, getD, length-map}
 use Rattle.laws.proofs.Tests.{decide}
+use Rattle.rulesheet.specs.declared.code.Fields.{Fields}
+use Rattle.rulesheet.specs.declared.code.Fields.the-variants.{Unknown, Bare, Types, Number, Positive, Limit, Schema, Values, Names, Schemas, Members, Branches, Counted}
 use Rattle.rulesheet.specs.declared.code.Shape.{Shape}
 use Rattle.rulesheet.specs.declared.form.ClauseRow.{ClauseRow}
 use Rattle.rulesheet.specs.declared.form.EntryRow.{EntryRow}
 use Rattle.rulesheet.specs.Ruleset.{unguarded}
-use Rattle.rulesheet.specs.Codes.{Parts, CodeLine, codes, unknown, pickLine, lineIn, shapeOf, meansOf}
+use Rattle.rulesheet.specs.Codes.{Parts, CodeLine, codes, unknown, pickLine, lineIn, no-entry, entryName, shapeOf, meansOf}
 use Rattle.rulesheet.specs.Sheet.{clauseAt, entryAt, run, clauseOf, targetsOf}
-use Rattle.rulesheet.specs.Faults.{isList}
 
 -- ---- runs of numbers
 
@@ -75,18 +76,40 @@ in-table P (line ∷ lines) code u (and p ps) = pick (eqb code (line .code)) (in
     pick true q = p
     pick false q = q
 
--- the steps of a clause of this shape
-abbrev pub byShape : Shape → Parts → List ℕ
-byShape shape p = cond (shape .unguarded) (cond (isList (shape .fields)) (map (λ (e : EntryRow). e .first) (p .entries)) (p .first ∷ [])) []
+-- the schemas that a clause of these fields names, by its first and its entries
+abbrev pub namedBy : Fields → ℕ → List EntryRow → List ℕ
+namedBy Unknown first es = []
+namedBy Bare first es = []
+namedBy Types first es = []
+namedBy Number first es = []
+namedBy Positive first es = []
+namedBy Limit first es = []
+namedBy Schema first es = first ∷ []
+namedBy Values first es = []
+namedBy Names first es = []
+namedBy Schemas first es = map (λ (e : EntryRow). e .first) es
+namedBy Members first es = map (λ (e : EntryRow). e .third) es
+namedBy Branches first es = getD es 0 no-entry .first ∷ getD es 1 no-entry .first ∷ getD es 2 no-entry .first ∷ []
+namedBy Counted first es = getD es 0 no-entry .first ∷ []
+
+-- the steps of a clause of this shape: those that it names, if it is unguarded
+abbrev pub byShape : Shape → ℕ → List EntryRow → List ℕ
+byShape shape first es = cond (shape .unguarded) (namedBy (shape .fields) first es) []
+
+-- members are mapped twice: to names with schemas, and to schemas
+pub third-of : (name : EntryRow → List ℕ) (es : List EntryRow)
+    → map (λ (m : List ℕ × ℕ). m .1) (map (λ (e : EntryRow). (name e, e .third)) es) ≡ map (λ (e : EntryRow). e .third) es
+third-of name [] = refl
+third-of name (e ∷ es) = ap (λ l. e .third ∷ l) (third-of name es)
 
 Shaped : CodeLine → Type 0
-Shaped line = (p : Parts) → unguarded (line .means p) ≡ byShape (line .shape) p
+Shaped line = (p : Parts) → unguarded (line .means p) ≡ byShape (line .shape) (p .first) (p .entries)
 
 table-shaped : Every Shaped codes
 unfolding Shaped
-table-shaped = and (λ p. refl) (and (λ p. refl) (and (λ p. refl) (and (λ p. refl) (and (λ p. refl) (and (λ p. refl) (and (λ p. refl) (and (λ p. refl) (and (λ p. refl) (and (λ p. refl) (and (λ p. refl) (and (λ p. refl) (and (λ p. refl) (and (λ p. refl) (and (λ p. refl) (and (λ p. refl) (and (λ p. refl) (and (λ p. refl) (and (λ p. refl) (and (λ p. refl) (and (λ p. refl) (and (λ p. refl) (and (λ p. refl) (and (λ p. refl) (and (λ p. refl) (and (λ p. refl) done)))))))))))))))))))))))))
+table-shaped = and (λ p. refl) (and (λ p. refl) (and (λ p. refl) (and (λ p. refl) (and (λ p. refl) (and (λ p. refl) (and (λ p. refl) (and (λ p. refl) (and (λ p. refl) (and (λ p. refl) (and (λ p. refl) (and (λ p. refl) (and (λ p. refl) (and (λ p. refl) (and (λ p. refl) (and (λ p. refl) (and (λ p. refl) (and (λ p. refl) (and (λ p. refl) (and (λ p. refl) (and (λ p. refl) (and (λ p. third-of (entryName (p .text)) (p .entries)) (and (λ p. refl) (and (λ p. refl) (and (λ p. refl) (and (λ p. refl) (and (λ p. refl) (and (λ p. refl) (and (λ p. refl) done))))))))))))))))))))))))))))
 
-pub shaped : (code : ℕ) (p : Parts) → unguarded (meansOf code p) ≡ byShape (shapeOf code) p
+pub shaped : (code : ℕ) (p : Parts) → unguarded (meansOf code p) ≡ byShape (shapeOf code) (p .first) (p .entries)
 unfolding Shaped
 shaped code = in-table Shaped codes code (λ p. refl) table-shaped
 
@@ -105,6 +128,6 @@ pub steps-over : (ws ts : List ℕ) (k : ℕ) → unguarded (clauseOf ws ts k) �
 unfolding clauseOf targetsOf
 steps-over ws ts k = shaped (clauseAt ws k .code) (partsAt ws ts k) ∙ sym (shaped (clauseAt ws k .code) (partsAt ws [] k))
 
-pub targets-are : (ws : List ℕ) (k : ℕ) → targetsOf ws k ≡ byShape (shapeOf (clauseAt ws k .code)) (partsAt ws [] k)
+pub targets-are : (ws : List ℕ) (k : ℕ) → targetsOf ws k ≡ byShape (shapeOf (clauseAt ws k .code)) (clauseAt ws k .first) (map (entryAt ws) (run (clauseAt ws k .count) (clauseAt ws k .first)))
 unfolding clauseOf targetsOf
 targets-are ws k = shaped (clauseAt ws k .code) (partsAt ws [] k)

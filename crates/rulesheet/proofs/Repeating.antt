@@ -12,7 +12,7 @@ use lib.Dec.{eqb, ltb}
 use Rattle.laws.proofs.Tests.{le-or-lt, left}
 use Rattle.text.specs.Part.{fits}
 use Rattle.rulesheet.specs.declared.code.Fields.{Fields}
-use Rattle.rulesheet.specs.declared.code.Fields.the-variants.{Unknown, Bare, Types, Number, Positive, Limit, Schema, Values, Names as NamesOf, Schemas, Members}
+use Rattle.rulesheet.specs.declared.code.Fields.the-variants.{Unknown, Bare, Types, Number, Positive, Limit, Schema, Values, Names as NamesOf, Schemas, Members, Branches, Counted}
 use Rattle.rulesheet.specs.declared.form.EntryRow.{EntryRow}
 use Rattle.rulesheet.specs.declared.form.RuleForm.{RuleForm}
 use Rattle.rulesheet.specs.Codes.{entryRange}
@@ -35,6 +35,8 @@ named-fits Values size m e n t = cc
 named-fits NamesOf size m e n t = left (fits size (entryRange e)) (eqb (e .third) 0) t
 named-fits Schemas size m e n t = cc
 named-fits Members size m e n t = left (fits size (entryRange e)) (ltb (e .third) m) t
+named-fits Branches size m e n t = cc
+named-fits Counted size m e n t = cc
 
 module _ (ws ts : List ℕ) (form : RuleForm) (laid : RulesLaid ws form) where
   -- no entry is left over

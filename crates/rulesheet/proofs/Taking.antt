@@ -87,6 +87,7 @@ pub record ListFacts (ws : List ℕ) (k : ℕ) : Type 0 where
   pub list-first : clauseAt ws k .first ≡ listStart ws k
   pub list-within : clauseAt ws k .first + clauseAt ws k .count ≤ entriesWord ws
   pub list-least : shapeOf (clauseAt ws k .code) .least ≤ clauseAt ws k .count
+  pub list-most : clauseAt ws k .count ≤ shapeOf (clauseAt ws k .code) .most
 
 -- the tests that a clause without fault has passed
 pub record ClauseFacts (ws : List ℕ) (k : ℕ) : Type 0 where
@@ -113,12 +114,15 @@ list-facts ws k fine list =
     let t1 = eqb (row .first) (listStart ws k) in
     let t2 = leb (row .first + row .count) (entriesWord ws) in
     let t3 = leb (shapeOf (row .code) .least) (row .count) in
-    let all : (t1 && (t2 && t3)) ≡ true = rw list at (clause-facts ws k fine .list-fine) in
-    let rest = right t1 (t2 && t3) all in
+    let t4 = leb (row .count) (shapeOf (row .code) .most) in
+    let all : (t1 && (t2 && (t3 && t4))) ≡ true = rw list at (clause-facts ws k fine .list-fine) in
+    let rest = right t1 (t2 && (t3 && t4)) all in
+    let many = right t2 (t3 && t4) rest in
     record {
-      list-first = eqb-true (row .first) (listStart ws k) (left t1 (t2 && t3) all);
-      list-within = leb-true (row .first + row .count) (entriesWord ws) (left t2 t3 rest);
-      list-least = leb-true (shapeOf (row .code) .least) (row .count) (right t2 t3 rest);
+      list-first = eqb-true (row .first) (listStart ws k) (left t1 (t2 && (t3 && t4)) all);
+      list-within = leb-true (row .first + row .count) (entriesWord ws) (left t2 (t3 && t4) rest);
+      list-least = leb-true (shapeOf (row .code) .least) (row .count) (left t3 t4 many);
+      list-most = leb-true (row .count) (shapeOf (row .code) .most) (right t3 t4 many);
     }
 
 pub next-list : (ws : List ℕ) (k start r : ℕ) → start ≡ listStart ws k

@@ -14,17 +14,17 @@ use Rattle.text.specs.Part.{fits, part}
 use Rattle.sheet.specs.declared.record.RuleRow.{RuleRow}
 use Rattle.sheet.specs.Doc.{Value}
 use Rattle.rulesheet.specs.declared.code.Fields.{Fields}
-use Rattle.rulesheet.specs.declared.code.Fields.the-variants.{Number, Positive, Schema, Values, Names, Schemas, Members}
+use Rattle.rulesheet.specs.declared.code.Fields.the-variants.{Unknown, Bare, Types as TypesOf, Number, Positive, Limit, Schema, Values, Names, Schemas, Members, Branches, Counted}
 use Rattle.rulesheet.specs.declared.form.RuleForm.{RuleForm}
 use Rattle.rulesheet.specs.declared.form.EntryRow.{EntryRow}
 use Rattle.rulesheet.specs.declared.clause.Entries.{Entries}
 use Rattle.rulesheet.specs.declared.clause.Clause.{Clause}
 use Rattle.rulesheet.specs.declared.clause.Clause.the-variants.{Never, Types, Enum, Minimum, Maximum, ExclusiveMinimum, ExclusiveMaximum, MultipleOf}
 use Rattle.rulesheet.specs.declared.clause.Clause.the-variants.{MinLength, MaxLength, MinItems, MaxItems, MinProperties, MaxProperties, Required}
-use Rattle.rulesheet.specs.declared.clause.Clause.the-variants.{AllOf, AnyOf, OneOf, Not, Ref, Properties, AdditionalProperties, PrefixItems, Items}
+use Rattle.rulesheet.specs.declared.clause.Clause.the-variants.{AllOf, AnyOf, OneOf, Not, Ref, IfThenElse, DependentSchemas, Properties, AdditionalProperties, PrefixItems, Items, Contains}
 use Rattle.rulesheet.specs.declared.clause.Clause.the-variants.{UnevaluatedProperties, UnevaluatedItems}
 use Rattle.rulesheet.specs.Ruleset as R
-use Rattle.rulesheet.specs.Codes.{entryValue, entryName, entryMember, shapeOf, meansOf}
+use Rattle.rulesheet.specs.Codes.{no-entry, entryValue, entryName, entryMember, shapeOf, meansOf}
 use Rattle.rulesheet.specs.Sheet.{schemasWord, textWord, entryAt, run, partsOf}
 use Rattle.rulesheet.specs.Faults.{isList, entryOk, isNamed}
 use Rattle.rulesheet.specs.Read.{ClausesLaid, RulesLaid}
@@ -32,6 +32,10 @@ use Rattle.rulesheet.specs.Read.{ClausesLaid, RulesLaid}
 -- the entries of a list, read from the words
 abbrev pub entriesOf : List ℕ → Entries → List EntryRow
 entriesOf ws es = map (entryAt ws) (run (es .count) (es .first))
+
+-- entry i of them
+abbrev pub entryIn : List ℕ → Entries → ℕ → EntryRow
+entryIn ws es i = getD (entriesOf ws es) i no-entry
 
 -- the lists that they stand for: schemas, values, names, names with schemas
 abbrev pub schemasIn : List ℕ → Entries → List ℕ
@@ -67,10 +71,13 @@ clauseMeans ws ts (AnyOf es) = R.inPlace R.anyOf (schemasIn ws es)
 clauseMeans ws ts (OneOf es) = R.inPlace R.oneOf (schemasIn ws es)
 clauseMeans ws ts (Not row) = R.inPlace R.notOf (row .0 ∷ [])
 clauseMeans ws ts (Ref row) = R.inPlace R.ref (row .0 ∷ [])
+clauseMeans ws ts (IfThenElse es) = R.ifThenElse (entryIn ws es 0 .first) (entryIn ws es 1 .first) (entryIn ws es 2 .first)
+clauseMeans ws ts (DependentSchemas es) = R.dependentSchemas (membersIn ws ts es)
 clauseMeans ws ts (Properties es) = R.takes (R.properties (membersIn ws ts es))
 clauseMeans ws ts (AdditionalProperties row) = R.takes (R.additionalProperties (row .0))
 clauseMeans ws ts (PrefixItems es) = R.takes (R.prefixItems (schemasIn ws es))
 clauseMeans ws ts (Items row) = R.takes (R.items (row .0))
+clauseMeans ws ts (Contains es) = R.contains (entryIn ws es 0 .first) (entryIn ws es 0 .second) (entryIn ws es 0 .third)
 clauseMeans ws ts (UnevaluatedProperties row) = R.takes (R.unevaluatedProperties (row .0))
 clauseMeans ws ts (UnevaluatedItems row) = R.takes (R.unevaluatedItems (row .0))
 
@@ -104,10 +111,13 @@ held (AnyOf es) = list Schemas es
 held (OneOf es) = list Schemas es
 held (Not row) = schema row
 held (Ref row) = schema row
+held (IfThenElse es) = list Branches es
+held (DependentSchemas es) = list Members es
 held (Properties es) = list Members es
 held (AdditionalProperties row) = schema row
 held (PrefixItems es) = list Schemas es
 held (Items row) = schema row
+held (Contains es) = list Counted es
 held (UnevaluatedProperties row) = schema row
 held (UnevaluatedItems row) = schema row
 
@@ -125,9 +135,32 @@ Listed ws (number d) = Unit
 Listed ws (schema row) = Unit
 Listed ws (list fields es) = (i : ℕ) → i < es .count → entryOk fields (textWord ws) (schemasWord ws) (entryAt ws (es .first + i)) ≡ true
 
+-- how many entries lists of these fields have, where that is fixed
+abbrev pub SizedBy : Fields → ℕ → Type 0
+SizedBy Unknown count = Unit
+SizedBy Bare count = Unit
+SizedBy TypesOf count = Unit
+SizedBy Number count = Unit
+SizedBy Positive count = Unit
+SizedBy Limit count = Unit
+SizedBy Schema count = Unit
+SizedBy Values count = Unit
+SizedBy Names count = Unit
+SizedBy Schemas count = Unit
+SizedBy Members count = Unit
+SizedBy Branches count = count ≡ 3
+SizedBy Counted count = count ≡ 1
+
+abbrev pub Sized : Held → Type 0
+Sized bare = Unit
+Sized (number d) = Unit
+Sized (schema row) = Unit
+Sized (list fields es) = SizedBy fields (es .count)
+
 -- what is known of a clause if no clause breaks the layout, and if no entry does either
 pub record Tested (ws : List ℕ) (form : RuleForm) (clause : Clause) : Type 0 where
   pub bounded : ClausesLaid ws form → Bounded form (held clause)
+  pub sized : ClausesLaid ws form → Sized (held clause)
   pub listed : RulesLaid ws form → Listed ws (held clause)
 
 -- ---- a clause that was decoded from its three words
@@ -156,6 +189,9 @@ pub record EntryNameRead (ws : List ℕ) (es : Entries) (i : ℕ) (r : Range) : 
 unfoldable pub telling : R.Clause → R.Clause
 telling (R.asserts t) = R.asserts R.never
 telling (R.inPlace m ss) = R.asserts R.never
+telling (R.ifThenElse i t e) = R.asserts R.never
+telling (R.dependentSchemas es) = R.asserts R.never
+telling (R.contains s least most) = R.asserts R.never
 telling (R.takes (R.properties es)) = R.takes (R.properties es)
 telling (R.takes (R.additionalProperties s)) = R.asserts R.never
 telling (R.takes (R.prefixItems ss)) = R.takes (R.prefixItems ss)
@@ -167,12 +203,18 @@ telling (R.takes (R.unevaluatedItems s)) = R.asserts R.never
 unfoldable pub applying : R.Clause → R.Clause
 applying (R.asserts t) = R.asserts R.never
 applying (R.inPlace m ss) = R.inPlace m ss
+applying (R.ifThenElse i t e) = R.ifThenElse i t e
+applying (R.dependentSchemas es) = R.dependentSchemas es
+applying (R.contains s least most) = R.contains s least most
 applying (R.takes c) = R.takes c
 
 -- a clause, if those before it tell it something. Else one that is told nothing
 unfoldable pub told : R.Clause → R.Clause
 told (R.asserts t) = R.asserts R.never
 told (R.inPlace m ss) = R.asserts R.never
+told (R.ifThenElse i t e) = R.asserts R.never
+told (R.dependentSchemas es) = R.asserts R.never
+told (R.contains s least most) = R.asserts R.never
 told (R.takes (R.properties es)) = R.asserts R.never
 told (R.takes (R.additionalProperties s)) = R.takes (R.additionalProperties s)
 told (R.takes (R.prefixItems ss)) = R.asserts R.never
@@ -188,4 +230,7 @@ sparing (R.inPlace R.anyOf ss) = R.inPlace R.anyOf ss
 sparing (R.inPlace R.oneOf ss) = R.inPlace R.oneOf ss
 sparing (R.inPlace R.notOf ss) = R.inPlace R.notOf ss
 sparing (R.inPlace R.ref ss) = R.asserts R.never
+sparing (R.ifThenElse i t e) = R.ifThenElse i t e
+sparing (R.dependentSchemas es) = R.asserts R.never
+sparing (R.contains s least most) = R.contains s least most
 sparing (R.takes c) = R.asserts R.never

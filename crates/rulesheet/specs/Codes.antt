@@ -1,10 +1,11 @@
--- The table of codes (paper 01, "Rule sheet"): a line for each, with its number, its fields, and the clause that it stands for. All that is known of a
+-- The table of codes (paper 01, "Rule sheet"; request #106 for 36, 37 and 45): a line for each, with its number, its fields, and the clause that it stands for. All that is known of a
 -- code stands in its line.
 -- Assumes nothing.
 use mathlib.Core.Bool.{Bool, true, false}
 use mathlib.Core.List.{List, [], _∷_, map}
 use Prim.Native.Nat.{ℕ}
 use lib.Dec.{eqb}
+use lib.ListN.{getD}
 use lib.IntN.{ℤ}
 use Rattle.decimal.specs.Value.{signed, billionths}
 use Rattle.text.specs.declared.Range.{Range}
@@ -13,13 +14,13 @@ use Rattle.sheet.specs.Kinds.{kindOf}
 use Rattle.sheet.specs.Doc.{Value}
 use Rattle.sheet.specs.Record.{valueBy}
 use Rattle.rulesheet.specs.declared.code.Fields.{Fields}
-use Rattle.rulesheet.specs.declared.code.Fields.the-variants.{Unknown, Bare, Types, Number, Positive, Limit, Schema, Values, Names, Schemas, Members}
+use Rattle.rulesheet.specs.declared.code.Fields.the-variants.{Unknown, Bare, Types, Number, Positive, Limit, Schema, Values, Names, Schemas, Members, Branches, Counted}
 use Rattle.rulesheet.specs.declared.code.Shape.{Shape}
 use Rattle.rulesheet.specs.declared.form.EntryRow.{EntryRow}
 use Rattle.rulesheet.specs.Ruleset.{Test, never, type, enum, minimum, maximum, exclusiveMinimum, exclusiveMaximum, multipleOf}
 use Rattle.rulesheet.specs.Ruleset.{minLength, maxLength, minItems, maxItems, minProperties, maxProperties, required}
 use Rattle.rulesheet.specs.Ruleset.{Mode, allOf, anyOf, oneOf, notOf, ref, Reach, properties, additionalProperties, prefixItems, items}
-use Rattle.rulesheet.specs.Ruleset.{unevaluatedProperties, unevaluatedItems, Clause, asserts, inPlace, takes}
+use Rattle.rulesheet.specs.Ruleset.{unevaluatedProperties, unevaluatedItems, Clause, asserts, inPlace, ifThenElse, dependentSchemas, contains, takes}
 
 -- what a clause is made of: the rule text, its first and count, and its entries, if it is a list clause
 pub record Parts : Type 0 where
@@ -67,15 +68,30 @@ schemaOf p = p .first ∷ []
 abbrev membersOf : Parts → List (List ℕ × ℕ)
 membersOf p = map (entryMember (p .text)) (p .entries)
 
+-- entry i of a list that has so many
+abbrev pub no-entry : EntryRow
+no-entry = record { first = 0; second = 0; third = 0 }
+
+abbrev entryOf : Parts → ℕ → EntryRow
+entryOf p i = getD (p .entries) i no-entry
+
 -- ---- the table
+
+-- more than a sheet has entries
+abbrev pub no-most : ℕ
+no-most = 4_294_967_295
 
 -- these fields and, if they are a list, at least so many entries
 abbrev pub guardedShape : Fields → ℕ → Shape
-guardedShape fields least = record { fields = fields; least = least; unguarded = false }
+guardedShape fields least = record { fields = fields; least = least; most = no-most; unguarded = false }
 
 -- the same, of a code that applies its schemas to the row itself
 abbrev pub inPlaceShape : Fields → ℕ → Shape
-inPlaceShape fields least = record { fields = fields; least = least; unguarded = true }
+inPlaceShape fields least = record { fields = fields; least = least; most = no-most; unguarded = true }
+
+-- a list of exactly so many entries
+abbrev pub exactShape : Fields → ℕ → Bool → Shape
+exactShape fields many unguarded = record { fields = fields; least = many; most = many; unguarded = unguarded }
 
 abbrev asserting : ℕ → Fields → ℕ → (Parts → Test) → CodeLine
 asserting code fields least test = record { code = code; shape = guardedShape fields least; means = λ p. asserts (test p) }
@@ -108,10 +124,13 @@ codes =
     ∷ joining 32 Schemas 1 oneOf schemasOf
     ∷ joining 33 Schema 0 notOf schemaOf
     ∷ joining 34 Schema 0 ref schemaOf
+    ∷ record { code = 36; shape = exactShape Branches 3 true; means = λ p. ifThenElse (entryOf p 0 .first) (entryOf p 1 .first) (entryOf p 2 .first) }
+    ∷ record { code = 37; shape = inPlaceShape Members 0; means = λ p. dependentSchemas (membersOf p) }
     ∷ taking 40 Members 0 (λ p. properties (membersOf p))
     ∷ taking 42 Schema 0 (λ p. additionalProperties (p .first))
     ∷ taking 43 Schemas 1 (λ p. prefixItems (schemasOf p))
     ∷ taking 44 Schema 0 (λ p. items (p .first))
+    ∷ record { code = 45; shape = exactShape Counted 1 false; means = λ p. contains (entryOf p 0 .first) (entryOf p 0 .second) (entryOf p 0 .third) }
     ∷ taking 60 Schema 0 (λ p. unevaluatedProperties (p .first))
     ∷ taking 61 Schema 0 (λ p. unevaluatedItems (p .first))
     ∷ []

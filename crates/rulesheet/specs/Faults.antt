@@ -14,7 +14,7 @@ use Rattle.sheet.specs.Kinds.{isKind, kindOf, number-max, numberOk}
 use Rattle.sheet.specs.Doc.{stringBytes}
 use Rattle.sheet.specs.Faults.{none, inRange, scalarOk, text-max}
 use Rattle.rulesheet.specs.declared.code.Fields.{Fields}
-use Rattle.rulesheet.specs.declared.code.Fields.the-variants.{Unknown, Bare, Types, Number, Positive, Limit, Schema, Values, Names, Schemas, Members}
+use Rattle.rulesheet.specs.declared.code.Fields.the-variants.{Unknown, Bare, Types, Number, Positive, Limit, Schema, Values, Names, Schemas, Members, Branches, Counted}
 use Rattle.rulesheet.specs.declared.form.EntryRow.{EntryRow}
 use Rattle.rulesheet.specs.declared.form.ClauseRow.{ClauseRow}
 use Rattle.rulesheet.specs.Codes.{shapeOf, entryValue, entryRange, entryName}
@@ -63,6 +63,8 @@ isList Values = true
 isList Names = true
 isList Schemas = true
 isList Members = true
+isList Branches = true
+isList Counted = true
 
 -- a number above 0: in two's complement its word is itself
 abbrev pub positiveOk : ℕ → ℕ → Bool
@@ -81,6 +83,8 @@ fieldsOk Values m first count = true
 fieldsOk Names m first count = true
 fieldsOk Schemas m first count = true
 fieldsOk Members m first count = true
+fieldsOk Branches m first count = true
+fieldsOk Counted m first count = true
 
 -- an entry of a list of these fields, with m schemas and a text of `size` bytes
 abbrev pub entryOk : Fields → ℕ → ℕ → EntryRow → Bool
@@ -95,6 +99,8 @@ entryOk Values size m entry = isKind (entry .first) && scalarOk (kindOf (entry .
 entryOk Names size m entry = fits size (entryRange entry) && eqb (entry .third) 0
 entryOk Schemas size m entry = ltb (entry .first) m && none (entry .second) (entry .third)
 entryOk Members size m entry = fits size (entryRange entry) && ltb (entry .third) m
+entryOk Branches size m entry = ltb (entry .first) m && none (entry .second) (entry .third)
+entryOk Counted size m entry = ltb (entry .first) m
 
 module _ (ws : List ℕ) where
   abbrev pub fieldsAt : ℕ → Fields
@@ -122,11 +128,11 @@ module _ (ws : List ℕ) where
   listStart zero = 0
   listStart (suc k) = let before = listStart k in cond (isList (fieldsAt k)) (clauseAt ws k .first + clauseAt ws k .count) before
 
-  -- a list starts where the one before ends, ends within the entries, and has as many as its code asks
+  -- a list starts where the one before ends, ends within the entries, and has no fewer and no more than its code asks
   unfoldable pub listOk : ℕ → ClauseRow → Bool
   listOk start clause =
       not (isList (shapeOf (clause .code) .fields))
-      || (eqb (clause .first) start && (leb (clause .first + clause .count) (entriesWord ws) && leb (shapeOf (clause .code) .least) (clause .count)))
+      || (eqb (clause .first) start && (leb (clause .first + clause .count) (entriesWord ws) && (leb (shapeOf (clause .code) .least) (clause .count) && leb (clause .count) (shapeOf (clause .code) .most))))
 
   -- a clause that a schema takes
   unfoldable pub clauseFineIn : ℕ → ℕ → ℕ → Bool
@@ -167,6 +173,8 @@ isNamed Values = false
 isNamed Names = true
 isNamed Schemas = false
 isNamed Members = true
+isNamed Branches = false
+isNamed Counted = false
 
 -- ---- 7: a name that an earlier entry of the clause has
 
@@ -190,6 +198,8 @@ entryText Values ts entry = stringBytes (entryValue ts entry)
 entryText Names ts entry = entryName ts entry
 entryText Schemas ts entry = []
 entryText Members ts entry = entryName ts entry
+entryText Branches ts entry = []
+entryText Counted ts entry = []
 
 unfoldable pub notUtf8 : List ℕ → List ℕ → ℕ → Bool
 notUtf8 ws ts x = not (isUtf8 (entryText (fieldsAt ws (listOver ws x)) ts (entryAt ws x)))

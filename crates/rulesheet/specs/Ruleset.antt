@@ -1,5 +1,5 @@
 -- Rules as the rules of judgement see them: of each schema its clauses, each code a constructor that bears its keyword's name: of a
--- test, of a way to join schemas on the row itself, or of a reach among its children. That sheets are words is forgotten here.
+-- test, of a way to join schemas on the row itself, or of a reach among its children; those that do more than one of these are clauses of their own. That sheets are words is forgotten here.
 -- Assumes nothing.
 use mathlib.Core.List.{List, [], _∷_, _++_, map}
 use Prim.Native.Nat.{ℕ}
@@ -32,6 +32,12 @@ pub data Reach : Type 0 where
 pub data Clause : Type 0 where
   asserts : Test → Clause
   inPlace : Mode → List ℕ → Clause
+  -- the condition, and the schemas for where it holds and where it fails
+  ifThenElse : ℕ → ℕ → ℕ → Clause
+  -- names, each with the schema for objects that have it
+  dependentSchemas : List (List ℕ × ℕ) → Clause
+  -- a schema for elements, and how many must hold at least and at most
+  contains : ℕ → ℕ → ℕ → Clause
   takes : Reach → Clause
 
 pub record Ruleset : Type 0 where
@@ -41,6 +47,9 @@ pub record Ruleset : Type 0 where
 abbrev pub unguarded : Clause → List ℕ
 unguarded (asserts test) = []
 unguarded (inPlace mode schemas) = schemas
+unguarded (ifThenElse i t e) = i ∷ t ∷ e ∷ []
+unguarded (dependentSchemas members) = map (λ m. m .1) members
+unguarded (contains schema least most) = []
 unguarded (takes reach) = []
 
 -- those that it applies to children
@@ -56,6 +65,9 @@ guarded (unevaluatedItems schema) = schema ∷ []
 abbrev pub named : Clause → List ℕ
 named (asserts test) = []
 named (inPlace mode schemas) = schemas
+named (ifThenElse i t e) = i ∷ t ∷ e ∷ []
+named (dependentSchemas members) = map (λ m. m .1) members
+named (contains schema least most) = schema ∷ []
 named (takes reach) = guarded reach
 
 -- the schemas that the clauses reach unguarded in one step

@@ -1,7 +1,7 @@
 // What belongs to a code: its fields. Nothing else in the code knows a code's number but the reader
 // of clauses; `specs/Codes.antt` has 01's table.
 ghost use mathlib.Core.Path.{_≡_};
-ghost use Rattle.rulesheet.specs.Codes.{guardedShape, inPlaceShape, shapeOf};
+ghost use Rattle.rulesheet.specs.Codes.{guardedShape, inPlaceShape, exactShape, shapeOf};
 ghost use Rattle.rulesheet.specs.Faults.{isList, isNamed};
 
 // What a clause's first and count are, or what the entries are that they name.
@@ -17,17 +17,23 @@ pub enum Fields {
     Names,
     Schemas,
     Members,
+    Branches,
+    Counted,
 }
 
-// A code's fields, how many entries it has at least, and whether it applies its schemas to the row
-// itself.
+// A code's fields, how many entries it has at least and at most, and whether it applies its schemas to
+// the row itself.
 pub struct Shape {
     pub fields: Fields,
     pub least: u32,
+    pub most: u32,
     pub unguarded: bool,
 }
 
 impl Shape {
+    // More than a sheet has entries.
+    const NO_MOST: u32 = 4_294_967_295;
+
     // The shape of a code, `Fields::Unknown` where there is no such code.
     pub fn of(code: u32) -> Shape
         ensures { λ r. ⌜ r ≡ shapeOf code ⌝ }
@@ -42,9 +48,12 @@ impl Shape {
             26 => Shape::guarded(Fields::Names, 0),
             30 | 31 | 32 => Shape::in_place(Fields::Schemas, 1),
             33 | 34 => Shape::in_place(Fields::Schema, 0),
+            36 => Shape::exactly(Fields::Branches, 3, true),
+            37 => Shape::in_place(Fields::Members, 0),
             40 => Shape::guarded(Fields::Members, 0),
             42 | 44 | 60 | 61 => Shape::guarded(Fields::Schema, 0),
             43 => Shape::guarded(Fields::Schemas, 1),
+            45 => Shape::exactly(Fields::Counted, 1, false),
             _ => Shape::guarded(Fields::Unknown, 0),
         }
     }
@@ -55,6 +64,7 @@ impl Shape {
         Shape {
             fields: fields,
             least: least,
+            most: Shape::NO_MOST,
             unguarded: false,
         }
     }
@@ -65,7 +75,19 @@ impl Shape {
         Shape {
             fields: fields,
             least: least,
+            most: Shape::NO_MOST,
             unguarded: true,
+        }
+    }
+
+    fn exactly(fields: Fields, many: u32, unguarded: bool) -> Shape
+        ensures { λ r. ⌜ r ≡ exactShape fields many unguarded ⌝ }
+    {
+        Shape {
+            fields: fields,
+            least: many,
+            most: many,
+            unguarded: unguarded,
         }
     }
 }
@@ -87,6 +109,8 @@ impl Fields {
             Fields::Names => true,
             Fields::Schemas => true,
             Fields::Members => true,
+            Fields::Branches => true,
+            Fields::Counted => true,
         }
     }
 
@@ -106,6 +130,8 @@ impl Fields {
             Fields::Names => true,
             Fields::Schemas => false,
             Fields::Members => true,
+            Fields::Branches => false,
+            Fields::Counted => false,
         }
     }
 }

@@ -66,10 +66,13 @@ pub fn applied_of(words: &[u32], form: RuleForm, k: u32) -> Clause
         32 => Clause::OneOf(entries),
         33 => Clause::Not(schema),
         34 => Clause::Ref(schema),
+        36 => Clause::IfThenElse(entries),
+        37 => Clause::DependentSchemas(entries),
         40 => Clause::Properties(entries),
         42 => Clause::AdditionalProperties(schema),
         43 => Clause::PrefixItems(entries),
         44 => Clause::Items(schema),
+        45 => Clause::Contains(entries),
         60 => Clause::UnevaluatedProperties(schema),
         61 => Clause::UnevaluatedItems(schema),
         _ => Clause::Never,
@@ -93,6 +96,8 @@ pub fn sparing_of(words: &[u32], form: RuleForm, k: u32) -> Clause
         31 => Clause::AnyOf(entries),
         32 => Clause::OneOf(entries),
         33 => Clause::Not(schema),
+        36 => Clause::IfThenElse(entries),
+        45 => Clause::Contains(entries),
         _ => Clause::Never,
     }
 }

@@ -26,7 +26,7 @@ use Rattle.meaning.proofs.Words.{word-inside}
 use Rattle.areas.specs.Cells.{cellOf}
 use Rattle.clause.specs.Read as C
 use Rattle.steps.specs.declared.turn.Turn.{Turn}
-use Rattle.steps.specs.Plan.{memberCount, elementCount, no-member, own, childNamed, prefixed, unnamed, stepsIn, aimIn, goIn, stepsOf, aimOf, goOf}
+use Rattle.steps.specs.Plan.{memberCount, elementCount, no-member, countsHits, branches, branchGoes, branchOf, own, childNamed, prefixed, unnamed, stepsIn, aimIn, goIn, stepsOf, aimOf, goOf}
 use Rattle.steps.specs.Read.{Started}
 use Rattle.steps.specs.Turns.{goesAt, Skipped, Turned}
 use Rattle.steps.proofs.Turns.{at, skipped-none, skipped-more, goes-on, stops}
@@ -69,13 +69,13 @@ elements-some (object first k) = omega arith
 pub row-cell : (rows m long row rule : ℕ) → row < rows → rule < m → rows * m ≤ long → cellOf m row rule < long
 row-cell rows m long row rule h l room = omega (arith, word-inside rows m row rule h l)
 
-module _ (d : Doc) (p : Pair) (before : List R.Clause) (κ : Marks) where
+module _ (t : ℕ) (d : Doc) (p : Pair) (before : List R.Clause) (κ : Marks) where
   -- the clause c stands, after x steps, where r says
   abbrev Stands : R.Clause → ℕ → Turn → Type 0
-  Stands c x r = Turned d p before c x κ r
+  Stands c x r = Turned d p before c x κ t r
 
   abbrev Idle : R.Clause → ℕ → ℕ → Type 0
-  Idle c x y = Skipped d p before c κ x y
+  Idle c x y = Skipped d p before c κ t x y
 
   -- ---- the schemas of the row itself
 
@@ -83,19 +83,19 @@ module _ (d : Doc) (p : Pair) (before : List R.Clause) (κ : Marks) where
     module _ (rs : List ℕ) (list : Entries) where
       pub listed-turn : (row : RecordRow) (rule : RuleRow) → p .row ≡ row .0 → x < list .count → x < 4294967295 → rule .0 ≡ getD (schemasIn rs list) x 0
           → r ≡ at x row rule → Stands (R.inPlace m (schemasIn rs list)) x r
-      unfolding stepsOf goOf aimOf to
+      unfolding countsHits branches stepsOf goOf aimOf to
       listed-turn row rule same h small schema is =
-          goes-on is (omega arith) (omega (arith, schemas-long rs list)) small (skipped-none (omega arith)) refl (rw (same, schema))
+          goes-on is refl refl (omega arith) (omega (arith, schemas-long rs list)) small (skipped-none (omega arith)) refl (rw (same, schema))
 
       pub listed-end : list .count ≤ x → r .go ≡ false → Stands (R.inPlace m (schemasIn rs list)) x r
       unfolding stepsOf
       listed-end h is = stops {y = x} is (skipped-none (omega arith)) (omega (arith, schemas-long rs list))
 
     pub single-turn : (row : RecordRow) (rule : RuleRow) → p .row ≡ row .0 → x < 1 → r ≡ at x row rule → Stands (R.inPlace m (rule .0 ∷ [])) x r
-    unfolding stepsOf goOf aimOf to
+    unfolding countsHits branches stepsOf goOf aimOf to
     single-turn row rule same h is =
         let z : x ≡ 0 = omega arith in
-        goes-on is (omega arith) (omega arith) (omega arith) (skipped-none (omega arith)) refl (rw (same, z))
+        goes-on is refl refl (omega arith) (omega arith) (omega arith) (skipped-none (omega arith)) refl (rw (same, z))
 
     pub single-end : (s : ℕ) → 1 ≤ x → r .go ≡ false → Stands (R.inPlace m (s ∷ [])) x r
     unfolding stepsOf
@@ -107,9 +107,9 @@ module _ (d : Doc) (p : Pair) (before : List R.Clause) (κ : Marks) where
     module _ (rs : List ℕ) (list : Entries) where
       pub placed-turn : (first : ℕ) (row : RecordRow) (rule : RuleRow) → first ≡ firstChild (own d p) → x < min (elementCount (own d p)) (list .count) → x < 4294967295
           → row .0 ≡ first + x → rule .0 ≡ getD (schemasIn rs list) x 0 → r ≡ at x row rule → Stands (R.takes (R.prefixItems (schemasIn rs list))) x r
-      unfolding stepsOf stepsIn goOf goIn aimOf aimIn to
+      unfolding countsHits branches stepsOf stepsIn goOf goIn aimOf aimIn to
       placed-turn first row rule f h small there schema is =
-          goes-on is (omega arith) (rw (schemas-long rs list) h) small (skipped-none (omega arith)) refl (rw (there, f, schema))
+          goes-on is refl refl (omega arith) (rw (schemas-long rs list) h) small (skipped-none (omega arith)) refl (rw (there, f, schema))
 
       pub placed-end : min (elementCount (own d p)) (list .count) ≤ x → r .go ≡ false → Stands (R.takes (R.prefixItems (schemasIn rs list))) x r
       unfolding stepsOf stepsIn
@@ -118,11 +118,11 @@ module _ (d : Doc) (p : Pair) (before : List R.Clause) (κ : Marks) where
     module _ (s from many : ℕ) (start : Started before (R.takes (R.items s)) from) (many-is : many ≡ elementCount (own d p) - from) where
       pub rest-turn : (first : ℕ) (row : RecordRow) (rule : RuleRow) → rule .0 ≡ s → first ≡ firstChild (own d p) → x < many → x < 4294967295 → row .0 ≡ first + from + x
           → r ≡ at x row rule → Stands (R.takes (R.items s)) x r
-      unfolding stepsOf stepsIn goOf goIn aimOf aimIn to
+      unfolding countsHits branches stepsOf stepsIn goOf goIn aimOf aimIn to
       rest-turn first row rule schema f h small there is =
           let told = start .prefix-is s refl in
           let e : row .0 ≡ firstChild (own d p) + (prefixed d p before + x) = omega arith in
-          goes-on is (omega arith) (omega arith) small (skipped-none (omega arith)) refl (rw (e, schema))
+          goes-on is refl refl (omega arith) (omega arith) small (skipped-none (omega arith)) refl (rw (e, schema))
 
       pub rest-end : many ≤ x → r .go ≡ false → Stands (R.takes (R.items s)) x r
       unfolding stepsOf stepsIn
@@ -133,23 +133,23 @@ module _ (d : Doc) (p : Pair) (before : List R.Clause) (κ : Marks) where
   -- those that are marked are passed over
   module _ (first : ℕ) (f : first ≡ firstChild (own d p)) (s x y : ℕ) (marked : (k : ℕ) → x ≤ k → k < y → κ (first + k) ≡ true) where
     pub skip-members : Idle (R.takes (R.unevaluatedProperties s)) x y
-    unfolding goOf goIn aimOf aimIn to
+    unfolding countsHits branches goOf goIn aimOf aimIn to
     skip-members = record { idle = λ k a b. rw (← f, marked k a b) }
 
     pub skip-elements : Idle (R.takes (R.unevaluatedItems s)) x y
-    unfolding goOf goIn aimOf aimIn to
+    unfolding countsHits branches goOf goIn aimOf aimIn to
     skip-elements = record { idle = λ k a b. rw (← f, marked k a b) }
 
   module _ (x y first : ℕ) (f : first ≡ firstChild (own d p)) (s : ℕ) where
     pub member-turn : (row : RecordRow) (rule : RuleRow) (r : Turn) → Idle (R.takes (R.unevaluatedProperties s)) x y → x ≤ y → y < memberCount (own d p) → y < 4294967295 → rule .0 ≡ s
         → row .0 ≡ first + y → κ (first + y) ≡ false → r ≡ at y row rule → Stands (R.takes (R.unevaluatedProperties s)) x r
-    unfolding stepsOf stepsIn goOf goIn aimOf aimIn to
-    member-turn row rule r idle ahead h small schema there fresh is = goes-on is ahead h small idle (rw (← f, fresh)) (rw (there, f, schema))
+    unfolding countsHits branches stepsOf stepsIn goOf goIn aimOf aimIn to
+    member-turn row rule r idle ahead h small schema there fresh is = goes-on is refl refl ahead h small idle (rw (← f, fresh)) (rw (there, f, schema))
 
     pub element-turn : (row : RecordRow) (rule : RuleRow) (r : Turn) → Idle (R.takes (R.unevaluatedItems s)) x y → x ≤ y → y < elementCount (own d p) → y < 4294967295 → rule .0 ≡ s
         → row .0 ≡ first + y → κ (first + y) ≡ false → r ≡ at y row rule → Stands (R.takes (R.unevaluatedItems s)) x r
-    unfolding stepsOf stepsIn goOf goIn aimOf aimIn to
-    element-turn row rule r idle ahead h small schema there fresh is = goes-on is ahead h small idle (rw (← f, fresh)) (rw (there, f, schema))
+    unfolding countsHits branches stepsOf stepsIn goOf goIn aimOf aimIn to
+    element-turn row rule r idle ahead h small schema there fresh is = goes-on is refl refl ahead h small idle (rw (← f, fresh)) (rw (there, f, schema))
 
   module _ (x y s : ℕ) (r : Turn) (is : r .go ≡ false) where
     pub member-end : Idle (R.takes (R.unevaluatedProperties s)) x y → memberCount (own d p) ≤ y → Stands (R.takes (R.unevaluatedProperties s)) x r
@@ -183,19 +183,19 @@ module _ (d : Doc) (p : Pair) (before : List R.Clause) (κ : Marks) where
 
       -- n is the first child that has the name of entry y
       module _ (y n : ℕ) (name : List ℕ) (found : n ≡ C.childNamed d (p .row) name) (name-is : name ≡ getD (membersIn rs us list) y no-member .0) where
-        place : n ≡ childNamed d p (getD (membersIn rs us list) y no-member .0)
+        pub named-place : n ≡ childNamed d p (getD (membersIn rs us list) y no-member .0)
         unfolding childNamed
-        place = found ∙ rw (name-is, ← all-members)
+        named-place = found ∙ rw (name-is, ← all-members)
 
-        goes-if : goesAt d p before named κ y ≡ ltb n (memberCount (own d p))
-        unfolding goOf goIn aimOf aimIn
-        goes-if = rw (← place)
+        goes-if : goesAt d p before named κ t y ≡ ltb n (memberCount (own d p))
+        unfolding countsHits branches goOf goIn aimOf aimIn
+        goes-if = rw (← named-place)
 
         pub named-turn : (first : ℕ) (row : RecordRow) (rule : RuleRow) (r : Turn) → first ≡ firstChild (own d p) → Idle named x y → x ≤ y → y < list .count → y < 4294967295
             → n < memberCount (own d p) → row .0 ≡ first + n → rule .0 ≡ getD (membersIn rs us list) y no-member .1 → r ≡ at y row rule → Stands named x r
-        unfolding goOf goIn aimOf aimIn to
+        unfolding countsHits branches goOf goIn aimOf aimIn to
         named-turn first row rule r f idle ahead h small here there schema is =
-            goes-on is ahead (omega (arith, many-named)) small idle (goes-if ∙ lt-ltb n (memberCount (own d p)) here) (rw (there, f, place, schema))
+            goes-on is refl refl ahead (omega (arith, many-named)) small idle (goes-if ∙ lt-ltb n (memberCount (own d p)) here) (rw (there, f, named-place, schema))
 
         pub named-more : Idle named x y → memberCount (own d p) ≤ n → Idle named x (y + 1)
         named-more idle h = skipped-more idle (goes-if ∙ le-ltb n (memberCount (own d p)) h)
@@ -203,11 +203,11 @@ module _ (d : Doc) (p : Pair) (before : List R.Clause) (κ : Marks) where
   module _ (x y first s : ℕ) (f : first ≡ firstChild (own d p)) where
     pub other-turn : (row : RecordRow) (rule : RuleRow) (r : Turn) → Idle (R.takes (R.additionalProperties s)) x y → x ≤ y → y < memberCount (own d p) → y < 4294967295 → rule .0 ≡ s
         → row .0 ≡ first + y → unnamed d p before (first + y) ≡ true → r ≡ at y row rule → Stands (R.takes (R.additionalProperties s)) x r
-    unfolding stepsOf stepsIn goOf goIn aimOf aimIn to
-    other-turn row rule r idle ahead h small schema there unnamed-here is = goes-on is ahead h small idle (rw (← f, unnamed-here)) (rw (there, f, schema))
+    unfolding countsHits branches stepsOf stepsIn goOf goIn aimOf aimIn to
+    other-turn row rule r idle ahead h small schema there unnamed-here is = goes-on is refl refl ahead h small idle (rw (← f, unnamed-here)) (rw (there, f, schema))
 
     pub other-more : Idle (R.takes (R.additionalProperties s)) x y → unnamed d p before (first + y) ≡ false → Idle (R.takes (R.additionalProperties s)) x (y + 1)
-    unfolding goOf goIn aimOf aimIn
+    unfolding countsHits branches goOf goIn aimOf aimIn
     other-more idle named-here = skipped-more idle (rw (← f, named-here))
 
     pub other-end : (r : Turn) → Idle (R.takes (R.additionalProperties s)) x y → memberCount (own d p) ≤ y → r .go ≡ false → Stands (R.takes (R.additionalProperties s)) x r

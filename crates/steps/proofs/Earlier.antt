@@ -29,7 +29,7 @@ use Rattle.rulesheet.specs.declared.clause.Entries.{Entries}
 use Rattle.rulesheet.specs.declared.clause.Clause.{Clause}
 use Rattle.rulesheet.specs.declared.clause.Clause.the-variants.{Never, Types, Enum, Minimum, Maximum, ExclusiveMinimum, ExclusiveMaximum, MultipleOf}
 use Rattle.rulesheet.specs.declared.clause.Clause.the-variants.{MinLength, MaxLength, MinItems, MaxItems, MinProperties, MaxProperties, Required}
-use Rattle.rulesheet.specs.declared.clause.Clause.the-variants.{AllOf, AnyOf, OneOf as Exactly, Not, Ref, Properties, AdditionalProperties, PrefixItems, Items, UnevaluatedProperties, UnevaluatedItems}
+use Rattle.rulesheet.specs.declared.clause.Clause.the-variants.{AllOf, AnyOf, OneOf as Exactly, Not, Ref, IfThenElse, DependentSchemas, Properties, AdditionalProperties, PrefixItems, Items, Contains, UnevaluatedProperties, UnevaluatedItems}
 use Rattle.rulesheet.specs.Ruleset as R
 use Rattle.rulesheet.specs.Ruleset.{Reach, properties, additionalProperties, prefixItems, items, unevaluatedProperties, unevaluatedItems, asserts, inPlace, takes}
 use Rattle.rulesheet.specs.Codes.{entryName, entryMember}
@@ -50,29 +50,41 @@ use Rattle.steps.specs.Read.{namedBy, Started}
 
 -- ---- by the variant that was read
 
--- the clause c of the variant at place `tag`: only `Properties` (20) names members and only `PrefixItems` (22) speaks of elements; only
--- `AdditionalProperties` (21) and `Items` (23) are told of them
+-- the clause c of the variant at place `tag`: only `Properties` (22) names members and only `PrefixItems` (24) speaks of elements; only
+-- `AdditionalProperties` (23) and `Items` (25) are told of them
 record Told (tag : ℕ) (c : R.Clause) : Type 0 where
-  no-names : (tag ≡ 20 → ⊥) → namesOf c ≡ []
-  no-additional : (tag ≡ 21 → ⊥) → (s : ℕ) → c ≡ takes (additionalProperties s) → true ≡ false
-  no-prefix : (tag ≡ 22 → ⊥) → prefixOf c ≡ []
-  no-items : (tag ≡ 23 → ⊥) → (s : ℕ) → c ≡ takes (items s) → true ≡ false
+  no-names : (tag ≡ 22 → ⊥) → namesOf c ≡ []
+  no-additional : (tag ≡ 23 → ⊥) → (s : ℕ) → c ≡ takes (additionalProperties s) → true ≡ false
+  no-prefix : (tag ≡ 24 → ⊥) → prefixOf c ≡ []
+  no-items : (tag ≡ 25 → ⊥) → (s : ℕ) → c ≡ takes (items s) → true ≡ false
 
 told-test : (tag : ℕ) (t : R.Test) → Told tag (asserts t)
 unfolding namesOf prefixOf
 told-test tag t = record { no-names = λ n. refl; no-additional = λ n s e. cc; no-prefix = λ n. refl; no-items = λ n s e. cc }
+
+told-if : (tag i t e : ℕ) → Told tag (R.ifThenElse i t e)
+unfolding namesOf prefixOf
+told-if tag i t e = record { no-names = λ n. refl; no-additional = λ n s e. cc; no-prefix = λ n. refl; no-items = λ n s e. cc }
+
+told-depended : (tag : ℕ) (es : List (List ℕ × ℕ)) → Told tag (R.dependentSchemas es)
+unfolding namesOf prefixOf
+told-depended tag es = record { no-names = λ n. refl; no-additional = λ n s e. cc; no-prefix = λ n. refl; no-items = λ n s e. cc }
+
+told-counted : (tag s least most : ℕ) → Told tag (R.contains s least most)
+unfolding namesOf prefixOf
+told-counted tag s least most = record { no-names = λ n. refl; no-additional = λ n s e. cc; no-prefix = λ n. refl; no-items = λ n s e. cc }
 
 told-here : (tag : ℕ) (m : R.Mode) (ss : List ℕ) → Told tag (inPlace m ss)
 unfolding namesOf prefixOf
 told-here tag m ss = record { no-names = λ n. refl; no-additional = λ n s e. cc; no-prefix = λ n. refl; no-items = λ n s e. cc }
 
 abbrev place : Reach → ℕ
-place (properties es) = 20
-place (additionalProperties s) = 21
-place (prefixItems ss) = 22
-place (items s) = 23
-place (unevaluatedProperties s) = 24
-place (unevaluatedItems s) = 25
+place (properties es) = 22
+place (additionalProperties s) = 23
+place (prefixItems ss) = 24
+place (items s) = 25
+place (unevaluatedProperties s) = 27
+place (unevaluatedItems s) = 28
 
 told-child : (c : Reach) → Told (place c) (takes c)
 unfolding namesOf prefixOf
@@ -104,10 +116,13 @@ tells-by rs us (AnyOf es) = told-here _ _ _
 tells-by rs us (Exactly es) = told-here _ _ _
 tells-by rs us (Not row) = told-here _ _ _
 tells-by rs us (Ref row) = told-here _ _ _
+tells-by rs us (IfThenElse es) = told-if _ _ _ _
+tells-by rs us (DependentSchemas es) = told-depended _ _
 tells-by rs us (Properties es) = told-child _
 tells-by rs us (AdditionalProperties row) = told-child _
 tells-by rs us (PrefixItems es) = told-child _
 tells-by rs us (Items row) = told-child _
+tells-by rs us (Contains es) = told-counted _ _ _ _
 tells-by rs us (UnevaluatedProperties row) = told-child _
 tells-by rs us (UnevaluatedItems row) = told-child _
 
@@ -120,22 +135,22 @@ lacked : (others : List ℕ) (tag x : ℕ) → OneOf (places others) tag → (On
 lacked others tag x k none e = none (rw e at k)
 
 abbrev no-names-at : List ℕ
-no-names-at = 21 ∷ 22 ∷ 23 ∷ 24 ∷ 25 ∷ []
+no-names-at = 20 ∷ 21 ∷ 23 ∷ 24 ∷ 25 ∷ 26 ∷ 27 ∷ 28 ∷ []
 
 abbrev no-prefix-at : List ℕ
-no-prefix-at = 20 ∷ 21 ∷ 23 ∷ 24 ∷ 25 ∷ []
+no-prefix-at = 20 ∷ 21 ∷ 22 ∷ 23 ∷ 25 ∷ 26 ∷ 27 ∷ 28 ∷ []
 
 abbrev not-told-at : List ℕ
-not-told-at = 20 ∷ 22 ∷ 24 ∷ 25 ∷ []
+not-told-at = 20 ∷ 21 ∷ 22 ∷ 24 ∷ 26 ∷ 27 ∷ 28 ∷ []
 
 module _ (rs us : List ℕ) (clause : Clause) where
   -- any but a `properties`
   pub names-none : OneOf (places no-names-at) (tagOf the-type clause) → namesOf (clauseMeans rs us clause) ≡ []
-  names-none k = tells-by rs us clause .no-names (lacked no-names-at _ 20 k (miss (places no-names-at) 20 tt))
+  names-none k = tells-by rs us clause .no-names (lacked no-names-at _ 22 k (miss (places no-names-at) 22 tt))
 
   -- any but a `prefixItems`
   pub prefix-none : OneOf (places no-prefix-at) (tagOf the-type clause) → prefixOf (clauseMeans rs us clause) ≡ []
-  prefix-none k = tells-by rs us clause .no-prefix (lacked no-prefix-at _ 22 k (miss (places no-prefix-at) 22 tt))
+  prefix-none k = tells-by rs us clause .no-prefix (lacked no-prefix-at _ 24 k (miss (places no-prefix-at) 24 tt))
 
   -- what the clauses before tell it
   module _ (before : List R.Clause) (r : ℕ) where
@@ -152,9 +167,9 @@ module _ (rs us : List ℕ) (clause : Clause) where
     started-other k =
         let t = tells-by rs us clause in
         record {
-          prefix-is = λ s f. absurd (never-not (t .no-items (lacked not-told-at _ 23 k (miss (places not-told-at) 23 tt)) s f));
-          within = λ s f. absurd (never-not (t .no-additional (lacked not-told-at _ 21 k (miss (places not-told-at) 21 tt)) s f));
-          names-from = λ s f. absurd (never-not (t .no-additional (lacked not-told-at _ 21 k (miss (places not-told-at) 21 tt)) s f));
+          prefix-is = λ s f. absurd (never-not (t .no-items (lacked not-told-at _ 25 k (miss (places not-told-at) 25 tt)) s f));
+          within = λ s f. absurd (never-not (t .no-additional (lacked not-told-at _ 23 k (miss (places not-told-at) 23 tt)) s f));
+          names-from = λ s f. absurd (never-not (t .no-additional (lacked not-told-at _ 23 k (miss (places not-told-at) 23 tt)) s f));
         }
 
 -- ---- the first clauses of a schema
@@ -188,6 +203,9 @@ names-told : (c : R.Clause) → namesOf (telling c) ≡ namesOf c
 unfolding telling namesOf
 names-told (R.asserts t) = refl
 names-told (R.inPlace m ss) = refl
+names-told (R.ifThenElse i t e) = refl
+names-told (R.dependentSchemas es) = refl
+names-told (R.contains s least most) = refl
 names-told (R.takes (R.properties es)) = refl
 names-told (R.takes (R.additionalProperties s)) = refl
 names-told (R.takes (R.prefixItems ss)) = refl
@@ -199,6 +217,9 @@ prefix-told : (c : R.Clause) → prefixOf (telling c) ≡ prefixOf c
 unfolding telling prefixOf
 prefix-told (R.asserts t) = refl
 prefix-told (R.inPlace m ss) = refl
+prefix-told (R.ifThenElse i t e) = refl
+prefix-told (R.dependentSchemas es) = refl
+prefix-told (R.contains s least most) = refl
 prefix-told (R.takes (R.properties es)) = refl
 prefix-told (R.takes (R.additionalProperties s)) = refl
 prefix-told (R.takes (R.prefixItems ss)) = refl
@@ -276,6 +297,9 @@ applied-started (asserts t) start =
     nothing : true ≡ false → ⊥
     nothing = never-not
 applied-started (inPlace m ss) start = start
+applied-started (R.ifThenElse i t e) start = start
+applied-started (R.dependentSchemas es) start = start
+applied-started (R.contains s least most) start = start
 applied-started (takes c) start = start
 
 -- by the variant that was read

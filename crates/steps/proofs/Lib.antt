@@ -5,4 +5,5 @@ pub mod Plans
 pub mod Earlier
 pub mod Reading
 pub mod Aiming
+pub mod Choosing
 pub mod Turns

@@ -1,5 +1,6 @@
 -- The pairs that a clause applies, as steps picked.
 --     named-picked      40: for each entry the child of its name, if there is one; no two children share a name
+--     any-lowest        37: a name is one of a member's, by the lowest that has it
 --     across-picked     43: schemas on children by place
 -- Assumes nothing.
 use mathlib.Core.Bool.{Bool, true, false, cond}
@@ -13,7 +14,7 @@ use lib.ListN.{length, getD}
 use borrow.Author.Tests.{lt-ltb, le-ltb}
 use Rattle.laws.specs.Lowest.{lowestFrom, lowest}
 use Rattle.laws.proofs.Tests.{decide}
-use Rattle.meaning.specs.Lists.{range, keep, concatMap}
+use Rattle.meaning.specs.Lists.{any, range, keep, concatMap}
 use Rattle.meaning.specs.Rules.{Pair, to, across, under}
 use Rattle.steps.specs.Folds.{picked}
 use Rattle.steps.specs.Plan.{no-member}
@@ -25,6 +26,25 @@ keep-none : (t : ℕ → Bool) (k x : ℕ) → ((i : ℕ) → x ≤ i → i < x 
 unfolding keep range
 keep-none t zero x none = refl
 keep-none t (suc k) x none = rw (none x (omega arith) (omega arith)) (keep-none t k (suc x) (λ i h g. none i (omega arith) (omega arith)))
+
+-- one of them passes if the first that does is one of them
+any-from : (t : ℕ → Bool) (x k a : ℕ) → any (map t (range (x + a) k)) ≡ ltb (lowestFrom (λ i. t (x + i)) k a) (a + k)
+unfolding any range lowestFrom
+any-from t x zero a = sym (le-ltb a (a + 0) (omega arith))
+any-from t x (suc k) a =
+    ⊎-elim
+    (λ (e : t (x + a) ≡ true). rw (e, lt-ltb a (a + suc k) (omega arith)))
+    (λ (e : t (x + a) ≡ false).
+    let s : suc (x + a) ≡ x + (a + 1) = omega arith in
+    let u : a + suc k ≡ (a + 1) + k = omega arith in
+    rw (e, s, u) (any-from t x k (a + 1)))
+    (decide (t (x + a)))
+
+pub any-lowest : (t : ℕ → Bool) (x k : ℕ) → any (map t (range x k)) ≡ ltb (lowest (λ i. t (x + i)) k) k
+any-lowest t x k =
+    let z : x + 0 ≡ x = omega arith in
+    let w : 0 + k ≡ k = omega arith in
+    rw (z, w) at (any-from t x k 0)
 
 -- no two rows pass
 abbrev Alone : (ℕ → Bool) → ℕ → ℕ → Type 0

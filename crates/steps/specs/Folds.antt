@@ -12,15 +12,10 @@ unfoldable pub picked : (ℕ → Bool) → (ℕ → Pair) → ℕ → List Pair
 picked go aim zero = []
 picked go aim (suc i) = picked go aim i ++ cond (go i) (aim i ∷ []) []
 
--- whether the pairs that they aim at all hold
-unfoldable pub heldBy : (Pair → Result) → (ℕ → Pair) → ℕ → Bool
-heldBy sub aim zero = true
-heldBy sub aim (suc i) = heldBy sub aim i && (sub (aim i)) .holds
-
--- whether step i is still taken: when cut, if no pair before it failed
-unfoldable pub stillBy : Way → (Pair → Result) → (ℕ → Pair) → ℕ → Bool
-stillBy whole sub aim i = true
-stillBy cut sub aim i = heldBy sub aim i
+-- what is carried from one to the next: a step that goes at what is carried moves it by the verdict of its pair
+unfoldable pub tallyBy : (Pair → Result) → (ℕ → ℕ → Bool) → (ℕ → Pair) → (ℕ → ℕ → Bool → ℕ) → ℕ → ℕ
+tallyBy sub go aim move zero = 0
+tallyBy sub go aim move (suc i) = let t = tallyBy sub go aim move i in cond (go i t) (move i t ((sub (aim i)) .holds)) t
 
 -- of how many of them the pair holds or nothing is applied
 unfoldable pub hitsBy : (Pair → Result) → (ℕ → Bool) → (ℕ → Pair) → ℕ → ℕ
@@ -31,10 +26,10 @@ hitsBy sub go aim (suc i) = plus (hitsBy sub go aim i) (not (go i) || (sub (aim 
 unfoldable pub gives : (Pair → Result) → Pair → Pair → Marks
 gives sub p q k = cond (eqb (q .row) (p .row)) ((sub q) .marks k) (eqb k (q .row))
 
--- the marks after them, where κ were before
-unfoldable pub marksBy : (Pair → Result) → Pair → (ℕ → Bool) → (ℕ → Pair) → Marks → ℕ → Marks
-marksBy sub p go aim κ zero = κ
-marksBy sub p go aim κ (suc i) = λ k. marksBy sub p go aim κ i k || (go i && gives sub p (aim i) k)
+-- the marks after them, where κ were before; where it is not said to keep them all, a pair that fails gives none
+unfoldable pub marksBy : (Pair → Result) → Pair → Bool → (ℕ → Bool) → (ℕ → Pair) → Marks → ℕ → Marks
+marksBy sub p keeps go aim κ zero = κ
+marksBy sub p keeps go aim κ (suc i) = λ k. marksBy sub p keeps go aim κ i k || (go i && ((keeps || (sub (aim i)) .holds) && gives sub p (aim i) k))
 
 -- the pairs settled after them, where `done` were before
 unfoldable pub doneBy : (Pair → List Pair → List Pair) → (ℕ → Bool) → (ℕ → Pair) → List Pair → ℕ → List Pair

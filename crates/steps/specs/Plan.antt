@@ -1,6 +1,7 @@
--- The steps of a clause on a row: how many there are, which pair each aims at, whether it is applied, and what the clause says in the end. An assertion has
--- no steps; a clause 30 to 34 has one for each schema; 40 has one for each entry, whose child is found by name; 43 has one for each entry that has a child;
--- 42, 44, 60 and 61 have one for each child that they may take.
+-- The steps of a clause on a row: how many there are, which pair each aims at, whether it is applied, what is carried from one to the next, and what the
+-- clause says in the end. An assertion has no steps; a clause 30 to 34 has one for each schema; 36 has three, of which the condition and one branch are applied;
+-- 37 has one for each entry, applied if its name is present; 40 has one for each entry, whose child is found by name; 43 has one for each entry that has a
+-- child; 42, 44, 45, 60 and 61 have one for each child that they may take.
 -- Assumes nothing.
 use Prim.Native.Nat.{ℕ, _+_, _-_, min}
 use mathlib.Core.Bool.{Bool, true, false, not, cond}
@@ -10,9 +11,9 @@ use lib.ListN.{length, getD}
 use Rattle.laws.specs.Lowest.{lowest}
 use Rattle.sheet.specs.Doc.{Value, null, bool, number, string, array, object, Doc, firstChild}
 use Rattle.rulesheet.specs.Ruleset.{Mode, allOf, anyOf, oneOf, notOf, ref, Reach, properties, additionalProperties, prefixItems, items}
-use Rattle.rulesheet.specs.Ruleset.{unevaluatedProperties, unevaluatedItems, Clause, asserts, inPlace, takes}
+use Rattle.rulesheet.specs.Ruleset.{unevaluatedProperties, unevaluatedItems, Clause, asserts, inPlace, ifThenElse, dependentSchemas, contains, takes}
 use Rattle.meaning.specs.Lists.{concatMap}
-use Rattle.meaning.specs.Rules.{Pair, Way, whole, cut, wayIn, none?, namesOf, prefixOf, to, called, passes}
+use Rattle.meaning.specs.Rules.{Pair, Way, whole, cut, wayIn, none?, namesOf, prefixOf, to, called, contained, passes}
 
 -- how many members an object has, and how many elements an array: none of any other value
 abbrev pub memberCount : Value → ℕ
@@ -43,27 +44,55 @@ finishedBy oneOf hits n = eqb hits 1
 finishedBy notOf hits n = eqb hits 0
 finishedBy ref hits n = eqb hits n
 
--- the same of a clause that applies schemas, by how many steps applied a pair that failed
-unfoldable pub endsBy : Clause → ℕ → Bool
-endsBy (asserts t) misses = eqb misses 0
-endsBy (inPlace allOf ss) misses = eqb misses 0
-endsBy (inPlace anyOf ss) misses = ltb misses (length ss)
-endsBy (inPlace oneOf ss) misses = eqb (length ss - misses) 1
-endsBy (inPlace notOf ss) misses = eqb misses (length ss)
-endsBy (inPlace ref ss) misses = eqb misses 0
-endsBy (takes c) misses = eqb misses 0
+-- ---- what is carried from step to step
+
+-- the clause counts the steps whose pairs hold, and marks the rows of those alone; any other counts those whose pairs fail, and marks what it applies
+unfoldable pub countsHits : Clause → Bool
+countsHits (asserts t) = false
+countsHits (inPlace m ss) = false
+countsHits (ifThenElse i t e) = false
+countsHits (dependentSchemas es) = false
+countsHits (contains s least most) = true
+countsHits (takes c) = false
+
+-- the clause has a condition, which chooses between two branches
+unfoldable pub branches : Clause → Bool
+branches (asserts t) = false
+branches (inPlace m ss) = false
+branches (ifThenElse i t e) = true
+branches (dependentSchemas es) = false
+branches (contains s least most) = false
+branches (takes c) = false
+
+-- step i moves what is carried by its verdict. Of branches it is 0 after a condition that holds and 1 after one that fails, and 2 after a branch that fails
+unfoldable pub moved : Bool → Bool → ℕ → ℕ → Bool → ℕ
+moved hits branch i t held =
+    let more = t + 1 in
+    let fails = cond branch (cond (eqb i 0) 1 2) more in
+    cond hits (cond held more t) (cond held t fails)
+
+-- step i of a clause with a condition goes: the condition, then the one branch or the other
+unfoldable pub branchGoes : ℕ → ℕ → Bool
+branchGoes i t = let branch = cond (eqb i 1) (eqb t 0) (eqb t 1) in cond (eqb i 0) true branch
+
+-- the schema of step i of it
+unfoldable pub branchOf : ℕ → ℕ → ℕ → ℕ → ℕ
+branchOf i t e x = let branch = cond (eqb x 1) t e in cond (eqb x 0) i branch
 
 -- whether a clause is cut, where judgements are
 unfoldable pub wayOf : Way → Clause → Way
 wayOf whole c = whole
 wayOf cut (asserts t) = whole
 wayOf cut (inPlace m ss) = wayIn cut m
+wayOf cut (ifThenElse i t e) = whole
+wayOf cut (dependentSchemas es) = whole
+wayOf cut (contains s least most) = whole
 wayOf cut (takes c) = whole
 
--- whether it stops where `misses` of its steps applied a pair that failed
+-- whether it stops by what is carried: of a clause that is cut that is how many of its pairs failed
 unfoldable pub stopsBy : Way → ℕ → Bool
-stopsBy whole misses = false
-stopsBy cut misses = not (eqb misses 0)
+stopsBy whole tally = false
+stopsBy cut tally = not (eqb tally 0)
 
 -- the step after step i of a clause that a failure stops if it is cut: past all of them if it is
 unfoldable pub afterMiss : Clause → ℕ → ℕ
@@ -73,6 +102,9 @@ afterMiss (inPlace anyOf ss) i = i + 1
 afterMiss (inPlace oneOf ss) i = i + 1
 afterMiss (inPlace notOf ss) i = i + 1
 afterMiss (inPlace ref ss) i = i + 1
+afterMiss (ifThenElse a b c) i = i + 1
+afterMiss (dependentSchemas es) i = i + 1
+afterMiss (contains s least most) i = i + 1
 afterMiss (takes c) i = i + 1
 
 module _ (D : Doc) (p : Pair) where
@@ -87,10 +119,27 @@ module _ (D : Doc) (p : Pair) where
   unfoldable pub childNamed : List ℕ → ℕ
   childNamed name = lowest (λ i. called D name (childRow i)) (memberCount own)
 
-  unfoldable pub finishOf : Clause → ℕ → ℕ → Bool
-  finishOf (asserts t) hits n = passes D (p .row) t
-  finishOf (inPlace m ss) hits n = finishedBy m hits n
-  finishOf (takes c) hits n = eqb hits n
+  -- what a clause that applies schemas says in the end, by what is carried then
+  unfoldable pub endsBy : Clause → ℕ → Bool
+  endsBy (asserts t) tally = eqb tally 0
+  endsBy (inPlace allOf ss) tally = eqb tally 0
+  endsBy (inPlace anyOf ss) tally = ltb tally (length ss)
+  endsBy (inPlace oneOf ss) tally = eqb (length ss - tally) 1
+  endsBy (inPlace notOf ss) tally = eqb tally (length ss)
+  endsBy (inPlace ref ss) tally = eqb tally 0
+  endsBy (ifThenElse i t e) tally = ltb tally 2
+  endsBy (dependentSchemas es) tally = eqb tally 0
+  endsBy (contains s least most) tally = contained D (p .row) least most tally
+  endsBy (takes c) tally = eqb tally 0
+
+  -- what any clause says in the end
+  unfoldable pub finishOf : Clause → ℕ → Bool
+  finishOf (asserts t) tally = passes D (p .row) t
+  finishOf (inPlace m ss) tally = endsBy (inPlace m ss) tally
+  finishOf (ifThenElse i t e) tally = endsBy (ifThenElse i t e) tally
+  finishOf (dependentSchemas es) tally = endsBy (dependentSchemas es) tally
+  finishOf (contains s least most) tally = endsBy (contains s least most) tally
+  finishOf (takes c) tally = endsBy (takes c) tally
 
   -- after the clauses `before` of the same schema
   module _ (before : List Clause) where
@@ -130,14 +179,24 @@ module _ (D : Doc) (p : Pair) where
     unfoldable pub stepsOf : Clause → ℕ
     stepsOf (asserts t) = 0
     stepsOf (inPlace m ss) = length ss
+    stepsOf (ifThenElse i t e) = 3
+    stepsOf (dependentSchemas es) = length es
+    stepsOf (contains s least most) = elementCount own
     stepsOf (takes c) = stepsIn c
 
     unfoldable pub aimOf : Clause → ℕ → Pair
     aimOf (asserts t) i = p
     aimOf (inPlace m ss) i = to p (p .row) (getD ss i 0)
+    aimOf (ifThenElse a b c) i = to p (p .row) (branchOf a b c i)
+    aimOf (dependentSchemas es) i = to p (p .row) (getD es i no-member .1)
+    aimOf (contains s least most) i = to p (childRow i) s
     aimOf (takes c) i = aimIn c i
 
-    unfoldable pub goOf : Clause → ℕ → Bool → Bool
-    goOf (asserts t) i marked = true
-    goOf (inPlace m ss) i marked = true
-    goOf (takes c) i marked = goIn c i marked
+    -- whether step i is applied, where the row that it aims at is marked or not, at what is carried
+    unfoldable pub goOf : Clause → ℕ → Bool → ℕ → Bool
+    goOf (asserts t) i marked tally = true
+    goOf (inPlace m ss) i marked tally = true
+    goOf (ifThenElse a b c) i marked tally = branchGoes i tally
+    goOf (dependentSchemas es) i marked tally = ltb (childNamed (getD es i no-member .0)) (memberCount own)
+    goOf (contains s least most) i marked tally = true
+    goOf (takes c) i marked tally = goIn c i marked

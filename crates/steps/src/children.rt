@@ -8,7 +8,7 @@ ghost use Rattle.sheet.specs.Record.{docOf};
 ghost use Rattle.sheet.specs.Accepted.{Laid};
 ghost use Rattle.rulesheet.specs.Ruleset as R;
 ghost use Rattle.rulesheet.specs.Read.{RulesFormed};
-ghost use Rattle.rulesheet.specs.Clauses.{schemasIn};
+ghost use Rattle.rulesheet.specs.Clauses.{entryIn, schemasIn};
 ghost use Rattle.meaning.specs.Rules.{Pair as Meant, Marks};
 ghost use Rattle.clause.specs.Read.{sizeIn, orNone};
 ghost use Rattle.steps.specs.Plan.{memberCount, elementCount};
@@ -16,6 +16,7 @@ ghost use Rattle.steps.specs.Read.{Started};
 ghost use Rattle.steps.specs.Turns.{Turned, TurnedOn, TurnedFresh};
 use crate::turn::Turn;
 use crate::turn::at_step;
+use crate::turn::at_step_of;
 use crate::turn::ended;
 use areas::is_marked;
 use clause::sizes::Measured;
@@ -107,12 +108,35 @@ pub(crate) fn rest_turn(
     x: u32,
 ) -> Turn
     requires { ⌜ Laid (now «record») form × (row .0 < form .rows) ⌝ }
-    ensures { λ r. ⌜ ((ts : List ℕ) (p : Meant) (before : List R.Clause) (κ : Marks) → p .row ≡ row .0 → Started before (R.takes (R.items (rule .0))) from → Turned (docOf (now («record» .entry)) ts) p before (R.takes (R.items (rule .0))) x κ r) ⌝ }
+    ensures { λ r. ⌜ ((ts : List ℕ) (p : Meant) (before : List R.Clause) (κ : Marks) → p .row ≡ row .0 → Started before (R.takes (R.items (rule .0))) from → (t : ℕ) → Turned (docOf (now («record» .entry)) ts) p before (R.takes (R.items (rule .0))) x κ t r) ⌝ }
 {
     let many = after(elements_in(record, form, row), from);
     if x < many {
         let child = children_of(record, form, row).first + from + x;
         return at_step(x, RecordRow(child), rule);
+    }
+    ended()
+}
+
+// Of `contains`: each element, with the one schema.
+pub(crate) fn counted_turn(
+    record: &[u32],
+    form: RecordForm,
+    rules: &[u32],
+    rule_form: RuleForm,
+    row: RecordRow,
+    list: Entries,
+    x: u32,
+) -> Turn
+    requires { ⌜ Laid (now «record») form × (row .0 < form .rows) ⌝ }
+    requires { ⌜ RulesFormed (now rules) «rule_form» × (list .first + list .count ≤ «rule_form» .e) × (list .count ≡ 1) ⌝ }
+    ensures { λ r. ⌜ ((ts : List ℕ) (least most : ℕ) → TurnedOn (docOf (now («record» .entry)) ts) (row .0) (R.contains (entryIn (now (rules .entry)) list 0 .first) least most) x r) ⌝ }
+{
+    let many = elements_in(record, form, row);
+    if x < many {
+        let child = children_of(record, form, row).first + x;
+        let schema = entry_schema(rules, rule_form, list, 0);
+        return at_step_of(x, RecordRow(child), schema, true, false);
     }
     ended()
 }

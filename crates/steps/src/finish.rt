@@ -3,15 +3,26 @@ ghost use mathlib.Core.List.{List};
 ghost use mathlib.Core.Path.{_≡_};
 ghost use Prim.Native.Nat.{ℕ, _-_, _<_};
 ghost use lib.Dec.{eqb};
+ghost use Rattle.sheet.specs.Record.{docOf};
+ghost use Rattle.sheet.specs.Accepted.{Laid};
 ghost use Rattle.rulesheet.specs.Sheet.{schemaAt};
-ghost use Rattle.rulesheet.specs.Clauses.{clauseMeans};
+ghost use Rattle.rulesheet.specs.Read.{RulesLaid};
+ghost use Rattle.rulesheet.specs.Clauses.{clauseMeans, Tested};
+ghost use Rattle.meaning.specs.Rules.{Pair as Meant, contained};
+ghost use Rattle.areas.specs.Cells.{pairIs};
 ghost use Rattle.clause.specs.Read.{RulesRead, clauseIn};
 ghost use Rattle.steps.specs.Plan.{endsBy, afterMiss};
+use clause::sizes::Measured;
+use clause::sizes::elements_of;
 use rulesheet::clause::Clause;
+use rulesheet::clause::entry_of;
 use rulesheet::few::applied_of;
 use rulesheet::few::sparing_of;
 use rulesheet::form::RuleForm;
 use rulesheet::form::schema_at;
+use sheet::record::Pair;
+use sheet::record::RecordForm;
+use sheet::record::RecordRow;
 use sheet::record::RuleRow;
 
 // Whether all but one of `many` are missed.
@@ -24,34 +35,70 @@ fn one_left(many: u32, misses: u32) -> bool
     false
 }
 
-// The clause, as it was read.
-fn finish_in(clause: Clause, misses: u32) -> bool
-    ensures { λ r. ⌜ ((rs us : List ℕ) → r ≡ endsBy (clauseMeans rs us clause) misses) ⌝ }
+// Whether so many elements that hold are enough: of a row that is no array any number is.
+fn enough(
+    record: &[u32],
+    form: RecordForm,
+    row: RecordRow,
+    least: u32,
+    most: u32,
+    tally: u32,
+) -> bool
+    requires { ⌜ Laid (now «record») form × (row .0 < form .rows) ⌝ }
+    ensures { λ r. ⌜ ((ts : List ℕ) → r ≡ contained (docOf (now («record» .entry)) ts) (row .0) least most tally) ⌝ }
 {
-    match clause {
-        Clause::AnyOf(es) => misses < es.count,
-        Clause::OneOf(es) => one_left(es.count, misses),
-        Clause::Not(_) => misses == 1,
-        _ => misses == 0,
+    match elements_of(record, form, row) {
+        Measured::Size(_) => (least <= tally) & (tally <= most),
+        Measured::Other => true,
     }
 }
 
-// Whether clause i of schema s, which applies schemas, holds on a row where `misses` of its steps
-// applied a pair that failed.
+// The clause, as it was read.
+fn finish_in(
+    record: &[u32],
+    form: RecordForm,
+    rules: &[u32],
+    rule_form: RuleForm,
+    row: RecordRow,
+    clause: Clause,
+    tally: u32,
+) -> bool
+    requires { ⌜ Laid (now «record») form × (row .0 < form .rows) ⌝ }
+    requires { ⌜ RulesLaid (now rules) «rule_form» × Tested (now rules) «rule_form» clause ⌝ }
+    ensures { λ r. ⌜ ((ts us : List ℕ) (p : Meant) → p .row ≡ row .0 → r ≡ endsBy (docOf (now («record» .entry)) ts) p (clauseMeans (now (rules .entry)) us clause) tally) ⌝ }
+{
+    match clause {
+        Clause::AnyOf(es) => tally < es.count,
+        Clause::OneOf(es) => one_left(es.count, tally),
+        Clause::Not(_) => tally == 1,
+        Clause::IfThenElse(_) => tally < 2,
+        Clause::Contains(es) => {
+            let entry = entry_of(rules, rule_form, es, 0);
+            enough(record, form, row, entry.second, entry.third, tally)
+        }
+        _ => tally == 0,
+    }
+}
+
+// Whether clause i of the pair's schema, which applies schemas, holds on its row where `tally` is
+// carried in the end.
 pub fn finish_of<'a>(
+    record: &[u32],
+    form: RecordForm,
     rules: &[u32],
     rule_text: &'a [u8],
-    form: RuleForm,
-    s: RuleRow,
+    rule_form: RuleForm,
+    p: Pair,
     i: u32,
-    misses: u32,
+    tally: u32,
 ) -> bool
-    requires { ⌜ RulesRead (now rules) (now «rule_text») form × (s .0 < form .m) × (i < schemaAt (now rules) (s .0) .count) ⌝ }
-    ensures { λ r. ⌜ r ≡ endsBy (clauseIn (now (rules .entry)) (now («rule_text» .entry)) (s .0) i) misses ⌝ }
+    requires { ⌜ Laid (now «record») form × (p .row .0 < form .rows) ⌝ }
+    requires { ⌜ RulesRead (now rules) (now «rule_text») «rule_form» × (p .rule .0 < «rule_form» .m) × (i < schemaAt (now rules) (p .rule .0) .count) ⌝ }
+    ensures { λ r. ⌜ ((ts : List ℕ) → r ≡ endsBy (docOf (now («record» .entry)) ts) (pairIs p) (clauseIn (now (rules .entry)) (now («rule_text» .entry)) (p .rule .0) i) tally) ⌝ }
 {
-    let first = schema_at(rules, form, s).first;
-    let clause = sparing_of(rules, form, first + i);
-    finish_in(clause, misses)
+    let first = schema_at(rules, rule_form, p.rule).first;
+    let clause = sparing_of(rules, rule_form, first + i);
+    finish_in(record, form, rules, rule_form, p.row, clause, tally)
 }
 
 // The clause, as it was read.

@@ -1,6 +1,6 @@
 // The steps of a clause that takes members by their names.
 ghost use mathlib.Core.Path.{_≡_};
-ghost use Prim.Native.Nat.{_<_};
+ghost use Prim.Native.Nat.{ℕ, _<_};
 ghost use Rattle.sheet.specs.Record.{docOf};
 ghost use Rattle.rulesheet.specs.declared.code.Fields.the-variants.{Members};
 ghost use Rattle.rulesheet.specs.Ruleset as R;
@@ -83,7 +83,7 @@ pub(crate) fn other_turn<'a>(
     requires { ⌜ RecordRead (now «record») (now text) form × (p .row .0 < form .rows) ⌝ }
     requires { ⌜ RulesRead (now rules) (now «rule_text») «rule_form» × (p .rule .0 < «rule_form» .m) × (i < schemaAt (now rules) (p .rule .0) .count) ⌝ }
     requires { ⌜ Started (beforeIn (now rules) (now «rule_text») (p .rule .0) i) (R.takes (R.additionalProperties (rule .0))) from ⌝ }
-    ensures { λ r. ⌜ ((κ : Marks) → Turned (docOf (now («record» .entry)) (now (text .entry))) (pairIs p) (beforeIn (now (rules .entry)) (now («rule_text» .entry)) (p .rule .0) i) (R.takes (R.additionalProperties (rule .0))) x κ r) ⌝ }
+    ensures { λ r. ⌜ ((κ : Marks) (t : ℕ) → Turned (docOf (now («record» .entry)) (now (text .entry))) (pairIs p) (beforeIn (now (rules .entry)) (now («rule_text» .entry)) (p .rule .0) i) (R.takes (R.additionalProperties (rule .0))) x κ t r) ⌝ }
 {
     let start = schema_at(rules, rule_form, p.rule).first;
     let many = members_in(record, form, p.row);

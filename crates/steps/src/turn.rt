@@ -4,11 +4,14 @@ ghost use mathlib.Core.Path.{_≡_};
 ghost use Rattle.rulesheet.specs.Clauses.{clauseMeans, applying};
 ghost use Rattle.clause.specs.Read.{clauseIn, ClauseRead};
 ghost use Rattle.steps.specs.Turns.{TurnAsked, TurnedIn};
+use crate::children::counted_turn;
 use crate::children::elements_in;
 use crate::children::fresh_turn;
 use crate::children::members_in;
 use crate::children::placed_turn;
 use crate::children::rest_turn;
+use crate::here::branch_turn;
+use crate::here::depended_turn;
 use crate::here::listed_turn;
 use crate::here::single_turn;
 use crate::members::named_turn;
@@ -23,11 +26,14 @@ use sheet::record::RecordRow;
 use sheet::record::RuleRow;
 use sheet::record::wide;
 
-// Where a clause stands: at a step that applies `pair`, or at its end.
+// Where a clause stands: at a step that applies `pair`, or at its end. A clause counts the steps that
+// fail, or those that hold (`hits`), or it has a condition with branches (`branch`).
 pub struct Turn {
     pub go: bool,
     pub step: u32,
     pub pair: Pair,
+    pub hits: bool,
+    pub branch: bool,
 }
 
 // At its end.
@@ -41,12 +47,15 @@ pub(crate) fn ended() -> Turn
             row: RecordRow(0),
             rule: RuleRow(0),
         },
+        hits: false,
+        branch: false,
     }
 }
 
-// At step x, which applies the schema to the row.
-pub(crate) fn at_step(x: u32, row: RecordRow, rule: RuleRow) -> Turn
-    ensures { λ r. ⌜ r ≡ record { go = true; step = x; pair = record { row = row; rule = rule } } ⌝ }
+// At step x, which applies the schema to the row; of a clause that counts steps that hold, or that
+// has branches.
+pub(crate) fn at_step_of(x: u32, row: RecordRow, rule: RuleRow, hits: bool, branch: bool) -> Turn
+    ensures { λ r. ⌜ r ≡ record { go = true; step = x; pair = record { row = row; rule = rule }; hits = hits; branch = branch } ⌝ }
 {
     Turn {
         go: true,
@@ -55,7 +64,16 @@ pub(crate) fn at_step(x: u32, row: RecordRow, rule: RuleRow) -> Turn
             row: row,
             rule: rule,
         },
+        hits: hits,
+        branch: branch,
     }
+}
+
+// The same of any other clause.
+pub(crate) fn at_step(x: u32, row: RecordRow, rule: RuleRow) -> Turn
+    ensures { λ r. ⌜ r ≡ record { go = true; step = x; pair = record { row = row; rule = rule }; hits = false; branch = false } ⌝ }
+{
+    at_step_of(x, row, rule, false, false)
 }
 
 // Where the clause stands, as it was read.
@@ -72,10 +90,11 @@ fn turn_in<'a>(
     clause: Clause,
     from: u32,
     x: u32,
+    tally: u32,
 ) -> Turn
     requires { ⌜ TurnAsked (now «record») (now text) form (now rules) (now «rule_text») «rule_form» (now cells) p i from ⌝ }
     requires { ⌜ ClauseRead applying (now rules) (now «rule_text») «rule_form» (p .rule .0) i clause ⌝ }
-    ensures { λ r. ⌜ TurnedIn (now («record» .entry)) (now (text .entry)) (now (rules .entry)) (now («rule_text» .entry)) p i (clauseMeans (now (rules .entry)) (now («rule_text» .entry)) clause) x («rule_form» .m) (now (cells .entry)) r ⌝ }
+    ensures { λ r. ⌜ TurnedIn (now («record» .entry)) (now (text .entry)) (now (rules .entry)) (now («rule_text» .entry)) p i (clauseMeans (now (rules .entry)) (now («rule_text» .entry)) clause) x tally («rule_form» .m) (now (cells .entry)) r ⌝ }
 {
     let row = p.row;
     match clause {
@@ -84,6 +103,11 @@ fn turn_in<'a>(
         Clause::OneOf(es) => listed_turn(rules, rule_form, row, es, x),
         Clause::Not(rule) => single_turn(row, rule, x),
         Clause::Ref(rule) => single_turn(row, rule, x),
+        Clause::IfThenElse(es) => branch_turn(rules, rule_form, row, es, x, tally),
+        Clause::DependentSchemas(es) => {
+            depended_turn(record, text, form, rules, rule_text, rule_form, row, es, x)
+        }
+        Clause::Contains(es) => counted_turn(record, form, rules, rule_form, row, es, x),
         Clause::Properties(es) => {
             named_turn(record, text, form, rules, rule_text, rule_form, row, es, x)
         }
@@ -114,8 +138,8 @@ fn turn_in<'a>(
     }
 }
 
-// Where clause i of the pair's schema stands on its row once its first x steps are taken, `from` being
-// what the clauses before it tell it. The cells must show the pair unsettled: no clause of a settled
+// Where clause i of the pair's schema stands on its row once its first x steps are taken and `tally` is
+// carried, `from` being what the clauses before it tell it. The cells must show the pair unsettled: no clause of a settled
 // pair is judged again.
 pub fn turn_of<'a>(
     record: &[u32],
@@ -129,9 +153,10 @@ pub fn turn_of<'a>(
     i: u32,
     from: u32,
     x: u32,
+    tally: u32,
 ) -> Turn
     requires { ⌜ TurnAsked (now «record») (now text) form (now rules) (now «rule_text») «rule_form» (now cells) p i from ⌝ }
-    ensures { λ r. ⌜ TurnedIn (now («record» .entry)) (now (text .entry)) (now (rules .entry)) (now («rule_text» .entry)) p i (clauseIn (now (rules .entry)) (now («rule_text» .entry)) (p .rule .0) i) x («rule_form» .m) (now (cells .entry)) r ⌝ }
+    ensures { λ r. ⌜ TurnedIn (now («record» .entry)) (now (text .entry)) (now (rules .entry)) (now («rule_text» .entry)) p i (clauseIn (now (rules .entry)) (now («rule_text» .entry)) (p .rule .0) i) x tally («rule_form» .m) (now (cells .entry)) r ⌝ }
 {
     let first = schema_at(rules, rule_form, p.rule).first;
     let clause = applied_of(rules, rule_form, first + i);
@@ -148,5 +173,6 @@ pub fn turn_of<'a>(
         clause,
         from,
         x,
+        tally,
     )
 }

@@ -27,16 +27,16 @@ returns : tie.Need-returns
 returns c t = absurd (false≢true t)
 
 add-end : tie.Need-add-end
-add-end c = omega (arith, ends-within (eqb (c .before .before .before .before .before .before .before .args .clause .first) (c .before .before .before .before .before .before .before .args .start)) (leb (c .before .before .before .before .before .before .before .args .clause .first + c .before .before .before .before .before .before .before .args .clause .count) (c .before .before .before .before .before .before .before .args .form .e)) (leb (c .before .before .before .before .before .before .before .args .shape .least) (c .before .before .before .before .before .before .before .args .clause .count)) (c .before .before .before .before .before .before .before .args .clause .first + c .before .before .before .before .before .before .before .args .clause .count) (c .before .before .before .before .before .before .before .args .form .e) refl (rw (c .before .before .before .before .wide .ensures, c .before .before .before .wide2 .ensures, c .before .before .wide3 .ensures) at (not-false (eqb (c .before .before .before .before .before .before .before .args .clause .first) (c .before .before .before .before .before .before .before .args .start) && (leb (c .before .before .before .before .wide .result + c .before .before .before .wide2 .result) (c .before .before .wide3 .result) && leb (c .before .before .before .before .before .before .before .args .shape .least) (c .before .before .before .before .before .before .before .args .clause .count))) (c .if1 .left))), facts (c .before .before .before .before .before .before .before .args .words .now) (c .before .before .before .before .before .before .before .args .form) (c .before .before .before .before .before .before .before .pre .0) .few-entries, form-e (c .before .before .before .before .before .before .before .args .words .now) (c .before .before .before .before .before .before .before .args .form) (c .before .before .before .before .before .before .before .pre .0))
+add-end c = omega (arith, ends-within (eqb (c .before .before .before .before .before .before .before .before .args .clause .first) (c .before .before .before .before .before .before .before .before .args .start)) (leb (c .before .before .before .before .before .before .before .before .args .clause .first + c .before .before .before .before .before .before .before .before .args .clause .count) (c .before .before .before .before .before .before .before .before .args .form .e)) ((leb (c .before .before .before .before .before .before .before .before .args .shape .least) (c .before .before .before .before .before .before .before .before .args .clause .count) && leb (c .before .before .before .before .before .before .before .before .args .clause .count) (c .before .before .before .before .before .before .before .before .args .shape .most))) (c .before .before .before .before .before .before .before .before .args .clause .first + c .before .before .before .before .before .before .before .before .args .clause .count) (c .before .before .before .before .before .before .before .before .args .form .e) refl (rw (c .before .before .before .before .before .wide .ensures, c .before .before .before .before .wide2 .ensures, c .before .before .before .wide3 .ensures) at (not-false (eqb (c .before .before .before .before .before .before .before .before .args .clause .first) (c .before .before .before .before .before .before .before .before .args .start) && (leb (c .before .before .before .before .before .wide .result + c .before .before .before .before .wide2 .result) (c .before .before .before .wide3 .result) && (leb (c .before .before .before .before .before .before .before .before .args .shape .least) (c .before .before .before .before .before .before .before .before .args .clause .count) && leb (c .before .before .before .before .before .before .before .before .args .clause .count) (c .before .before .before .before .before .before .before .before .args .shape .most)))) (c .if1 .left))), facts (c .before .before .before .before .before .before .before .before .args .words .now) (c .before .before .before .before .before .before .before .before .args .form) (c .before .before .before .before .before .before .before .before .pre .0) .few-entries, form-e (c .before .before .before .before .before .before .before .before .args .words .now) (c .before .before .before .before .before .before .before .before .args .form) (c .before .before .before .before .before .before .before .before .pre .0))
 
 entries-fine-requires : tie.Need-entries-fine-requires
-entries-fine-requires c κs = (c .before .before .before .before .before .before .before .pre .0, c .before .before .before .before .before .before .before .pre .1, ends-within (eqb (c .before .before .before .before .before .before .before .args .clause .first) (c .before .before .before .before .before .before .before .args .start)) (leb (c .before .before .before .before .before .before .before .args .clause .first + c .before .before .before .before .before .before .before .args .clause .count) (c .before .before .before .before .before .before .before .args .form .e)) (leb (c .before .before .before .before .before .before .before .args .shape .least) (c .before .before .before .before .before .before .before .args .clause .count)) (c .before .before .before .before .before .before .before .args .clause .first + c .before .before .before .before .before .before .before .args .clause .count) (c .before .before .before .before .before .before .before .args .form .e) refl (rw (c .before .before .before .before .wide .ensures, c .before .before .before .wide2 .ensures, c .before .before .wide3 .ensures) at (not-false (eqb (c .before .before .before .before .before .before .before .args .clause .first) (c .before .before .before .before .before .before .before .args .start) && (leb (c .before .before .before .before .wide .result + c .before .before .before .wide2 .result) (c .before .before .wide3 .result) && leb (c .before .before .before .before .before .before .before .args .shape .least) (c .before .before .before .before .before .before .before .args .clause .count))) (c .if1 .left))))
+entries-fine-requires c κs = (c .before .before .before .before .before .before .before .before .pre .0, c .before .before .before .before .before .before .before .before .pre .1, ends-within (eqb (c .before .before .before .before .before .before .before .before .args .clause .first) (c .before .before .before .before .before .before .before .before .args .start)) (leb (c .before .before .before .before .before .before .before .before .args .clause .first + c .before .before .before .before .before .before .before .before .args .clause .count) (c .before .before .before .before .before .before .before .before .args .form .e)) ((leb (c .before .before .before .before .before .before .before .before .args .shape .least) (c .before .before .before .before .before .before .before .before .args .clause .count) && leb (c .before .before .before .before .before .before .before .before .args .clause .count) (c .before .before .before .before .before .before .before .before .args .shape .most))) (c .before .before .before .before .before .before .before .before .args .clause .first + c .before .before .before .before .before .before .before .before .args .clause .count) (c .before .before .before .before .before .before .before .before .args .form .e) refl (rw (c .before .before .before .before .before .wide .ensures, c .before .before .before .before .wide2 .ensures, c .before .before .before .wide3 .ensures) at (not-false (eqb (c .before .before .before .before .before .before .before .before .args .clause .first) (c .before .before .before .before .before .before .before .before .args .start) && (leb (c .before .before .before .before .before .wide .result + c .before .before .before .before .wide2 .result) (c .before .before .before .wide3 .result) && (leb (c .before .before .before .before .before .before .before .before .args .shape .least) (c .before .before .before .before .before .before .before .before .args .clause .count) && leb (c .before .before .before .before .before .before .before .before .args .clause .count) (c .before .before .before .before .before .before .before .before .args .shape .most)))) (c .if1 .left))))
 
 after-list-requires : tie.Need-after-list-requires
-after-list-requires c κs = (c .before .before .before .before .before .before .before .before .pre .0, ends-within (eqb (c .before .before .before .before .before .before .before .before .args .clause .first) (c .before .before .before .before .before .before .before .before .args .start)) (leb (c .before .before .before .before .before .before .before .before .args .clause .first + c .before .before .before .before .before .before .before .before .args .clause .count) (c .before .before .before .before .before .before .before .before .args .form .e)) (leb (c .before .before .before .before .before .before .before .before .args .shape .least) (c .before .before .before .before .before .before .before .before .args .clause .count)) (c .before .before .before .before .before .before .before .before .args .clause .first + c .before .before .before .before .before .before .before .before .args .clause .count) (c .before .before .before .before .before .before .before .before .args .form .e) refl (rw (c .before .before .before .before .before .wide .ensures, c .before .before .before .before .wide2 .ensures, c .before .before .before .wide3 .ensures) at (not-false (eqb (c .before .before .before .before .before .before .before .before .args .clause .first) (c .before .before .before .before .before .before .before .before .args .start) && (leb (c .before .before .before .before .before .wide .result + c .before .before .before .before .wide2 .result) (c .before .before .before .wide3 .result) && leb (c .before .before .before .before .before .before .before .before .args .shape .least) (c .before .before .before .before .before .before .before .before .args .clause .count))) (c .before .if1 .left))))
+after-list-requires c κs = (c .before .before .before .before .before .before .before .before .before .pre .0, ends-within (eqb (c .before .before .before .before .before .before .before .before .before .args .clause .first) (c .before .before .before .before .before .before .before .before .before .args .start)) (leb (c .before .before .before .before .before .before .before .before .before .args .clause .first + c .before .before .before .before .before .before .before .before .before .args .clause .count) (c .before .before .before .before .before .before .before .before .before .args .form .e)) ((leb (c .before .before .before .before .before .before .before .before .before .args .shape .least) (c .before .before .before .before .before .before .before .before .before .args .clause .count) && leb (c .before .before .before .before .before .before .before .before .before .args .clause .count) (c .before .before .before .before .before .before .before .before .before .args .shape .most))) (c .before .before .before .before .before .before .before .before .before .args .clause .first + c .before .before .before .before .before .before .before .before .before .args .clause .count) (c .before .before .before .before .before .before .before .before .before .args .form .e) refl (rw (c .before .before .before .before .before .before .wide .ensures, c .before .before .before .before .before .wide2 .ensures, c .before .before .before .before .wide3 .ensures) at (not-false (eqb (c .before .before .before .before .before .before .before .before .before .args .clause .first) (c .before .before .before .before .before .before .before .before .before .args .start) && (leb (c .before .before .before .before .before .before .wide .result + c .before .before .before .before .before .wide2 .result) (c .before .before .before .before .wide3 .result) && (leb (c .before .before .before .before .before .before .before .before .before .args .shape .least) (c .before .before .before .before .before .before .before .before .before .args .clause .count) && leb (c .before .before .before .before .before .before .before .before .before .args .clause .count) (c .before .before .before .before .before .before .before .before .before .args .shape .most)))) (c .before .if1 .left))))
 
 returns-2 : tie.Need-returns-2
-returns-2 c t = passed-list (c .before .before .before .before .before .before .before .before .before .args .words .now) (c .before .before .before .before .before .before .before .before .before .args .text .now) (c .before .before .before .before .before .before .before .before .before .args .form) (c .before .before .before .before .before .before .before .before .before .pre .0) (c .before .before .before .before .before .before .before .before .before .args .s .0) (c .before .before .before .before .before .before .before .before .before .args .clause) (c .before .before .before .before .before .before .before .before .before .args .shape) (c .before .before .before .before .before .before .before .before .before .pre .2) (c .before .before .before .before .before .before .before .before .before .args .start) (c .before .before .before .before .before .before .before .before .before .args .steps) _ (c .before .before .before .before .before .before .before .before .before .pre .3) (rw (c .before .before .before .before .before .before .wide .ensures, c .before .before .before .before .before .wide2 .ensures, c .before .before .before .before .wide3 .ensures) at (not-false (eqb (c .before .before .before .before .before .before .before .before .before .args .clause .first) (c .before .before .before .before .before .before .before .before .before .args .start) && (leb (c .before .before .before .before .before .before .wide .result + c .before .before .before .before .before .wide2 .result) (c .before .before .before .before .wide3 .result) && leb (c .before .before .before .before .before .before .before .before .before .args .shape .least) (c .before .before .before .before .before .before .before .before .before .args .clause .count))) (c .before .before .if1 .left))) (c .before .entries-fine .ensures t) refl (c .after-list .ensures)
+returns-2 c t = passed-list (c .before .before .before .before .before .before .before .before .before .before .args .words .now) (c .before .before .before .before .before .before .before .before .before .before .args .text .now) (c .before .before .before .before .before .before .before .before .before .before .args .form) (c .before .before .before .before .before .before .before .before .before .before .pre .0) (c .before .before .before .before .before .before .before .before .before .before .args .s .0) (c .before .before .before .before .before .before .before .before .before .before .args .clause) (c .before .before .before .before .before .before .before .before .before .before .args .shape) (c .before .before .before .before .before .before .before .before .before .before .pre .2) (c .before .before .before .before .before .before .before .before .before .before .args .start) (c .before .before .before .before .before .before .before .before .before .before .args .steps) _ (c .before .before .before .before .before .before .before .before .before .before .pre .3) (rw (c .before .before .before .before .before .before .before .wide .ensures, c .before .before .before .before .before .before .wide2 .ensures, c .before .before .before .before .before .wide3 .ensures) at (not-false (eqb (c .before .before .before .before .before .before .before .before .before .before .args .clause .first) (c .before .before .before .before .before .before .before .before .before .before .args .start) && (leb (c .before .before .before .before .before .before .before .wide .result + c .before .before .before .before .before .before .wide2 .result) (c .before .before .before .before .before .wide3 .result) && (leb (c .before .before .before .before .before .before .before .before .before .before .args .shape .least) (c .before .before .before .before .before .before .before .before .before .before .args .clause .count) && leb (c .before .before .before .before .before .before .before .before .before .before .args .clause .count) (c .before .before .before .before .before .before .before .before .before .before .args .shape .most)))) (c .before .before .if1 .left))) (c .before .entries-fine .ensures t) refl (c .after-list .ensures)
 
 pub pass-list-spec : {M : Type 1} → statement M
 pass-list-spec =

@@ -51,6 +51,12 @@ enum-told-11 c = search needs
 range-fits-requires-2 : tie.Need-range-fits-requires-2
 range-fits-requires-2 c κs = search needs
 
+enum-told-12 : tie.Need-enum-told-12
+enum-told-12 c = search needs
+
+enum-told-13 : tie.Need-enum-told-13
+enum-told-13 c = search needs
+
 returns : tie.Need-returns
 returns c = rw (c .enum-told .given .1)
 
@@ -84,6 +90,12 @@ returns-10 c = rw (c .before .before .before .enum-told10 .given .1)
 returns-11 : tie.Need-returns-11
 returns-11 c = rw (c .before .before .enum-told11 .given .1, c .before .range-fits2 .ensures)
 
+returns-12 : tie.Need-returns-12
+returns-12 c = rw (c .before .before .before .enum-told12 .given .1)
+
+returns-13 : tie.Need-returns-13
+returns-13 c = rw (c .before .enum-told13 .given .1)
+
 pub entry-ok-spec : {M : Type 1} → statement M
 entry-ok-spec =
     tie.close
@@ -104,6 +116,8 @@ entry-ok-spec =
     enum-told-10
     enum-told-11
     range-fits-requires-2
+    enum-told-12
+    enum-told-13
     returns
     returns-2
     returns-3
@@ -114,4 +128,6 @@ entry-ok-spec =
     returns-8
     returns-9
     returns-10
-    returns-11)
+    returns-11
+    returns-12
+    returns-13)

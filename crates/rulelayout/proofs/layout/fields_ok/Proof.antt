@@ -42,6 +42,12 @@ enum-told-10 c = search needs
 enum-told-11 : tie.Need-enum-told-11
 enum-told-11 c = search needs
 
+enum-told-12 : tie.Need-enum-told-12
+enum-told-12 c = search needs
+
+enum-told-13 : tie.Need-enum-told-13
+enum-told-13 c = search needs
+
 returns : tie.Need-returns
 returns c = rw (c .enum-told .given .1)
 
@@ -75,6 +81,12 @@ returns-10 c = rw (c .enum-told10 .given .1)
 returns-11 : tie.Need-returns-11
 returns-11 c = rw (c .enum-told11 .given .1)
 
+returns-12 : tie.Need-returns-12
+returns-12 c = rw (c .enum-told12 .given .1)
+
+returns-13 : tie.Need-returns-13
+returns-13 c = rw (c .enum-told13 .given .1)
+
 pub fields-ok-spec : {M : Type 1} → statement M
 fields-ok-spec =
     tie.close
@@ -92,6 +104,8 @@ fields-ok-spec =
     enum-told-9
     enum-told-10
     enum-told-11
+    enum-told-12
+    enum-told-13
     returns
     returns-2
     returns-3
@@ -102,4 +116,6 @@ fields-ok-spec =
     returns-8
     returns-9
     returns-10
-    returns-11)
+    returns-11
+    returns-12
+    returns-13)

@@ -1,7 +1,7 @@
 -- `pass_clause` meets its contract, for a list clause and for another. Assumes nothing.
 use mathlib.Core.Path.{sym, _∙_}
-use borrow.Author.Needs.{needs}
 use Rattle.rulelayout.proofs.Passes.{list-passed, other-passed}
+use borrow.Author.Needs.{needs}
 use Rattle.rulelayout.proofs.layout.pass_clause.Statement.{statement}
 use Rattle.rulelayout.proofs.layout.pass_clause.Tie as tie
 
@@ -25,38 +25,22 @@ wide-requires-3 c κs = search needs
 
 returns : tie.Need-returns
 returns c =
-    let w = c .before .before .before in
-    let l = w .before .before .before in
-    let s = l .before .before .before .before in
-    rw (w .before .before .wide .ensures, w .before .wide2 .ensures) (list-passed (s .args .words .now) (s .args .form) (s .pre) (s .args .start) (s .args .clause) (l .before .before .of .result) (l .before .before .of .ensures)
-    (sym (l .before .is-list .ensures) ∙ l .if1 .taken)
-    (rw (w .before .before .wide .ensures, w .before .wide2 .ensures, w .wide3 .ensures) at (c .if2 .taken)))
+    rw (c .before .before .before .before .before .before .before .wide .ensures, c .before .before .before .before .before .before .wide2 .ensures) (list-passed (c .before .before .before .before .before .before .before .before .before .before .before .before .args .words .now) (c .before .before .before .before .before .before .before .before .before .before .before .before .args .form) (c .before .before .before .before .before .before .before .before .before .before .before .before .pre) (c .before .before .before .before .before .before .before .before .before .before .before .before .args .start) (c .before .before .before .before .before .before .before .before .before .before .before .before .args .clause) (c .before .before .before .before .before .before .before .before .before .before .of .result) (c .before .before .before .before .before .before .before .before .before .before .of .ensures) (sym (c .before .before .before .before .before .before .before .before .before .is-list .ensures) ∙ c .before .before .before .before .before .before .before .before .if1 .taken) (rw (c .before .before .before .before .before .before .before .wide .ensures, c .before .before .before .before .before .before .wide2 .ensures, c .before .before .before .before .before .wide3 .ensures) at (c .if2 .taken)))
 
 returns-2 : tie.Need-returns-2
 returns-2 c =
-    let w = c .before .before .before in
-    let l = w .before .before .before in
-    let s = l .before .before .before .before in
-    (list-passed (s .args .words .now) (s .args .form) (s .pre) (s .args .start) (s .args .clause) (l .before .before .of .result) (l .before .before .of .ensures)
-    (sym (l .before .is-list .ensures) ∙ l .if1 .taken)
-    (rw (w .before .before .wide .ensures, w .before .wide2 .ensures, w .wide3 .ensures) at (c .if2 .left)))
+    list-passed (c .before .before .before .before .before .before .before .before .before .before .before .before .args .words .now) (c .before .before .before .before .before .before .before .before .before .before .before .before .args .form) (c .before .before .before .before .before .before .before .before .before .before .before .before .pre) (c .before .before .before .before .before .before .before .before .before .before .before .before .args .start) (c .before .before .before .before .before .before .before .before .before .before .before .before .args .clause) (c .before .before .before .before .before .before .before .before .before .before .of .result) (c .before .before .before .before .before .before .before .before .before .before .of .ensures) (sym (c .before .before .before .before .before .before .before .before .before .is-list .ensures) ∙ c .before .before .before .before .before .before .before .before .if1 .taken) (rw (c .before .before .before .before .before .before .before .wide .ensures, c .before .before .before .before .before .before .wide2 .ensures, c .before .before .before .before .before .wide3 .ensures) at (c .if2 .left))
 
 fields-ok-requires : tie.Need-fields-ok-requires
 fields-ok-requires c κs = search needs
 
 returns-3 : tie.Need-returns-3
 returns-3 c =
-    let f = c .before in
-    let s = f .before .before .before .before .before in
-    other-passed (s .args .words .now) (s .args .form) (s .pre) (s .args .start) (s .args .clause) (f .before .before .before .of .result) (f .before .before .before .of .ensures)
-    (sym (f .before .before .is-list .ensures) ∙ f .before .if1 .left) (f .fields-ok .ensures) (c .if3 .taken)
+    other-passed (c .before .before .before .before .before .before .args .words .now) (c .before .before .before .before .before .before .args .form) (c .before .before .before .before .before .before .pre) (c .before .before .before .before .before .before .args .start) (c .before .before .before .before .before .before .args .clause) (c .before .before .before .before .of .result) (c .before .before .before .before .of .ensures) (sym (c .before .before .before .is-list .ensures) ∙ c .before .before .if1 .left) (c .before .fields-ok .ensures) (c .if3 .taken)
 
 returns-4 : tie.Need-returns-4
 returns-4 c =
-    let f = c .before in
-    let s = f .before .before .before .before .before in
-    other-passed (s .args .words .now) (s .args .form) (s .pre) (s .args .start) (s .args .clause) (f .before .before .before .of .result) (f .before .before .before .of .ensures)
-    (sym (f .before .before .is-list .ensures) ∙ f .before .if1 .left) (f .fields-ok .ensures) (c .if3 .left)
+    other-passed (c .before .before .before .before .before .before .args .words .now) (c .before .before .before .before .before .before .args .form) (c .before .before .before .before .before .before .pre) (c .before .before .before .before .before .before .args .start) (c .before .before .before .before .before .before .args .clause) (c .before .before .before .before .of .result) (c .before .before .before .before .of .ensures) (sym (c .before .before .before .is-list .ensures) ∙ c .before .before .if1 .left) (c .before .fields-ok .ensures) (c .if3 .left)
 
 pub pass-clause-spec : {M : Type 1} → statement M
 pass-clause-spec =

@@ -1,6 +1,6 @@
 -- `text_range` meets its contract, by the fields of the list. Assumes nothing.
 use mathlib.Core.Path.{_≡_, refl, sym, ap, _∙_}
-use Rattle.rulesheet.specs.declared.code.Fields.the-variants.{Unknown, Bare, Types, Number, Positive, Limit, Schema, Schemas}
+use Rattle.rulesheet.specs.declared.code.Fields.the-variants.{Unknown, Bare, Types, Number, Positive, Limit, Schema, Schemas, Branches, Counted}
 use Rattle.rulelayout.proofs.Readable.{no-text, a-name, a-member, a-value}
 use borrow.Author.Needs.{needs}
 use Rattle.rulelayout.proofs.texts.text_range.Statement.{statement}
@@ -42,6 +42,12 @@ enum-told-10 c = search needs
 enum-told-11 : tie.Need-enum-told-11
 enum-told-11 c = search needs
 
+enum-told-12 : tie.Need-enum-told-12
+enum-told-12 c = search needs
+
+enum-told-13 : tie.Need-enum-told-13
+enum-told-13 c = search needs
+
 returns : tie.Need-returns
 returns c = rw (c .enum-told .given .1) (no-text Unknown (c .before .before .args .entry) (λ ts. refl))
 
@@ -75,5 +81,11 @@ returns-10 c = rw (c .enum-told10 .given .1) (no-text Schemas (c .before .before
 returns-11 : tie.Need-returns-11
 returns-11 c = rw (c .enum-told11 .given .1) (a-member (c .before .before .args .entry))
 
+returns-12 : tie.Need-returns-12
+returns-12 c = rw (c .enum-told12 .given .1) (no-text Branches (c .before .before .args .entry) (λ ts. refl))
+
+returns-13 : tie.Need-returns-13
+returns-13 c = rw (c .enum-told13 .given .1) (no-text Counted (c .before .before .args .entry) (λ ts. refl))
+
 pub text-range-spec : {M : Type 1} → statement M
-text-range-spec = tie.close (tie.spec enum-told enum-told-2 enum-told-3 enum-told-4 enum-told-5 enum-told-6 enum-told-7 enum-told-8 string-range-requires enum-told-9 enum-told-10 enum-told-11 returns returns-2 returns-3 returns-4 returns-5 returns-6 returns-7 returns-8 returns-9 returns-10 returns-11)
+text-range-spec = tie.close (tie.spec enum-told enum-told-2 enum-told-3 enum-told-4 enum-told-5 enum-told-6 enum-told-7 enum-told-8 string-range-requires enum-told-9 enum-told-10 enum-told-11 enum-told-12 enum-told-13 returns returns-2 returns-3 returns-4 returns-5 returns-6 returns-7 returns-8 returns-9 returns-10 returns-11 returns-12 returns-13)

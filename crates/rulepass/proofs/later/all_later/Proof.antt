@@ -2,20 +2,21 @@
 use native.Mathlib.Omega.{arith}
 use mathlib.Core.Bool.{false≢true}
 use mathlib.Core.Logic.{⊎-elim}
-use mathlib.Core.Path.{_≡_, ap}
+use mathlib.Core.Path.{_≡_, ap, _∙_}
 use Prim.Native.Nat.{ℕ, _+_, _-_, _≤_, _<_}
 use Rattle.laws.proofs.Tests.{le-or-lt}
-use Rattle.rulesheet.specs.declared.form.EntryRow.{EntryRow}
 use Rattle.rulesheet.specs.Sheet.{entryAt}
+use Rattle.rulepass.specs.Pass.{schemaIn}
 use Rattle.rulesheet.proofs.Trailers.{facts, form-e}
+use borrow.Author.Needs.{needs}
 use Rattle.rulepass.proofs.later.all_later.Statement.{statement}
 use Rattle.rulepass.proofs.later.all_later.Tie as tie
 
 abbrev Inv-loop : tie.InvT-loop
-Inv-loop words form first end this x₀ x = (first ≤ x) × ((y : ℕ) → first ≤ y → y < x → this < entryAt words y .first)
+Inv-loop words form named first end this x₀ x = (first ≤ x) × ((y : ℕ) → first ≤ y → y < x → this < schemaIn named (entryAt words y))
 
 abbrev μ-loop : tie.MeasureT-loop
-μ-loop words form first end this x₀ x = end - x
+μ-loop words form named first end this x₀ x = end - x
 
 loop-holds : tie.Need-loop-holds Inv-loop μ-loop
 loop-holds c = (omega arith, λ y low high. absurd (omega arith))
@@ -23,11 +24,16 @@ loop-holds c = (omega arith, λ y low high. absurd (omega arith))
 entry-at-requires : tie.Need-entry-at-requires Inv-loop μ-loop
 entry-at-requires c κs = (c .before .before .before .pre .0, omega (arith, c .before .before .before .pre .1))
 
+schema-in-requires : tie.Need-schema-in-requires Inv-loop μ-loop
+schema-in-requires c κs = search needs
+
 returns : tie.Need-returns Inv-loop μ-loop
 returns c t = absurd (false≢true t)
 
 add-x : tie.Need-add-x Inv-loop μ-loop
-add-x c = omega (arith, c .before .before .before .before .before .before .pre .1, facts (c .before .before .before .before .before .before .args .words .now) (c .before .before .before .before .before .before .args .form) (c .before .before .before .before .before .before .pre .0) .few-entries, form-e (c .before .before .before .before .before .before .args .words .now) (c .before .before .before .before .before .before .args .form) (c .before .before .before .before .before .before .pre .0))
+add-x c =
+    let s = c .before .before .before .before .before .before in
+    omega (arith, s .pre .1, facts (s .args .words .now) (s .args .form) (s .pre .0) .few-entries, form-e (s .args .words .now) (s .args .form) (s .pre .0))
 
 loop-less : tie.Need-loop-less Inv-loop μ-loop
 loop-less c = omega arith
@@ -35,7 +41,7 @@ loop-less c = omega arith
 loop-again : tie.Need-loop-again Inv-loop μ-loop
 loop-again c =
     let x = c .before .before .before .before .loop .x in
-    let e = ap (λ (r : EntryRow). r .first) (c .before .before .entry-at .ensures) in (
+    let e = c .before .schema-in .ensures ∙ ap (schemaIn (c .before .before .before .before .before .before .args .named)) (c .before .before .entry-at .ensures) in (
       omega arith,
       λ (y : ℕ) low (high : y < x + 1). ⊎-elim
           (λ (h : x ≤ y). let same : x ≡ y = omega arith in rw (← same) (omega arith))
@@ -54,6 +60,7 @@ all-later-spec =
     μ-loop
     loop-holds
     entry-at-requires
+    schema-in-requires
     returns
     add-x
     loop-less

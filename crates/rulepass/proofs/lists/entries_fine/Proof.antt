@@ -5,7 +5,7 @@ use mathlib.Core.Path.{refl}
 use Prim.Native.Nat.{_+_}
 use borrow.Author.Tests.{eqb-true}
 use Rattle.rulesheet.specs.Sheet.{schemasWord, textWord}
-use Rattle.rulesheet.specs.declared.code.Fields.the-variants.{Values, Schemas}
+use Rattle.rulesheet.specs.declared.code.Fields.the-variants.{Values, Schemas, Branches, Counted}
 use Rattle.rulepass.proofs.Entries.{entries-ok, unnamed-fine}
 use borrow.Author.Needs.{needs}
 use Rattle.rulepass.proofs.lists.entries_fine.Statement.{statement}
@@ -59,6 +59,18 @@ enum-told-11 c = search needs
 named-fine-requires-2 : tie.Need-named-fine-requires-2
 named-fine-requires-2 c κs = search needs
 
+enum-told-12 : tie.Need-enum-told-12
+enum-told-12 c = search needs
+
+first-bad-in-requires-3 : tie.Need-first-bad-in-requires-3
+first-bad-in-requires-3 c κs = search needs
+
+enum-told-13 : tie.Need-enum-told-13
+enum-told-13 c = search needs
+
+first-bad-in-requires-4 : tie.Need-first-bad-in-requires-4
+first-bad-in-requires-4 c κs = search needs
+
 returns : tie.Need-returns
 returns c t = absurd (false≢true t)
 
@@ -92,6 +104,12 @@ returns-10 c t = rw (c .before .enum-told10 .given .1) (unnamed-fine (c .before 
 returns-11 : tie.Need-returns-11
 returns-11 c t = rw (c .before .enum-told11 .given .1) (c .named-fine2 .ensures t)
 
+returns-12 : tie.Need-returns-12
+returns-12 c t = rw (c .before .enum-told12 .given .1) (unnamed-fine (c .before .before .before .before .before .args .words .now) Branches (c .before .before .before .before .before .args .first) (c .before .before .before .before .before .args .count) (entries-ok (c .before .before .before .before .before .args .words .now) Branches (textWord (c .before .before .before .before .before .args .words .now)) (schemasWord (c .before .before .before .before .before .args .words .now)) (c .before .before .before .before .before .args .first) (c .before .before .before .before .before .args .count) (c .before .before .before .before .before .args .first + c .before .before .before .before .before .args .count) (c .first-bad-in3 .result) refl (c .first-bad-in3 .ensures) (omega (arith, eqb-true (c .first-bad-in3 .result) (c .before .before .before .before .before .args .first + c .before .before .before .before .before .args .count) t))) (c .before .before .before .before .before .args .text .now) refl)
+
+returns-13 : tie.Need-returns-13
+returns-13 c t = rw (c .before .enum-told13 .given .1) (unnamed-fine (c .before .before .before .before .before .args .words .now) Counted (c .before .before .before .before .before .args .first) (c .before .before .before .before .before .args .count) (entries-ok (c .before .before .before .before .before .args .words .now) Counted (textWord (c .before .before .before .before .before .args .words .now)) (schemasWord (c .before .before .before .before .before .args .words .now)) (c .before .before .before .before .before .args .first) (c .before .before .before .before .before .args .count) (c .before .before .before .before .before .args .first + c .before .before .before .before .before .args .count) (c .first-bad-in4 .result) refl (c .first-bad-in4 .ensures) (omega (arith, eqb-true (c .first-bad-in4 .result) (c .before .before .before .before .before .args .first + c .before .before .before .before .before .args .count) t))) (c .before .before .before .before .before .args .text .now) refl)
+
 pub entries-fine-spec : {M : Type 1} → statement M
 entries-fine-spec =
     tie.close
@@ -112,6 +130,10 @@ entries-fine-spec =
     first-bad-in-requires-2
     enum-told-11
     named-fine-requires-2
+    enum-told-12
+    first-bad-in-requires-3
+    enum-told-13
+    first-bad-in-requires-4
     returns
     returns-2
     returns-3
@@ -122,4 +144,6 @@ entries-fine-spec =
     returns-8
     returns-9
     returns-10
-    returns-11)
+    returns-11
+    returns-12
+    returns-13)

@@ -107,34 +107,46 @@ returns-20 c = decodes 34 (c .match .keys20) (record { means = λ ws ts. refl; h
 
 returns-21 : tie.Need-returns-21
 unfolding lineIn
-returns-21 c = decodes 40 (c .match .keys21) (record { means = λ ws ts. refl; holds = (refl, refl, refl, refl) })
+returns-21 c = decodes 36 (c .match .keys21) (record { means = λ ws ts. refl; holds = (refl, refl, refl, refl) })
 
 returns-22 : tie.Need-returns-22
 unfolding lineIn
-returns-22 c = decodes 42 (c .match .keys22) (record { means = λ ws ts. refl; holds = (refl, refl) })
+returns-22 c = decodes 37 (c .match .keys22) (record { means = λ ws ts. refl; holds = (refl, refl, refl, refl) })
 
 returns-23 : tie.Need-returns-23
 unfolding lineIn
-returns-23 c = decodes 43 (c .match .keys23) (record { means = λ ws ts. refl; holds = (refl, refl, refl, refl) })
+returns-23 c = decodes 40 (c .match .keys23) (record { means = λ ws ts. refl; holds = (refl, refl, refl, refl) })
 
 returns-24 : tie.Need-returns-24
 unfolding lineIn
-returns-24 c = decodes 44 (c .match .keys24) (record { means = λ ws ts. refl; holds = (refl, refl) })
+returns-24 c = decodes 42 (c .match .keys24) (record { means = λ ws ts. refl; holds = (refl, refl) })
 
 returns-25 : tie.Need-returns-25
 unfolding lineIn
-returns-25 c = decodes 60 (c .match .keys25) (record { means = λ ws ts. refl; holds = (refl, refl) })
+returns-25 c = decodes 43 (c .match .keys25) (record { means = λ ws ts. refl; holds = (refl, refl, refl, refl) })
 
 returns-26 : tie.Need-returns-26
 unfolding lineIn
-returns-26 c = decodes 61 (c .match .keys26) (record { means = λ ws ts. refl; holds = (refl, refl) })
+returns-26 c = decodes 44 (c .match .keys26) (record { means = λ ws ts. refl; holds = (refl, refl) })
 
 returns-27 : tie.Need-returns-27
-returns-27 c =
+unfolding lineIn
+returns-27 c = decodes 45 (c .match .keys27) (record { means = λ ws ts. refl; holds = (refl, refl, refl, refl) })
+
+returns-28 : tie.Need-returns-28
+unfolding lineIn
+returns-28 c = decodes 60 (c .match .keys28) (record { means = λ ws ts. refl; holds = (refl, refl) })
+
+returns-29 : tie.Need-returns-29
+unfolding lineIn
+returns-29 c = decodes 61 (c .match .keys29) (record { means = λ ws ts. refl; holds = (refl, refl) })
+
+returns-30 : tie.Need-returns-30
+returns-30 c =
     let a = c .before .args in
     let r = c .match .rest in
     record {
-      means = λ ws ts. sym (ap (λ (l : CodeLine). l .means (partsOf ws ts (a .first) (a .count))) (line-past _ _ _ (r .0 .0 .0 .0 .0 .0 .0 .0 .0 .0 .0 .0 .0 .0 .0 .0 .0 .0 .0 .0 .0 .0 .0 .0 .0 .1) ∙ line-past _ _ _ (r .0 .0 .0 .0 .0 .0 .0 .0 .0 .0 .0 .0 .0 .0 .0 .0 .0 .0 .0 .0 .0 .0 .0 .0 .1) ∙ line-past _ _ _ (r .0 .0 .0 .0 .0 .0 .0 .0 .0 .0 .0 .0 .0 .0 .0 .0 .0 .0 .0 .0 .0 .0 .0 .1) ∙ line-past _ _ _ (r .0 .0 .0 .0 .0 .0 .0 .0 .0 .0 .0 .0 .0 .0 .0 .0 .0 .0 .0 .0 .0 .0 .1) ∙ line-past _ _ _ (r .0 .0 .0 .0 .0 .0 .0 .0 .0 .0 .0 .0 .0 .0 .0 .0 .0 .0 .0 .0 .0 .1) ∙ line-past _ _ _ (r .0 .0 .0 .0 .0 .0 .0 .0 .0 .0 .0 .0 .0 .0 .0 .0 .0 .0 .0 .0 .1) ∙ line-past _ _ _ (r .0 .0 .0 .0 .0 .0 .0 .0 .0 .0 .0 .0 .0 .0 .0 .0 .0 .0 .0 .1) ∙ line-past _ _ _ (r .0 .0 .0 .0 .0 .0 .0 .0 .0 .0 .0 .0 .0 .0 .0 .0 .0 .0 .1) ∙ line-past _ _ _ (r .0 .0 .0 .0 .0 .0 .0 .0 .0 .0 .0 .0 .0 .0 .0 .0 .0 .1) ∙ line-past _ _ _ (r .0 .0 .0 .0 .0 .0 .0 .0 .0 .0 .0 .0 .0 .0 .0 .0 .1) ∙ line-past _ _ _ (r .0 .0 .0 .0 .0 .0 .0 .0 .0 .0 .0 .0 .0 .0 .0 .1) ∙ line-past _ _ _ (r .0 .0 .0 .0 .0 .0 .0 .0 .0 .0 .0 .0 .0 .0 .1) ∙ line-past _ _ _ (r .0 .0 .0 .0 .0 .0 .0 .0 .0 .0 .0 .0 .0 .1) ∙ line-past _ _ _ (r .0 .0 .0 .0 .0 .0 .0 .0 .0 .0 .0 .0 .1) ∙ line-past _ _ _ (r .0 .0 .0 .0 .0 .0 .0 .0 .0 .0 .0 .1) ∙ line-past _ _ _ (r .0 .0 .0 .0 .0 .0 .0 .0 .0 .0 .1) ∙ line-past _ _ _ (r .0 .0 .0 .0 .0 .0 .0 .0 .0 .1) ∙ line-past _ _ _ (r .0 .0 .0 .0 .0 .0 .0 .0 .1) ∙ line-past _ _ _ (r .0 .0 .0 .0 .0 .0 .0 .1) ∙ line-past _ _ _ (r .0 .0 .0 .0 .0 .0 .1) ∙ line-past _ _ _ (r .0 .0 .0 .0 .0 .1) ∙ line-past _ _ _ (r .0 .0 .0 .0 .1) ∙ line-past _ _ _ (r .0 .0 .0 .1) ∙ line-past _ _ _ (r .0 .0 .1) ∙ line-past _ _ _ (r .0 .1) ∙ line-past _ _ _ (r .1) ∙ line-none _));
+      means = λ ws ts. sym (ap (λ (l : CodeLine). l .means (partsOf ws ts (a .first) (a .count))) (line-past _ _ _ (r .0 .0 .0 .0 .0 .0 .0 .0 .0 .0 .0 .0 .0 .0 .0 .0 .0 .0 .0 .0 .0 .0 .0 .0 .0 .0 .0 .0 .1) ∙ line-past _ _ _ (r .0 .0 .0 .0 .0 .0 .0 .0 .0 .0 .0 .0 .0 .0 .0 .0 .0 .0 .0 .0 .0 .0 .0 .0 .0 .0 .0 .1) ∙ line-past _ _ _ (r .0 .0 .0 .0 .0 .0 .0 .0 .0 .0 .0 .0 .0 .0 .0 .0 .0 .0 .0 .0 .0 .0 .0 .0 .0 .0 .1) ∙ line-past _ _ _ (r .0 .0 .0 .0 .0 .0 .0 .0 .0 .0 .0 .0 .0 .0 .0 .0 .0 .0 .0 .0 .0 .0 .0 .0 .0 .1) ∙ line-past _ _ _ (r .0 .0 .0 .0 .0 .0 .0 .0 .0 .0 .0 .0 .0 .0 .0 .0 .0 .0 .0 .0 .0 .0 .0 .0 .1) ∙ line-past _ _ _ (r .0 .0 .0 .0 .0 .0 .0 .0 .0 .0 .0 .0 .0 .0 .0 .0 .0 .0 .0 .0 .0 .0 .0 .1) ∙ line-past _ _ _ (r .0 .0 .0 .0 .0 .0 .0 .0 .0 .0 .0 .0 .0 .0 .0 .0 .0 .0 .0 .0 .0 .0 .1) ∙ line-past _ _ _ (r .0 .0 .0 .0 .0 .0 .0 .0 .0 .0 .0 .0 .0 .0 .0 .0 .0 .0 .0 .0 .0 .1) ∙ line-past _ _ _ (r .0 .0 .0 .0 .0 .0 .0 .0 .0 .0 .0 .0 .0 .0 .0 .0 .0 .0 .0 .0 .1) ∙ line-past _ _ _ (r .0 .0 .0 .0 .0 .0 .0 .0 .0 .0 .0 .0 .0 .0 .0 .0 .0 .0 .0 .1) ∙ line-past _ _ _ (r .0 .0 .0 .0 .0 .0 .0 .0 .0 .0 .0 .0 .0 .0 .0 .0 .0 .0 .1) ∙ line-past _ _ _ (r .0 .0 .0 .0 .0 .0 .0 .0 .0 .0 .0 .0 .0 .0 .0 .0 .0 .1) ∙ line-past _ _ _ (r .0 .0 .0 .0 .0 .0 .0 .0 .0 .0 .0 .0 .0 .0 .0 .0 .1) ∙ line-past _ _ _ (r .0 .0 .0 .0 .0 .0 .0 .0 .0 .0 .0 .0 .0 .0 .0 .1) ∙ line-past _ _ _ (r .0 .0 .0 .0 .0 .0 .0 .0 .0 .0 .0 .0 .0 .0 .1) ∙ line-past _ _ _ (r .0 .0 .0 .0 .0 .0 .0 .0 .0 .0 .0 .0 .0 .1) ∙ line-past _ _ _ (r .0 .0 .0 .0 .0 .0 .0 .0 .0 .0 .0 .0 .1) ∙ line-past _ _ _ (r .0 .0 .0 .0 .0 .0 .0 .0 .0 .0 .0 .1) ∙ line-past _ _ _ (r .0 .0 .0 .0 .0 .0 .0 .0 .0 .0 .1) ∙ line-past _ _ _ (r .0 .0 .0 .0 .0 .0 .0 .0 .0 .1) ∙ line-past _ _ _ (r .0 .0 .0 .0 .0 .0 .0 .0 .1) ∙ line-past _ _ _ (r .0 .0 .0 .0 .0 .0 .0 .1) ∙ line-past _ _ _ (r .0 .0 .0 .0 .0 .0 .1) ∙ line-past _ _ _ (r .0 .0 .0 .0 .0 .1) ∙ line-past _ _ _ (r .0 .0 .0 .0 .1) ∙ line-past _ _ _ (r .0 .0 .0 .1) ∙ line-past _ _ _ (r .0 .0 .1) ∙ line-past _ _ _ (r .0 .1) ∙ line-past _ _ _ (r .1) ∙ line-none _));
       holds = tt;
     }
 
@@ -173,4 +185,7 @@ decoded-spec =
     returns-24
     returns-25
     returns-26
-    returns-27)
+    returns-27
+    returns-28
+    returns-29
+    returns-30)

@@ -52,12 +52,12 @@ returns c =
     let inv = c .before .before .before .before .before .loop .inv in
     let below = c .before .before .before .before .loop-test .taken in
     let fresh : column (start .args .m) (start .args .cells .now) (start .args .p .rule .0) (c .before .before .before .before .before .before .before .children-of .result .first + c .before .before .before .before .before .loop .at) ≡ false = rw (c .before .before .before .wide .ensures) at (sym (c .before .before .is-marked .ensures) ∙ not-true _ (c .before .if1 .taken)) in (
-      λ ts all before.
+      λ ts all t before.
           let f = c .before .before .before .before .before .before .before .children-of .ensures .first-is ts in
-          member-turn (docOf (start .args .«record» .now) ts) (pairIs (start .args .p)) before (column (start .args .m) (start .args .cells .now) (start .args .p .rule .0)) (start .args .x) (c .before .before .before .before .before .loop .at) _ f (start .args .rule .0) _ (start .args .rule) _ (skip-members (docOf (start .args .«record» .now) ts) (pairIs (start .args .p)) before (column (start .args .m) (start .args .cells .now) (start .args .p .rule .0)) _ f (start .args .rule .0) _ _ (inv .1)) (inv .0) (omega arith) (omega arith) refl refl fresh (c .at-step .ensures),
-      λ ts all before.
+          member-turn t (docOf (start .args .«record» .now) ts) (pairIs (start .args .p)) before (column (start .args .m) (start .args .cells .now) (start .args .p .rule .0)) (start .args .x) (c .before .before .before .before .before .loop .at) _ f (start .args .rule .0) _ (start .args .rule) _ (skip-members t (docOf (start .args .«record» .now) ts) (pairIs (start .args .p)) before (column (start .args .m) (start .args .cells .now) (start .args .p .rule .0)) _ f (start .args .rule .0) _ _ (inv .1)) (inv .0) (omega arith) (omega arith) refl refl fresh (c .at-step .ensures),
+      λ ts all t before.
           let f = c .before .before .before .before .before .before .before .children-of .ensures .first-is ts in
-          element-turn (docOf (start .args .«record» .now) ts) (pairIs (start .args .p)) before (column (start .args .m) (start .args .cells .now) (start .args .p .rule .0)) (start .args .x) (c .before .before .before .before .before .loop .at) _ f (start .args .rule .0) _ (start .args .rule) _ (skip-elements (docOf (start .args .«record» .now) ts) (pairIs (start .args .p)) before (column (start .args .m) (start .args .cells .now) (start .args .p .rule .0)) _ f (start .args .rule .0) _ _ (inv .1)) (inv .0) (omega arith) (omega arith) refl refl fresh (c .at-step .ensures),
+          element-turn t (docOf (start .args .«record» .now) ts) (pairIs (start .args .p)) before (column (start .args .m) (start .args .cells .now) (start .args .p .rule .0)) (start .args .x) (c .before .before .before .before .before .loop .at) _ f (start .args .rule .0) _ (start .args .rule) _ (skip-elements t (docOf (start .args .«record» .now) ts) (pairIs (start .args .p)) before (column (start .args .m) (start .args .cells .now) (start .args .p .rule .0)) _ f (start .args .rule .0) _ _ (inv .1)) (inv .0) (omega arith) (omega arith) refl refl fresh (c .at-step .ensures),
     )
 
 add-at : tie.Need-add-at Inv-loop μ-loop
@@ -81,12 +81,12 @@ returns-2 c =
     let start = c .before .before .before .before .before .before .before in
     let inv = c .before .before .loop .inv in
     let past = c .before .loop-test .left in (
-      λ ts all before.
+      λ ts all t before.
           let f = c .before .before .before .before .children-of .ensures .first-is ts in
-          member-end (docOf (start .args .«record» .now) ts) (pairIs (start .args .p)) before (column (start .args .m) (start .args .cells .now) (start .args .p .rule .0)) (start .args .x) (c .before .before .loop .at) (start .args .rule .0) _ (c .ended .ensures) (skip-members (docOf (start .args .«record» .now) ts) (pairIs (start .args .p)) before (column (start .args .m) (start .args .cells .now) (start .args .p .rule .0)) _ f (start .args .rule .0) _ _ (inv .1)) (omega arith),
-      λ ts all before.
+          member-end t (docOf (start .args .«record» .now) ts) (pairIs (start .args .p)) before (column (start .args .m) (start .args .cells .now) (start .args .p .rule .0)) (start .args .x) (c .before .before .loop .at) (start .args .rule .0) _ (c .ended .ensures) (skip-members t (docOf (start .args .«record» .now) ts) (pairIs (start .args .p)) before (column (start .args .m) (start .args .cells .now) (start .args .p .rule .0)) _ f (start .args .rule .0) _ _ (inv .1)) (omega arith),
+      λ ts all t before.
           let f = c .before .before .before .before .children-of .ensures .first-is ts in
-          element-end (docOf (start .args .«record» .now) ts) (pairIs (start .args .p)) before (column (start .args .m) (start .args .cells .now) (start .args .p .rule .0)) (start .args .x) (c .before .before .loop .at) (start .args .rule .0) _ (c .ended .ensures) (skip-elements (docOf (start .args .«record» .now) ts) (pairIs (start .args .p)) before (column (start .args .m) (start .args .cells .now) (start .args .p .rule .0)) _ f (start .args .rule .0) _ _ (inv .1)) (omega arith),
+          element-end t (docOf (start .args .«record» .now) ts) (pairIs (start .args .p)) before (column (start .args .m) (start .args .cells .now) (start .args .p .rule .0)) (start .args .x) (c .before .before .loop .at) (start .args .rule .0) _ (c .ended .ensures) (skip-elements t (docOf (start .args .«record» .now) ts) (pairIs (start .args .p)) before (column (start .args .m) (start .args .cells .now) (start .args .p .rule .0)) _ f (start .args .rule .0) _ _ (inv .1)) (omega arith),
     )
 
 pub fresh-turn-spec : {M : Type 1} → statement M

@@ -42,8 +42,8 @@ returns : tie.Need-returns
 returns c =
     let start = c .before .before .before .before .before .before .before .before .before in
     let below = c .before .before .before .before .if1 .taken in
-    λ ts p before κ same.
-    placed-turn (docOf (start .args .«record» .now) ts) p before κ (start .args .x) _ (start .args .rules .now) (start .args .list) _ _ _ (rw same (c .before .before .before .children-of .ensures .first-is ts)) (rw same (rw (← c .before .before .before .before .before .before .elements-in .ensures ts, ← c .before .before .before .before .before .lesser .ensures) below)) (omega arith) refl (c .before .entry-schema .ensures) (c .at-step .ensures)
+    λ ts t p before κ same.
+    placed-turn t (docOf (start .args .«record» .now) ts) p before κ (start .args .x) _ (start .args .rules .now) (start .args .list) _ _ _ (rw same (c .before .before .before .children-of .ensures .first-is ts)) (rw same (rw (← c .before .before .before .before .before .before .elements-in .ensures ts, ← c .before .before .before .before .before .lesser .ensures) below)) (omega arith) refl (c .before .entry-schema .ensures) (c .at-step .ensures)
 
 ended-requires : tie.Need-ended-requires
 ended-requires c κs = search needs
@@ -52,8 +52,8 @@ returns-2 : tie.Need-returns-2
 returns-2 c =
     let start = c .before .before .before .before .before .before in
     let past = c .before .if1 .left in
-    λ ts p before κ same.
-    placed-end (docOf (start .args .«record» .now) ts) p before κ (start .args .x) _ (start .args .rules .now) (start .args .list) (rw same (rw (← c .before .before .before .elements-in .ensures ts, ← c .before .before .lesser .ensures) (omega arith))) (c .ended .ensures)
+    λ ts t p before κ same.
+    placed-end t (docOf (start .args .«record» .now) ts) p before κ (start .args .x) _ (start .args .rules .now) (start .args .list) (rw same (rw (← c .before .before .before .elements-in .ensures ts, ← c .before .before .lesser .ensures) (omega arith))) (c .ended .ensures)
 
 pub placed-turn-spec : {M : Type 1} → statement M
 placed-turn-spec =

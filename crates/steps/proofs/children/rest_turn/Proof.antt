@@ -46,8 +46,8 @@ returns : tie.Need-returns
 returns c =
     let start = c .before .before .before .before .before .before .before in
     let below = c .before .before .before .if1 .taken in
-    λ ts p before κ same told.
-    rest-turn (docOf (start .args .«record» .now) ts) p before κ (start .args .x) _ (start .args .rule .0) (start .args .from) (c .before .before .before .before .after .result) told (rw same (rw (← c .before .before .before .before .before .elements-in .ensures ts) (c .before .before .before .before .after .ensures))) _ _ (start .args .rule) refl (rw same (c .before .before .children-of .ensures .first-is ts)) below (omega arith) refl (c .at-step .ensures)
+    λ ts p before κ same told t.
+    rest-turn t (docOf (start .args .«record» .now) ts) p before κ (start .args .x) _ (start .args .rule .0) (start .args .from) (c .before .before .before .before .after .result) told (rw same (rw (← c .before .before .before .before .before .elements-in .ensures ts) (c .before .before .before .before .after .ensures))) _ _ (start .args .rule) refl (rw same (c .before .before .children-of .ensures .first-is ts)) below (omega arith) refl (c .at-step .ensures)
 
 ended-requires : tie.Need-ended-requires
 ended-requires c κs = search needs
@@ -56,8 +56,8 @@ returns-2 : tie.Need-returns-2
 returns-2 c =
     let start = c .before .before .before .before .before in
     let past = c .before .if1 .left in
-    λ ts p before κ same told.
-    rest-end (docOf (start .args .«record» .now) ts) p before κ (start .args .x) _ (start .args .rule .0) (start .args .from) (c .before .before .after .result) told (rw same (rw (← c .before .before .before .elements-in .ensures ts) (c .before .before .after .ensures))) (omega arith) (c .ended .ensures)
+    λ ts p before κ same told t.
+    rest-end t (docOf (start .args .«record» .now) ts) p before κ (start .args .x) _ (start .args .rule .0) (start .args .from) (c .before .before .after .result) told (rw same (rw (← c .before .before .before .elements-in .ensures ts) (c .before .before .after .ensures))) (omega arith) (c .ended .ensures)
 
 pub rest-turn-spec : {M : Type 1} → statement M
 rest-turn-spec =

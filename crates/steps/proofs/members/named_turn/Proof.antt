@@ -22,8 +22,8 @@ use Rattle.steps.proofs.members.named_turn.Tie as tie
 abbrev Inv-loop : tie.InvT-loop
 Inv-loop «record» text form rules rule-text rule-form row list x members first many at₀ at =
     (x ≤ at)
-    × ((p : Pair) (before : List R.Clause) (κ : Marks) → p .row ≡ row .0
-    → Skipped (docOf «record» text) p before (R.takes (R.properties (membersIn rules rule-text list))) κ x at)
+    × ((t : ℕ) (p : Pair) (before : List R.Clause) (κ : Marks) → p .row ≡ row .0
+    → Skipped (docOf «record» text) p before (R.takes (R.properties (membersIn rules rule-text list))) κ t x at)
 
 abbrev μ-loop : tie.MeasureT-loop
 μ-loop «record» text form rules rule-text rule-form row list x members first many at₀ at = many - at
@@ -37,14 +37,14 @@ ended-requires c κs = search needs
 returns : tie.Need-returns Inv-loop μ-loop
 returns c =
     let start = c .before .before .before .before .before .before .before in
-    λ p before κ same.
-    no-members (docOf (start .args .«record» .now) (start .args .text .now)) p before κ (start .args .rules .now) (start .args .rule-text .now) (start .args .list) (start .args .x) _ (rw same (sym (c .before .before .members-in .ensures (start .args .text .now)) ∙ c .before .if1 .taken)) (c .ended .ensures)
+    λ t p before κ same.
+    no-members t (docOf (start .args .«record» .now) (start .args .text .now)) p before κ (start .args .rules .now) (start .args .rule-text .now) (start .args .list) (start .args .x) _ (rw same (sym (c .before .before .members-in .ensures (start .args .text .now)) ∙ c .before .if1 .taken)) (c .ended .ensures)
 
 children-of-requires : tie.Need-children-of-requires Inv-loop μ-loop
 children-of-requires c κs = (c .before .before .before .before .before .before .pre .0 .0 .laid .formed, c .before .before .before .before .before .before .pre .0 .1)
 
 loop-holds : tie.Need-loop-holds Inv-loop μ-loop
-loop-holds c = (omega arith, λ p before κ same. skipped-none (omega arith))
+loop-holds c = (omega arith, λ t p before κ same. skipped-none (omega arith))
 
 entry-name-requires : tie.Need-entry-name-requires Inv-loop μ-loop
 entry-name-requires c κs = (c .before .before .before .before .before .before .before .before .before .pre .1 .0 .laid .clauses-laid .schemas-laid .formed, c .before .before .before .before .before .before .before .before .before .pre .1 .1 .within, omega arith)
@@ -73,8 +73,8 @@ returns-2 c =
     let below = c .before .before .before .before .before .loop-test .taken in
     let us = start .args .rule-text .now in
     let some : 0 < memberCount (docOf (start .args .«record» .now) (start .args .text .now) .value (start .args .row .0)) = omega (arith, c .before .before .before .before .before .before .before .before .before .members-in .ensures (start .args .text .now), c .before .before .before .before .before .before .before .before .if1 .left) in
-    λ p before κ same.
-    named-turn (docOf (start .args .«record» .now) (start .args .text .now)) p before κ (start .args .rules .now) us (start .args .list) (start .args .x) (rw same some) (c .before .before .before .before .before .before .loop .at) (c .before .before .before .child-named .result) (part us (c .before .before .before .before .entry-name .result)) (rw same (c .before .before .before .child-named .ensures)) (c .before .before .before .before .entry-name .ensures .member-is us) _ _ _ _ (rw same (c .before .before .before .before .before .before .before .children-of .ensures .first-is (start .args .text .now))) (inv .1 p before κ same) (inv .0) below (omega (arith, list-few (start .pre .1 .0) (start .pre .1 .1))) (rw same (rw (← c .before .before .before .before .before .before .before .before .before .members-in .ensures (start .args .text .now)) (c .before .before .if2 .taken))) refl (c .before .member-schema .ensures us) (c .at-step .ensures)
+    λ t p before κ same.
+    named-turn t (docOf (start .args .«record» .now) (start .args .text .now)) p before κ (start .args .rules .now) us (start .args .list) (start .args .x) (rw same some) (c .before .before .before .before .before .before .loop .at) (c .before .before .before .child-named .result) (part us (c .before .before .before .before .entry-name .result)) (rw same (c .before .before .before .child-named .ensures)) (c .before .before .before .before .entry-name .ensures .member-is us) _ _ _ _ (rw same (c .before .before .before .before .before .before .before .children-of .ensures .first-is (start .args .text .now))) (inv .1 t p before κ same) (inv .0) below (omega (arith, list-few (start .pre .1 .0) (start .pre .1 .1))) (rw same (rw (← c .before .before .before .before .before .before .before .before .before .members-in .ensures (start .args .text .now)) (c .before .before .if2 .taken))) refl (c .before .member-schema .ensures us) (c .at-step .ensures)
 
 add-at : tie.Need-add-at Inv-loop μ-loop
 add-at c = omega (arith, list-few (c .before .before .before .before .before .before .before .before .before .before .before .before .pre .1 .0) (c .before .before .before .before .before .before .before .before .before .before .before .before .pre .1 .1))
@@ -89,8 +89,8 @@ loop-again c =
     let us = start .args .rule-text .now in
     let some : 0 < memberCount (docOf (start .args .«record» .now) (start .args .text .now) .value (start .args .row .0)) = omega (arith, c .before .before .before .before .before .before .before .members-in .ensures (start .args .text .now), c .before .before .before .before .before .before .if1 .left) in (
       omega arith,
-      λ p before κ same.
-          named-more (docOf (start .args .«record» .now) (start .args .text .now)) p before κ (start .args .rules .now) us (start .args .list) (start .args .x) (rw same some) (c .before .before .before .before .loop .at) (c .before .child-named .result) (part us (c .before .before .entry-name .result)) (rw same (c .before .child-named .ensures)) (c .before .before .entry-name .ensures .member-is us) (inv .1 p before κ same) (rw same (rw (← c .before .before .before .before .before .before .before .members-in .ensures (start .args .text .now)) (omega (arith, c .if2 .left)))),
+      λ t p before κ same.
+          named-more t (docOf (start .args .«record» .now) (start .args .text .now)) p before κ (start .args .rules .now) us (start .args .list) (start .args .x) (rw same some) (c .before .before .before .before .loop .at) (c .before .child-named .result) (part us (c .before .before .entry-name .result)) (rw same (c .before .child-named .ensures)) (c .before .before .entry-name .ensures .member-is us) (inv .1 t p before κ same) (rw same (rw (← c .before .before .before .before .before .before .before .members-in .ensures (start .args .text .now)) (omega (arith, c .if2 .left)))),
     )
 
 ended-requires-2 : tie.Need-ended-requires-2 Inv-loop μ-loop
@@ -102,8 +102,8 @@ returns-3 c =
     let inv = c .before .before .loop .inv in
     let past = c .before .loop-test .left in
     let some : 0 < memberCount (docOf (start .args .«record» .now) (start .args .text .now) .value (start .args .row .0)) = omega (arith, c .before .before .before .before .before .members-in .ensures (start .args .text .now), c .before .before .before .before .if1 .left) in
-    λ p before κ same.
-    named-end (docOf (start .args .«record» .now) (start .args .text .now)) p before κ (start .args .rules .now) (start .args .rule-text .now) (start .args .list) (start .args .x) (rw same some) (c .before .before .loop .at) _ (inv .1 p before κ same) (omega arith) (c .ended2 .ensures)
+    λ t p before κ same.
+    named-end t (docOf (start .args .«record» .now) (start .args .text .now)) p before κ (start .args .rules .now) (start .args .rule-text .now) (start .args .list) (start .args .x) (rw same some) (c .before .before .loop .at) _ (inv .1 t p before κ same) (omega arith) (c .ended2 .ensures)
 
 pub named-turn-spec : {M : Type 1} → statement M
 named-turn-spec =

@@ -1,7 +1,7 @@
 -- `other_turn` meets its contract: each member that was passed over has been named. Assumes nothing.
 use mathlib.Core.Path.{refl, sym, ap, _∙_}
 use native.Mathlib.Omega.{arith}
-use Prim.Native.Nat.{_+_, _-_, _≤_, _<_}
+use Prim.Native.Nat.{ℕ, _+_, _-_, _≤_, _<_}
 use Rattle.sheet.specs.Record.{docOf}
 use Rattle.rulesheet.specs.declared.form.SchemaRow.{SchemaRow}
 use Rattle.rulesheet.specs.Ruleset as R
@@ -19,7 +19,7 @@ use Rattle.steps.proofs.members.other_turn.Tie as tie
 
 abbrev Inv-loop : tie.InvT-loop
 Inv-loop «record» text form rules rule-text rule-form p i from rule x start many first at₀ at =
-    (x ≤ at) × ((κ : Marks) → Skipped (docOf «record» text) (pairIs p) (beforeIn rules rule-text (p .rule .0) i) (R.takes (R.additionalProperties (rule .0))) κ x at)
+    (x ≤ at) × ((κ : Marks) (t : ℕ) → Skipped (docOf «record» text) (pairIs p) (beforeIn rules rule-text (p .rule .0) i) (R.takes (R.additionalProperties (rule .0))) κ t x at)
 
 abbrev μ-loop : tie.MeasureT-loop
 μ-loop «record» text form rules rule-text rule-form p i from rule x start many first at₀ at = many - at
@@ -34,7 +34,7 @@ children-of-requires : tie.Need-children-of-requires Inv-loop μ-loop
 children-of-requires c κs = (c .before .before .before .before .before .before .pre .0 .0 .laid .formed, c .before .before .before .before .before .before .pre .0 .1)
 
 loop-holds : tie.Need-loop-holds Inv-loop μ-loop
-loop-holds c = (omega arith, λ κ. skipped-none (omega arith))
+loop-holds c = (omega arith, λ κ t. skipped-none (omega arith))
 
 add-t20 : tie.Need-add-t20 Inv-loop μ-loop
 add-t20 c =
@@ -59,8 +59,8 @@ returns c =
     let start = c .before .before .before .before .before .before .before .before .before .before .before .before in
     let inv = c .before .before .before .before .loop .inv in
     let below = c .before .before .before .loop-test .taken in
-    λ κ.
-    other-turn (docOf (start .args .«record» .now) (start .args .text .now)) (pairIs (start .args .p)) (beforeIn (start .args .rules .now) (start .args .rule-text .now) (start .args .p .rule .0) (start .args .i)) κ (start .args .x) (c .before .before .before .before .loop .at) _ (start .args .rule .0) (c .before .before .before .before .before .children-of .ensures .first-is (start .args .text .now)) _ (start .args .rule) _ (inv .1 κ) (inv .0) (rw (← c .before .before .before .before .before .before .members-in .ensures (start .args .text .now)) below) (omega arith) refl refl (sym (c .before .before .unnamed-in .ensures (pairIs (start .args .p))) ∙ c .before .if1 .taken) (c .at-step .ensures)
+    λ κ t.
+    other-turn t (docOf (start .args .«record» .now) (start .args .text .now)) (pairIs (start .args .p)) (beforeIn (start .args .rules .now) (start .args .rule-text .now) (start .args .p .rule .0) (start .args .i)) κ (start .args .x) (c .before .before .before .before .loop .at) _ (start .args .rule .0) (c .before .before .before .before .before .children-of .ensures .first-is (start .args .text .now)) _ (start .args .rule) _ (inv .1 κ t) (inv .0) (rw (← c .before .before .before .before .before .before .members-in .ensures (start .args .text .now)) below) (omega arith) refl refl (sym (c .before .before .unnamed-in .ensures (pairIs (start .args .p))) ∙ c .before .if1 .taken) (c .at-step .ensures)
 
 add-at : tie.Need-add-at Inv-loop μ-loop
 add-at c = search needs
@@ -73,8 +73,8 @@ loop-again c =
     let start = c .before .before .before .before .before .before .before .before .before .before .before in
     let inv = c .before .before .before .loop .inv in (
       omega arith,
-      λ κ.
-          other-more (docOf (start .args .«record» .now) (start .args .text .now)) (pairIs (start .args .p)) (beforeIn (start .args .rules .now) (start .args .rule-text .now) (start .args .p .rule .0) (start .args .i)) κ (start .args .x) (c .before .before .before .loop .at) _ (start .args .rule .0) (c .before .before .before .before .children-of .ensures .first-is (start .args .text .now)) (inv .1 κ) (sym (c .before .unnamed-in .ensures (pairIs (start .args .p))) ∙ c .if1 .left),
+      λ κ t.
+          other-more t (docOf (start .args .«record» .now) (start .args .text .now)) (pairIs (start .args .p)) (beforeIn (start .args .rules .now) (start .args .rule-text .now) (start .args .p .rule .0) (start .args .i)) κ (start .args .x) (c .before .before .before .loop .at) _ (start .args .rule .0) (c .before .before .before .before .children-of .ensures .first-is (start .args .text .now)) (inv .1 κ t) (sym (c .before .unnamed-in .ensures (pairIs (start .args .p))) ∙ c .if1 .left),
     )
 
 ended-requires : tie.Need-ended-requires Inv-loop μ-loop
@@ -85,8 +85,8 @@ returns-2 c =
     let start = c .before .before .before .before .before .before .before .before .before .before in
     let inv = c .before .before .loop .inv in
     let past = c .before .loop-test .left in
-    λ κ.
-    other-end (docOf (start .args .«record» .now) (start .args .text .now)) (pairIs (start .args .p)) (beforeIn (start .args .rules .now) (start .args .rule-text .now) (start .args .p .rule .0) (start .args .i)) κ (start .args .x) (c .before .before .loop .at) _ (start .args .rule .0) (c .before .before .before .children-of .ensures .first-is (start .args .text .now)) _ (inv .1 κ) (rw (← c .before .before .before .before .members-in .ensures (start .args .text .now)) (omega arith)) (c .ended .ensures)
+    λ κ t.
+    other-end t (docOf (start .args .«record» .now) (start .args .text .now)) (pairIs (start .args .p)) (beforeIn (start .args .rules .now) (start .args .rule-text .now) (start .args .p .rule .0) (start .args .i)) κ (start .args .x) (c .before .before .loop .at) _ (start .args .rule .0) (c .before .before .before .children-of .ensures .first-is (start .args .text .now)) _ (inv .1 κ t) (rw (← c .before .before .before .before .members-in .ensures (start .args .text .now)) (omega arith)) (c .ended .ensures)
 
 pub other-turn-spec : {M : Type 1} → statement M
 other-turn-spec =
