@@ -4,12 +4,12 @@
 --     going-ready, going-aimed    what judging one of its clauses, or a pair that it applies, asks
 --     going-apply, going-mark     a pair that it applies was judged; its marks were written
 --     going-writes, going-open    what writing its marks, and settling it, asks
---     Stepped, stepped-none, stepped-go, stepped-skip, stepped-skips, stepped-stops, stepped-went, stepped-hands, stepped-end     the steps of a clause
+--     Stepped, stepped-none, stepped-go, stepped-goes, stepped-skip, stepped-skips, stepped-stops, stepped-went, stepped-hands, stepped-end     the steps of a clause
 -- Assumes nothing.
 use mathlib.Core.Bool.{Bool, true, false, not, _&&_, _||_, cond}
 use mathlib.Core.List.{List, List·Memᴰ as Has}
 use mathlib.Core.Logic.{⊎-elim}
-use mathlib.Core.Path.{_≡_, refl, sym, ap, _∙_, subst}
+use mathlib.Core.Path.{_≡_, refl, sym, ap, ap₂, _∙_, subst}
 use Prim.Native.Nat.{ℕ, zero, suc, _+_, _-_, _*_, _<_, _≤_}
 use native.Mathlib.Nat.{le-refl, mul-le-mul-right, mul-comm}
 use native.Mathlib.Numerals.{add-one}
@@ -22,17 +22,16 @@ use Rattle.meaning.specs.Rules.{Pair, Marks, nothing, _∪_, Judgement, answer,
 use Rattle.meaning.specs.Settling.{samePair, listed, inTurn}
 use Rattle.meaning.proofs.Words.{row-inside}
 use Rattle.meaning.proofs.Settled.{same-pair}
-use Rattle.areas.specs.Cells.{verd, column, plus, cellAt, Unsettled}
+use Rattle.areas.specs.Cells.{verd, column, cellAt, Unsettled}
 use Rattle.areas.specs.Writers.{Open, Writes, Marked, handedOn, HandsOn}
 use Rattle.areas.proofs.Cells.{settledAs-read, settled-room}
-use Rattle.steps.specs.Folds.{stillBy, hitsBy, gives, marksBy, doneBy}
-use Rattle.steps.specs.Plan.{stepsOf, aimOf, goOf, finishOf, wayOf, stopsBy}
+use Rattle.steps.specs.Folds.{tallyBy, gives, marksBy, doneBy}
+use Rattle.steps.specs.Plan.{countsHits, branches, moved, stepsOf, aimOf, goOf, finishOf, wayOf, stopsBy}
 use Rattle.steps.specs.Turns.{Skipped}
-use Rattle.steps.proofs.Folds.{or-no, done-picked}
-use Rattle.steps.proofs.Cuts.{still-later}
-use Rattle.steps.proofs.Plans.{Aimed, applied-is, holds-is, marks-is, still-on, go-is, go-same, aimed}
+use Rattle.steps.proofs.Folds.{or-no, tally-few, done-picked}
+use Rattle.steps.proofs.Plans.{Aimed, applied-is, holds-is, marks-is, go-is, go-same, aimed}
 use Rattle.judge.specs.declared.cycle.Done.{Done}
-use Rattle.judge.specs.State.{Case, Fits, InCase, Kid, firstKid, kidCount, rankOf, truthOf, settleOf, clausesOf, clauseAt, beforeOf, bitsOf, overlay, Areas, Quiet, Ready, WhereDone, Judged, ClauseJudged}
+use Rattle.judge.specs.State.{Case, Fits, InCase, Kid, firstKid, kidCount, rankOf, truthOf, settleOf, clausesOf, clauseAt, beforeOf, bitsOf, overlay, Areas, Quiet, Ready, WhereDone, Judged, ClauseJudged, givenOn}
 use Rattle.judge.proofs.Pairs.{settle-self, settle-still, settle-new, settle-grows}
 use Rattle.judge.proofs.State.{cond-else, not-same, overlay-self, overlay-other, areas-bits, areas-marks, areas-self, areas-free, areas-unsettled, areas-cell, areas-then, areas-mark}
 
@@ -223,30 +222,37 @@ module _ (T : Case) (p : Pair) (cl : ℕ) where
   abbrev pub aims : ℕ → Pair
   aims i = aimOf (T .doc) p (beforeOf T p cl) (clauseAt T p cl) i
 
-  -- a step goes by the marks
-  abbrev pub fresh : Marks → ℕ → Bool
-  fresh κ i = goOf (T .doc) p (beforeOf T p cl) (clauseAt T p cl) i (κ (aims i .row))
+  -- what is carried stops the clause; a step goes by the marks, at what is carried
+  abbrev pub stopped : ℕ → Bool
+  stopped t = stopsBy (wayOf (T .way) (clauseAt T p cl)) t
 
-  -- and is still taken, if no failure has stopped the clause
-  abbrev pub still : ℕ → Bool
-  still i = stillBy (wayOf (T .way) (clauseAt T p cl)) (truthOf T) aims i
+  abbrev pub fresh : Marks → ℕ → ℕ → Bool
+  fresh κ i t = goOf (T .doc) p (beforeOf T p cl) (clauseAt T p cl) i (κ (aims i .row)) t
+
+  -- what is carried to step i, and whether it goes
+  abbrev pub carries : Marks → ℕ → ℕ
+  carries κ i = tallyBy (truthOf T) (λ x t. not (stopped t) && fresh κ x t) aims (moved (countsHits (clauseAt T p cl)) (branches (clauseAt T p cl))) i
 
   abbrev pub goes : Marks → ℕ → Bool
-  goes κ i = still i && fresh κ i
+  goes κ i = not (stopped (carries κ i)) && fresh κ i (carries κ i)
+
+  -- the clause keeps the marks of all that it applies, or of what holds
+  abbrev pub keeps : Bool
+  keeps = not (countsHits (clauseAt T p cl))
 
   abbrev pub many : ℕ
   many = stepsOf (T .doc) p (beforeOf T p cl) (clauseAt T p cl)
 
--- i steps of the clause were taken, `misses` of which applied a pair that failed
-pub record Stepped (T : Case) (p : Pair) (cl : ℕ) (d₀ : List Pair) (c₀ l₀ : List ℕ) (i : ℕ) (cells list : List ℕ) (count misses : ℕ) : Type 0 where
+-- i steps of the clause were taken, and `tally` is carried
+pub record Stepped (T : Case) (p : Pair) (cl : ℕ) (d₀ : List Pair) (c₀ l₀ : List ℕ) (i : ℕ) (cells list : List ℕ) (count tally : ℕ) : Type 0 where
   pub going :
       Going T p (bitsOf (T .m) c₀) l₀ (doneBy (settleOf T) (goes T p cl (bitsOf (T .m) c₀ p)) (aims T p cl) d₀ i)
-      (marksBy (truthOf T) p (goes T p cl (bitsOf (T .m) c₀ p)) (aims T p cl) (bitsOf (T .m) c₀ p) i) cells list count
-  pub missed : hitsBy (truthOf T) (goes T p cl (bitsOf (T .m) c₀ p)) (aims T p cl) i + misses ≡ i
+      (marksBy (truthOf T) p (keeps T p cl) (goes T p cl (bitsOf (T .m) c₀ p)) (aims T p cl) (bitsOf (T .m) c₀ p) i) cells list count
+  pub carried : tally ≡ carries T p cl (bitsOf (T .m) c₀ p) i
 
 pub stepped-none : {T : Case} {p : Pair} {cl : ℕ} {c l : List ℕ} {n : ℕ} (a : Ready T (rankOf T p) p c l n) → Unsettled (T .m) p c → Stepped T p cl (a .done) c l 0 c l n 0
-unfolding doneBy marksBy hitsBy
-stepped-none a u = record { going = going-clause a u; missed = refl }
+unfolding doneBy marksBy tallyBy
+stepped-none a u = record { going = going-clause a u; carried = refl }
 
 pub open-bits : (T : Case) (c : List ℕ) (p : Pair) (k : ℕ) {b : Bool} → bitsOf (T .m) c p k ≡ b → column (T .m) c (p .rule) k ≡ b
 unfolding bitsOf
@@ -266,77 +272,79 @@ handed-gives {T} {p} {q} {κ = κ} {c} G i e k ch = rw own-bits (ap (λ (b : Boo
     second true d = open-bits T c q k (areas-marks (G .areas) q k i (subst (λ (x : ℕ). Kid T x k) (sym (eqb-true (q .row) (p .row) d)) ch) e)
     second false d = refl
 
--- a pair that holds is a hit more, and one that fails a miss more
-one-more : (b : Bool) (x y i : ℕ) → x + y ≡ i → plus x b + plus y (not b) ≡ suc i
-unfolding plus
-one-more true x y i e = omega arith
-one-more false x y i e = omega arith
+-- what is handed on, or not, is what is given
+given-gives : {T : Case} {p q : Pair} {held : Pair → Marks} {l₀ : List ℕ} {done : List Pair} {κ : Marks} {c l : List ℕ} {n : ℕ}
+    → Going T p held l₀ done κ c l n → InCase T q → listed q done ≡ true → (kept : Bool) (k : ℕ) → Kid T (p .row) k
+    → givenOn kept (T .m) c (p .row) (p .rule) (q .row) (q .rule) k ≡ (κ k || (kept && gives (truthOf T) p q k))
+unfolding givenOn
+given-gives G i e true k ch = handed-gives G i e k ch
+given-gives {T} {p} {c = c} G i e false k ch = open-bits T c p k (going-bits G k ch) ∙ sym (or-no _)
 
-module _ {T : Case} {p : Pair} {cl : ℕ} {d₀ : List Pair} {c₀ l₀ : List ℕ} {i : ℕ} {c l : List ℕ} {n misses : ℕ} (S : Stepped T p cl d₀ c₀ l₀ i c l n misses) where
+module _ {T : Case} {p : Pair} {cl : ℕ} {d₀ : List Pair} {c₀ l₀ : List ℕ} {i : ℕ} {c l : List ℕ} {n tally : ℕ} (S : Stepped T p cl d₀ c₀ l₀ i c l n tally) where
   abbrev κ₀ : Marks
   κ₀ = bitsOf (T .m) c₀ p
 
-  pub stepped-few : misses ≤ i
-  stepped-few = let e = S .missed in omega arith
-
-  -- the clause is still on as long as no failure has stopped it
-  pub stepped-still : still T p cl i ≡ not (stopsBy (wayOf (T .way) (clauseAt T p cl)) misses)
-  stepped-still = let G = S .going in still-on (T .doc) (T .rules) (T .n) (T .m) (G .fit) p (G .inside .row-in) (beforeOf T p cl) κ₀ (truthOf T) (T .way) (clauseAt T p cl) i misses (S .missed)
+  pub stepped-few : tally ≤ i
+  stepped-few = rw (S .carried) (tally-few (truthOf T) (aims T p cl) _ (countsHits (clauseAt T p cl)) (branches (clauseAt T p cl)) i)
 
   -- a step that looks at the cells sees what it would have seen before the clause
   pub stepped-go : {g : Bool} → i < many T p cl
-      → g ≡ goOf (T .doc) p (beforeOf T p cl) (clauseAt T p cl) i (column (T .m) c (p .rule) (aims T p cl i .row)) → g ≡ fresh T p cl κ₀ i
+      → g ≡ goOf (T .doc) p (beforeOf T p cl) (clauseAt T p cl) i (column (T .m) c (p .rule) (aims T p cl i .row)) tally → g ≡ fresh T p cl κ₀ i tally
   stepped-go h w =
       let G = S .going in
       w
-      ∙ go-same (T .doc) (T .rules) (T .n) (T .m) (G .fit) p (G .inside .row-in) (beforeOf T p cl) κ₀ (clauseAt T p cl) i _ _ h
+      ∙ go-same (T .doc) (T .rules) (T .n) (T .m) (G .fit) p (G .inside .row-in) (beforeOf T p cl) κ₀ (clauseAt T p cl) i _ _ tally h
       (λ ch. open-bits T c p (aims T p cl i .row) (going-bits G (aims T p cl i .row) ch))
-      ∙ go-is (T .doc) (T .rules) (T .n) (T .m) (G .fit) p (G .inside .row-in) (beforeOf T p cl) κ₀ (truthOf T) (clauseAt T p cl) (goes T p cl κ₀) i h
+      ∙ go-is (T .doc) (T .rules) (T .n) (T .m) (G .fit) p (G .inside .row-in) (beforeOf T p cl) κ₀ (truthOf T) (clauseAt T p cl) (goes T p cl κ₀) i tally h
+
+  -- whether it goes, by what is carried
+  pub stepped-goes : {b : Bool} → b ≡ (not (stopped T p cl tally) && fresh T p cl κ₀ i tally) → b ≡ goes T p cl κ₀ i
+  stepped-goes e = e ∙ ap (λ (t : ℕ). not (stopped T p cl t) && fresh T p cl κ₀ i t) (S .carried)
 
   -- where a step that is applied leads
-  pub stepped-aim : i < many T p cl → Has (clauseAt T p cl) (clausesOf T p) → true ≡ fresh T p cl κ₀ i → Aim T p (aims T p cl i)
+  pub stepped-aim : i < many T p cl → Has (clauseAt T p cl) (clausesOf T p) → true ≡ goes T p cl κ₀ i → Aim T p (aims T p cl i)
   stepped-aim h has w =
       let G = S .going in
-      aimed (T .doc) (T .rules) (T .n) (T .m) (G .fit) p (G .inside .row-in) (beforeOf T p cl) κ₀ (G .inside .rule-in) (clauseAt T p cl) i has h (sym w)
+      aimed (T .doc) (T .rules) (T .n) (T .m) (G .fit) p (G .inside .row-in) (beforeOf T p cl) κ₀ (truthOf T) (T .way) (G .inside .rule-in) (clauseAt T p cl) i has h (sym w)
 
   -- a step that applies nothing
-  pub stepped-skip : false ≡ goes T p cl κ₀ i → Stepped T p cl d₀ c₀ l₀ (i + 1) c l n misses
-  unfolding doneBy marksBy hitsBy plus
+  pub stepped-skip : false ≡ goes T p cl κ₀ i → Stepped T p cl d₀ c₀ l₀ (i + 1) c l n tally
+  unfolding doneBy marksBy tallyBy
   stepped-skip d =
       let z : goes T p cl κ₀ i ≡ false = sym d in
-      let e = S .missed in
       rw (add-one i)
       (record {
         going =
             rw z
             (going-as (S .going)
-            (λ k. marksBy (truthOf T) p (goes T p cl κ₀) (aims T p cl) κ₀ i k || (goes T p cl κ₀ i && gives (truthOf T) p (aims T p cl i) k))
+            (λ k. marksBy (truthOf T) p (keeps T p cl) (goes T p cl κ₀) (aims T p cl) κ₀ i k || (goes T p cl κ₀ i && ((keeps T p cl || (truthOf T (aims T p cl i)) .holds) && gives (truthOf T) p (aims T p cl i) k)))
             (λ k ch. sym (rw z (or-no _))));
-        missed = rw z (omega arith);
+        carried = S .carried ∙ sym (rw z);
       })
 
   -- a step that applies a pair
-  pub stepped-went : {v h : ℕ} {q : Pair} {c₁ c₂ l₁ : List ℕ} {n₁ : ℕ} → true ≡ goes T p cl κ₀ i → q ≡ aims T p cl i
+  pub stepped-went : {v h : ℕ} {kept : Bool} {q : Pair} {c₁ c₂ l₁ : List ℕ} {n₁ : ℕ} → true ≡ goes T p cl κ₀ i → q ≡ aims T p cl i
       → Aim T p q → Judged T q c l n c₁ l₁ n₁ → v ≡ verd (getD c₁ (cellAt (T .m) q) 0)
-      → Marked (T .m) (firstKid T p) (kidCount T p) (p .rule) (handedOn (T .m) c₁ (p .row) (p .rule) (q .row) (q .rule)) c₁ c₂
-      → h ≡ plus misses (not (eqb v 1))
+      → Marked (T .m) (firstKid T p) (kidCount T p) (p .rule) (givenOn kept (T .m) c₁ (p .row) (p .rule) (q .row) (q .rule)) c₁ c₂
+      → kept ≡ (keeps T p cl || eqb v 1)
+      → h ≡ moved (countsHits (clauseAt T p cl)) (branches (clauseAt T p cl)) i tally (eqb v 1)
       → Stepped T p cl d₀ c₀ l₀ (i + 1) c₂ l₁ n₁ h
-  unfolding doneBy marksBy hitsBy
-  stepped-went {v} {h} {q} {c₁} {c₂} {l₁} {n₁} d same z j read M u =
+  unfolding doneBy marksBy tallyBy
+  stepped-went {v} {h} {kept} {q} {c₁} {c₂} {l₁} {n₁} d same z j read M keep u =
       let w : goes T p cl κ₀ i ≡ true = sym d in
-      let κ = marksBy (truthOf T) p (goes T p cl κ₀) (aims T p cl) κ₀ i in
+      let κ = marksBy (truthOf T) p (keeps T p cl) (goes T p cl κ₀) (aims T p cl) κ₀ i in
       let G = going-apply (S .going) z j in
       let D = doneBy (settleOf T) (goes T p cl κ₀) (aims T p cl) d₀ i in
-      let H = going-mark G (λ k. κ k || (goes T p cl κ₀ i && gives (truthOf T) p (aims T p cl i) k)) M
-      (λ k ch.
-      handed-gives G (z .inside) (settle-self T (S .going .fit) q D) k ch ∙ ap (λ (x : Pair). κ k || gives (truthOf T) p x k) same ∙ sym (rw w)) in
-      let f : settleOf T q D ≡ cond (goes T p cl κ₀ i) (settleOf T (aims T p cl i) D) D = ap (λ (x : Pair). settleOf T x D) same ∙ sym (rw w) in
       let b : eqb v 1 ≡ (truthOf T (aims T p cl i)) .holds = settledAs-read ((truthOf T q) .holds) v (read ∙ j .settled) ∙ ap (λ (x : Pair). (truthOf T x) .holds) same in
-      let e : h ≡ plus misses (not ((truthOf T (aims T p cl i)) .holds)) = u ∙ ap (λ (x : Bool). plus misses (not x)) b in
+      let kb : kept ≡ (keeps T p cl || (truthOf T (aims T p cl i)) .holds) = keep ∙ ap (λ (x : Bool). keeps T p cl || x) b in
+      let H = going-mark G (λ k. κ k || (goes T p cl κ₀ i && ((keeps T p cl || (truthOf T (aims T p cl i)) .holds) && gives (truthOf T) p (aims T p cl i) k))) M
+      (λ k ch.
+      given-gives G (z .inside) (settle-self T (S .going .fit) q D) kept k ch ∙ ap (λ (x : Pair). κ k || (kept && gives (truthOf T) p x k)) same ∙ sym (rw (w, ← kb))) in
+      let f : settleOf T q D ≡ cond (goes T p cl κ₀ i) (settleOf T (aims T p cl i) D) D = ap (λ (x : Pair). settleOf T x D) same ∙ sym (rw w) in
       rw (add-one i)
       (record {
-        going = subst (λ (x : List Pair). Going T p (bitsOf (T .m) c₀) l₀ x (λ k. κ k || (goes T p cl κ₀ i && gives (truthOf T) p (aims T p cl i) k)) c₂ l₁ n₁) f H;
-        missed = rw (w, e) (one-more ((truthOf T (aims T p cl i)) .holds) _ misses i (S .missed));
+        going = subst (λ (x : List Pair). Going T p (bitsOf (T .m) c₀) l₀ x (λ k. κ k || (goes T p cl κ₀ i && ((keeps T p cl || (truthOf T (aims T p cl i)) .holds) && gives (truthOf T) p (aims T p cl i) k))) c₂ l₁ n₁) f H;
+        carried = u ∙ ap₂ (moved (countsHits (clauseAt T p cl)) (branches (clauseAt T p cl)) i) (S .carried) b ∙ sym (rw w);
       })
 
 no-go : (a : Bool) {b : Bool} → b ≡ false → (a && b) ≡ false
@@ -344,23 +352,23 @@ no-go true e = e
 no-go false e = refl
 
 -- steps that apply nothing
-pub stepped-skips : {T : Case} {p : Pair} {cl : ℕ} {d₀ : List Pair} {c₀ l₀ : List ℕ} {x : ℕ} {c l : List ℕ} {n misses : ℕ} (d : ℕ) → Stepped T p cl d₀ c₀ l₀ x c l n misses
-    → x + d ≤ many T p cl → Skipped (T .doc) p (beforeOf T p cl) (clauseAt T p cl) (column (T .m) c (p .rule)) x (x + d)
-    → Stepped T p cl d₀ c₀ l₀ (x + d) c l n misses
-stepped-skips {T} {p} {cl} {d₀} {c₀} {l₀} {x} {c} {l} {n} {misses} zero S h f = subst (λ (y : ℕ). Stepped T p cl d₀ c₀ l₀ y c l n misses) (omega arith) S
-stepped-skips {T} {p} {cl} {d₀} {c₀} {l₀} {x} {c} {l} {n} {misses} (suc d) S h f =
+pub stepped-skips : {T : Case} {p : Pair} {cl : ℕ} {d₀ : List Pair} {c₀ l₀ : List ℕ} {x : ℕ} {c l : List ℕ} {n tally : ℕ} (d : ℕ) → Stepped T p cl d₀ c₀ l₀ x c l n tally
+    → x + d ≤ many T p cl → Skipped (T .doc) p (beforeOf T p cl) (clauseAt T p cl) (column (T .m) c (p .rule)) tally x (x + d)
+    → Stepped T p cl d₀ c₀ l₀ (x + d) c l n tally
+stepped-skips {T} {p} {cl} {d₀} {c₀} {l₀} {x} {c} {l} {n} {tally} zero S h f = subst (λ (y : ℕ). Stepped T p cl d₀ c₀ l₀ y c l n tally) (omega arith) S
+stepped-skips {T} {p} {cl} {d₀} {c₀} {l₀} {x} {c} {l} {n} {tally} (suc d) S h f =
     let R = stepped-skips d S (omega arith) (record { idle = λ k a b. f .idle k a (omega arith) }) in
-    let g : false ≡ fresh T p cl (bitsOf (T .m) c₀ p) (x + d) = stepped-go R (omega arith) (sym (f .idle (x + d) (omega arith) (omega arith))) in
-    subst (λ (y : ℕ). Stepped T p cl d₀ c₀ l₀ y c l n misses) (omega arith) (stepped-skip R (sym (no-go (still T p cl (x + d)) (sym g))))
+    let g : false ≡ fresh T p cl (bitsOf (T .m) c₀ p) (x + d) tally = stepped-go R (omega arith) (sym (f .idle (x + d) (omega arith) (omega arith))) in
+    subst (λ (y : ℕ). Stepped T p cl d₀ c₀ l₀ y c l n tally) (omega arith) (stepped-skip R (stepped-goes R (sym (no-go (not (stopped T p cl tally)) (sym g)))))
 
--- steps that are not taken, since a failure has stopped the clause
-pub stepped-stops : {T : Case} {p : Pair} {cl : ℕ} {d₀ : List Pair} {c₀ l₀ : List ℕ} {x : ℕ} {c l : List ℕ} {n misses : ℕ} (d : ℕ) → Stepped T p cl d₀ c₀ l₀ x c l n misses
-    → still T p cl x ≡ false → Stepped T p cl d₀ c₀ l₀ (x + d) c l n misses
-stepped-stops {T} {p} {cl} {d₀} {c₀} {l₀} {x} {c} {l} {n} {misses} zero S e = subst (λ (y : ℕ). Stepped T p cl d₀ c₀ l₀ y c l n misses) (omega arith) S
-stepped-stops {T} {p} {cl} {d₀} {c₀} {l₀} {x} {c} {l} {n} {misses} (suc d) S e =
-    let g : still T p cl (x + d) ≡ false = still-later (truthOf T) (aims T p cl) (wayOf (T .way) (clauseAt T p cl)) x d e in
-    subst (λ (y : ℕ). Stepped T p cl d₀ c₀ l₀ y c l n misses) (omega arith)
-    (stepped-skip (stepped-stops d S e) (sym (ap (λ (b : Bool). b && fresh T p cl (bitsOf (T .m) c₀ p) (x + d)) g)))
+-- steps that are not taken, since what is carried has stopped the clause
+pub stepped-stops : {T : Case} {p : Pair} {cl : ℕ} {d₀ : List Pair} {c₀ l₀ : List ℕ} {x : ℕ} {c l : List ℕ} {n tally : ℕ} (d : ℕ) → Stepped T p cl d₀ c₀ l₀ x c l n tally
+    → stopped T p cl tally ≡ true → Stepped T p cl d₀ c₀ l₀ (x + d) c l n tally
+stepped-stops {T} {p} {cl} {d₀} {c₀} {l₀} {x} {c} {l} {n} {tally} zero S e = subst (λ (y : ℕ). Stepped T p cl d₀ c₀ l₀ y c l n tally) (omega arith) S
+stepped-stops {T} {p} {cl} {d₀} {c₀} {l₀} {x} {c} {l} {n} {tally} (suc d) S e =
+    let R = stepped-stops d S e in
+    subst (λ (y : ℕ). Stepped T p cl d₀ c₀ l₀ y c l n tally) (omega arith)
+    (stepped-skip R (stepped-goes R (sym (ap (λ (b : Bool). not b && fresh T p cl (bitsOf (T .m) c₀ p) (x + d) tally) e))))
 
 -- what handing on asks
 pub stepped-hands : {T : Case} {p q : Pair} {held : Pair → Marks} {l₀ : List ℕ} {done : List Pair} {κ : Marks} {c l : List ℕ} {n : ℕ}
@@ -372,7 +380,7 @@ stepped-hands {T} {p} {q} G z =
     }
 
 -- all steps were taken: what that comes to
-module _ {T : Case} {p : Pair} {cl : ℕ} {d₀ : List Pair} {c₀ l₀ : List ℕ} {c l : List ℕ} {n misses : ℕ} (S : Stepped T p cl d₀ c₀ l₀ (many T p cl) c l n misses) where
+module _ {T : Case} {p : Pair} {cl : ℕ} {d₀ : List Pair} {c₀ l₀ : List ℕ} {c l : List ℕ} {n tally : ℕ} (S : Stepped T p cl d₀ c₀ l₀ (many T p cl) c l n tally) where
   abbrev J₀ : Judgement
   J₀ = clause (T .doc) (T .way) p (beforeOf T p cl) (bitsOf (T .m) c₀ p) (clauseAt T p cl)
 
@@ -390,18 +398,15 @@ module _ {T : Case} {p : Pair} {cl : ℕ} {d₀ : List Pair} {c₀ l₀ : List �
       ∙ done-picked (settleOf T) (goes T p cl κ) (aims T p cl) d₀ (many T p cl)) in
       rw (← d) (H .areas)
 
-  ended-said : finishOf (T .doc) p (clauseAt T p cl) (many T p cl - misses) (many T p cl) ≡ (answer (truthOf T) J₀) .holds
+  ended-said : finishOf (T .doc) p (clauseAt T p cl) tally ≡ (answer (truthOf T) J₀) .holds
   ended-said =
       let G = S .going in
-      let κ = bitsOf (T .m) c₀ p in
-      let e = S .missed in
-      let h : many T p cl - misses ≡ hitsBy (truthOf T) (goes T p cl κ) (aims T p cl) (many T p cl) = omega arith in
-      ap (λ (x : ℕ). finishOf (T .doc) p (clauseAt T p cl) x (many T p cl)) h
-      ∙ sym (holds-is (T .doc) (T .rules) (T .n) (T .m) (G .fit) p (G .inside .row-in) (beforeOf T p cl) κ (truthOf T) (T .way) (clauseAt T p cl))
+      ap (finishOf (T .doc) p (clauseAt T p cl)) (S .carried)
+      ∙ sym (holds-is (T .doc) (T .rules) (T .n) (T .m) (G .fit) p (G .inside .row-in) (beforeOf T p cl) (bitsOf (T .m) c₀ p) (truthOf T) (T .way) (clauseAt T p cl))
 
-pub stepped-end : {T : Case} {t : ℕ} {p : Pair} {cl : ℕ} {c₀ l₀ : List ℕ} {n₀ : ℕ} {c l : List ℕ} {n misses : ℕ} {r : Done}
-    → Ready T t p c₀ l₀ n₀ → WhereDone T c₀ l₀ n₀ (λ d₀. Stepped T p cl d₀ c₀ l₀ (many T p cl) c l n misses)
-    → r .ok ≡ finishOf (T .doc) p (clauseAt T p cl) (many T p cl - misses) (many T p cl) → r .count ≡ n → ClauseJudged T p cl c₀ l₀ n₀ c l r
+pub stepped-end : {T : Case} {t : ℕ} {p : Pair} {cl : ℕ} {c₀ l₀ : List ℕ} {n₀ : ℕ} {c l : List ℕ} {n tally : ℕ} {r : Done}
+    → Ready T t p c₀ l₀ n₀ → WhereDone T c₀ l₀ n₀ (λ d₀. Stepped T p cl d₀ c₀ l₀ (many T p cl) c l n tally)
+    → r .ok ≡ finishOf (T .doc) p (clauseAt T p cl) tally → r .count ≡ n → ClauseJudged T p cl c₀ l₀ n₀ c l r
 stepped-end R S f q =
     let one = S (R .done) (R .areas) in
     record {

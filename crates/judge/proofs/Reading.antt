@@ -1,9 +1,9 @@
 -- What the proof of the cycle asks besides: the sheets that were read and the case that they are, cell numbers, and a clause and a step as they were read.
 -- Assumes nothing.
 use mathlib.Core.List.{List, [], List·Memᴰ as Has, List·Memᴰ·head as at-head, List·Memᴰ·tail as in-tail, _∷_}
-use mathlib.Core.Bool.{cond}
+use mathlib.Core.Bool.{Bool, true, false, cond}
 use mathlib.Core.Logic.{⊎-elim}
-use mathlib.Core.Path.{_≡_, refl, sym, _∙_}
+use mathlib.Core.Path.{_≡_, refl, sym, subst, _∙_}
 use Prim.Native.Nat.{ℕ, zero, suc, _+_, _-_, _*_, _≤_, _<_}
 use native.Mathlib.Omega.{arith}
 use denote.Ref.{RefT}
@@ -26,7 +26,9 @@ use Rattle.rulesheet.proofs.Trailers.{facts, form-m, form-c, form-e}
 use Rattle.rulesheet.proofs.Items.{clauses-long}
 use Rattle.meaning.specs.Rules.{Pair, Way, whole, cut}
 use Rattle.areas.specs.Cells.{cellOf, cellAt}
-use Rattle.judge.specs.State.{Case, caseOf, Sheets, lent, formsOf, wayWord, wayLent, recordFormIn, ruleFormIn, FormsFit, Lent, lentCase, Fits, InCase, firstKid, kidCount, clausesOf, clauseAt, Reads, ReadsClause}
+use Rattle.areas.specs.Writers.{Marked, handedOn}
+use Rattle.areas.proofs.Writers.{marked-same}
+use Rattle.judge.specs.State.{Case, caseOf, Sheets, lent, formsOf, wayWord, wayLent, recordFormIn, ruleFormIn, FormsFit, Lent, lentCase, Fits, InCase, firstKid, kidCount, clausesOf, clauseAt, Reads, ReadsClause, givenOn}
 use Rattle.sheet.specs.Doc.{Doc}
 use Rattle.meaning.specs.Fit.{rank}
 use Rattle.steps.proofs.Plans.{Aimed}
@@ -165,3 +167,14 @@ module _ {ws ts rs us : List ℕ} {form : RecordForm} {rform : RuleForm} (S : Sh
   size-fits fit e f =
       let few = pairs-few (rowsWord ws) (schemasWord rs) (fit .rows .few) (fit .few) in
       rw (size-is e f) (omega arith)
+
+-- ---- what is handed on is kept, or it is not
+
+module _ (m first many s row aimed from : ℕ) (keeps : Bool) (c : List ℕ) where
+  pub gives-all : {c′ : List ℕ} → keeps ≡ true → Marked m first many s (handedOn m c row s aimed from) c c′ → Marked m first many s (givenOn keeps m c row s aimed from) c c′
+  unfolding givenOn
+  gives-all {c′} e M = subst (λ (b : Bool). Marked m first many s (givenOn b m c row s aimed from) c c′) (sym e) M
+
+  pub gives-none : keeps ≡ false → Marked m first many s (givenOn keeps m c row s aimed from) c c
+  unfolding givenOn
+  gives-none e = subst (λ (b : Bool). Marked m first many s (givenOn b m c row s aimed from) c c) (sym e) (marked-same c (λ k a b. refl))

@@ -7,28 +7,28 @@
 --     turning-hands             what handing on asks
 --     cell-asks                 what reading a pair's cell asks
 -- Assumes nothing.
-use mathlib.Core.Bool.{Bool, true, false, not, _&&_, cond}
+use mathlib.Core.Bool.{Bool, true, false, not, _&&_, _||_, cond}
 use mathlib.Core.List.{List, List·Memᴰ as Has}
 use mathlib.Core.Logic.{⊎-elim}
-use mathlib.Core.Path.{_≡_, refl, sym, ap, _∙_, subst}
+use mathlib.Core.Path.{_≡_, refl, sym, ap, ap₂, _∙_, subst}
 use Prim.Native.Nat.{ℕ, _+_, _-_, _*_, _<_, _≤_}
 use native.Mathlib.Omega.{arith}
 use lib.Dec.{eqb}
 use lib.ListN.{length, getD}
 use Rattle.rulesheet.specs.Ruleset.{Test, asserts}
 use Rattle.meaning.specs.Rules.{Pair, Marks, Way, whole, cut, stops, passes}
-use Rattle.areas.specs.Cells.{pairIs, cellAt, verd, Unsettled, column, plus}
-use Rattle.areas.specs.Writers.{Marked, handedOn, HandsOn}
+use Rattle.areas.specs.Cells.{pairIs, cellAt, verd, Unsettled, column}
+use Rattle.areas.specs.Writers.{Marked, HandsOn}
 use Rattle.clause.specs.Read.{Tries}
 use Rattle.clause.specs.declared.test.Tried.the-variants.{Passed}
 use Rattle.steps.specs.declared.turn.Turn.{Turn}
-use Rattle.steps.specs.Plan.{stepsOf, finishOf, wayOf, stopsBy}
+use Rattle.steps.specs.Plan.{countsHits, branches, moved, stepsOf, finishOf, wayOf, stopsBy}
 use Rattle.steps.specs.Read.{Started}
 use Rattle.steps.specs.Turns.{Skipped, Turned}
 use Rattle.judge.specs.declared.cycle.Done.{Done}
-use Rattle.judge.specs.State.{Case, Fits, InCase, firstKid, kidCount, rankOf, clausesOf, clauseAt, beforeOf, bitsOf, Areas, Ready, WhereDone, Judged, ClauseJudged, manySteps, Turns, TurnsTo, nextAt}
+use Rattle.judge.specs.State.{Case, Fits, InCase, firstKid, kidCount, rankOf, clausesOf, clauseAt, beforeOf, bitsOf, Areas, Ready, WhereDone, Judged, ClauseJudged, Turns, TurnsTo, nextAt, givenOn}
 use Rattle.judge.proofs.State.{areas-cell}
-use Rattle.judge.proofs.Going.{Aim, pairs-few, many, aims, fresh, still, Stepped, ready-as, stepped-none, stepped-few, stepped-go, stepped-aim, stepped-skips, stepped-stops, stepped-still, stepped-went, stepped-hands, stepped-end, going-unsettled, going-ready, going-aimed, going-apply}
+use Rattle.judge.proofs.Going.{Aim, pairs-few, many, aims, stopped, fresh, goes, Stepped, ready-as, stepped-none, stepped-few, stepped-go, stepped-goes, stepped-aim, stepped-skips, stepped-stops, stepped-went, stepped-hands, stepped-end, going-unsettled, going-ready, going-aimed, going-apply}
 use Rattle.laws.proofs.Tests.{decide}
 use Rattle.steps.proofs.Plans.{after-miss}
 use Rattle.judge.proofs.Pairs.{resAt}
@@ -40,7 +40,7 @@ no-steps : (T : Case) (p : Pair) (i : ℕ) (t : Test) → clauseAt T p i ≡ ass
 unfolding stepsOf
 no-steps T p i t e = rw e
 
-passes-finish : (T : Case) (p : Pair) (i : ℕ) (t : Test) (n : ℕ) → clauseAt T p i ≡ asserts t → passes (T .doc) (p .row) t ≡ finishOf (T .doc) p (clauseAt T p i) (n - 0) n
+passes-finish : (T : Case) (p : Pair) (i : ℕ) (t : Test) (n : ℕ) → clauseAt T p i ≡ asserts t → passes (T .doc) (p .row) t ≡ finishOf (T .doc) p (clauseAt T p i) n
 unfolding finishOf
 passes-finish T p i t n e = rw e
 
@@ -53,45 +53,41 @@ claused-test {T} {p} {i = i} {c} {l} {n} {so = so} C on t e =
     let S : WhereDone T c l n (λ d. Stepped T p i d c l (many T p i) c l n 0) =
     λ d A. subst (λ (k : ℕ). Stepped T p i d c l k c l n 0) (no-steps T p i (t .0) (t .1)) (stepped-none (ready-as R d A) (going-unsettled G)) in
     let r : Done = record { ok = so; count = n } in
-    claused-more {r = r} C on (stepped-end {r = r} R S (t .2 ∙ passes-finish T p i (t .0) (many T p i) (t .1)) refl) e
+    claused-more {r = r} C on (stepped-end {r = r} R S (t .2 ∙ passes-finish T p i (t .0) 0 (t .1)) refl) e
 
 -- ---- the clause stands where `at` says
 
-pub record Turning (T : Case) (p : Pair) (cl : ℕ) (d₀ : List Pair) (c₀ l₀ : List ℕ) (cells list : List ℕ) (count misses : ℕ) (at : Turn) : Type 0 where
-  pub goes-on : at .go ≡ true → Stepped T p cl d₀ c₀ l₀ (at .step) cells list count misses
-      × ((at .step < many T p cl) × (at .step < 4294967295) × (true ≡ fresh T p cl (bitsOf (T .m) c₀ p) (at .step)) × (pairIs (at .pair) ≡ aims T p cl (at .step)))
-  pub on : at .go ≡ true → still T p cl (at .step) ≡ true
-  pub ends : at .go ≡ false → Stepped T p cl d₀ c₀ l₀ (many T p cl) cells list count misses
+pub record Turning (T : Case) (p : Pair) (cl : ℕ) (d₀ : List Pair) (c₀ l₀ : List ℕ) (cells list : List ℕ) (count tally : ℕ) (at : Turn) : Type 0 where
+  pub goes-on : at .go ≡ true → Stepped T p cl d₀ c₀ l₀ (at .step) cells list count tally
+      × ((at .step < many T p cl) × (at .step < 4294967295) × (true ≡ goes T p cl (bitsOf (T .m) c₀ p) (at .step)) × (pairIs (at .pair) ≡ aims T p cl (at .step)) × (at .hits ≡ countsHits (clauseAt T p cl)) × (at .branch ≡ branches (clauseAt T p cl)))
+  pub ends : at .go ≡ false → Stepped T p cl d₀ c₀ l₀ (many T p cl) cells list count tally
 
--- x of its steps are taken; none is left if a failure has stopped it
-pub record Standing (T : Case) (p : Pair) (cl : ℕ) (d₀ : List Pair) (c₀ l₀ : List ℕ) (x : ℕ) (cells list : List ℕ) (count misses : ℕ) : Type 0 where
-  pub steps : Stepped T p cl d₀ c₀ l₀ x cells list count misses
+-- x of its steps are taken; none is left if what is carried has stopped it
+pub record Standing (T : Case) (p : Pair) (cl : ℕ) (d₀ : List Pair) (c₀ l₀ : List ℕ) (x : ℕ) (cells list : List ℕ) (count tally : ℕ) : Type 0 where
+  pub steps : Stepped T p cl d₀ c₀ l₀ x cells list count tally
   pub low : x ≤ many T p cl
-  pub unstopped : x < many T p cl → stopsBy (wayOf (T .way) (clauseAt T p cl)) misses ≡ false
+  pub unstopped : x < many T p cl → stopped T p cl tally ≡ false
 
-pub turning : {T : Case} {p : Pair} {cl : ℕ} {d₀ : List Pair} {c₀ l₀ : List ℕ} {x : ℕ} {c l : List ℕ} {n misses : ℕ} {at : Turn} → Standing T p cl d₀ c₀ l₀ x c l n misses
-    → Turned (T .doc) p (beforeOf T p cl) (clauseAt T p cl) x (column (T .m) c (p .rule)) at → Turning T p cl d₀ c₀ l₀ c l n misses at
-turning {T} {p} {cl} {d₀} {c₀} {l₀} {x} {c} {l} {n} {misses} {at} Z t =
+pub turning : {T : Case} {p : Pair} {cl : ℕ} {d₀ : List Pair} {c₀ l₀ : List ℕ} {x : ℕ} {c l : List ℕ} {n tally : ℕ} {at : Turn} → Standing T p cl d₀ c₀ l₀ x c l n tally
+    → Turned (T .doc) p (beforeOf T p cl) (clauseAt T p cl) x (column (T .m) c (p .rule)) tally at → Turning T p cl d₀ c₀ l₀ c l n tally at
+turning {T} {p} {cl} {d₀} {c₀} {l₀} {x} {c} {l} {n} {tally} {at} Z t =
     let low = Z .low in
     record {
       goes-on =
           λ e.
           let G = t .goes e in
           let R = reach (at .step) (G .ahead) (let w = G .within in omega arith) (G .skipped) in
-          (R, (G .within, G .small, stepped-go R (G .within) (sym (G .applied)), G .aim-is));
-      on =
-          λ e.
-          let G = t .goes e in
-          let R = reach (at .step) (G .ahead) (let w = G .within in omega arith) (G .skipped) in
-          stepped-still R ∙ ap not (Z .unstopped (let w = G .within in let a = G .ahead in omega arith));
+          let on : stopped T p cl tally ≡ false = Z .unstopped (let w = G .within in let a = G .ahead in omega arith) in
+          let g = stepped-go R (G .within) (sym (G .applied)) in
+          (R, (G .within, G .small, stepped-goes R (g ∙ sym (ap (λ (b : Bool). not b && fresh T p cl (bitsOf (T .m) c₀ p) (at .step) tally) on)), G .aim-is, G .hits-is, G .branch-is));
       ends = λ e. reach (many T p cl) low (omega arith) (t .ends e);
     }
   where
-    reach : (y : ℕ) → x ≤ y → y ≤ many T p cl → Skipped (T .doc) p (beforeOf T p cl) (clauseAt T p cl) (column (T .m) c (p .rule)) x y
-        → Stepped T p cl d₀ c₀ l₀ y c l n misses
+    reach : (y : ℕ) → x ≤ y → y ≤ many T p cl → Skipped (T .doc) p (beforeOf T p cl) (clauseAt T p cl) (column (T .m) c (p .rule)) tally x y
+        → Stepped T p cl d₀ c₀ l₀ y c l n tally
     reach y a b f =
         let e : x + (y - x) ≡ y = omega arith in
-        subst (λ (z : ℕ). Stepped T p cl d₀ c₀ l₀ z c l n misses) e (stepped-skips (y - x) (Z .steps) (omega arith) (record { idle = λ k u v. f .idle k u (omega arith) }))
+        subst (λ (z : ℕ). Stepped T p cl d₀ c₀ l₀ z c l n tally) e (stepped-skips (y - x) (Z .steps) (omega arith) (record { idle = λ k u v. f .idle k u (omega arith) }))
 
 first-open : (v : Way) → stopsBy v 0 ≡ false
 unfolding stopsBy
@@ -101,12 +97,12 @@ first-open cut = refl
 pub standing-first : {T : Case} {p : Pair} {cl : ℕ} {c l : List ℕ} {n : ℕ} → Ready T (rankOf T p) p c l n → Unsettled (T .m) p c → WhereDone T c l n (λ d. Standing T p cl d c l 0 c l n 0)
 standing-first {T} {p} {cl} R u = λ d A. record { steps = stepped-none (ready-as R d A) u; low = omega arith; unstopped = λ h. first-open (wayOf (T .way) (clauseAt T p cl)) }
 
-module _ {T : Case} {p : Pair} {cl : ℕ} {d₀ : List Pair} {c₀ l₀ : List ℕ} {x : ℕ} {c l : List ℕ} {n misses : ℕ} (Z : Standing T p cl d₀ c₀ l₀ x c l n misses) where
+module _ {T : Case} {p : Pair} {cl : ℕ} {d₀ : List Pair} {c₀ l₀ : List ℕ} {x : ℕ} {c l : List ℕ} {n tally : ℕ} (Z : Standing T p cl d₀ c₀ l₀ x c l n tally) where
   -- what working out where the clause stands asks
   pub standing-asks : {from : ℕ} → Started (beforeOf T p cl) (clauseAt T p cl) from → Turns T p cl from c
   standing-asks started = let e = Z .steps .going .areas .long in record { started = started; room = omega arith; unsettled = going-unsettled (Z .steps .going) }
 
-  pub standing-turn : {at : Turn} → TurnsTo T p cl x c at → Turning T p cl d₀ c₀ l₀ c l n misses at
+  pub standing-turn : {at : Turn} → TurnsTo T p cl x tally c at → Turning T p cl d₀ c₀ l₀ c l n tally at
   standing-turn t = turning Z t
 
 -- what reading a pair's cell asks
@@ -117,8 +113,8 @@ cell-asks {T} {q} fit I A =
 
 -- ---- a pair that it applies
 
-module _ {T : Case} {p : Pair} {cl : ℕ} {d₀ : List Pair} {c₀ l₀ : List ℕ} {c l : List ℕ} {n misses : ℕ} {at : Turn} (W : Turning T p cl d₀ c₀ l₀ c l n misses at) (go : at .go ≡ true) where
-  pub turning-low : (at .step < 4294967295) × (misses ≤ at .step)
+module _ {T : Case} {p : Pair} {cl : ℕ} {d₀ : List Pair} {c₀ l₀ : List ℕ} {c l : List ℕ} {n tally : ℕ} {at : Turn} (W : Turning T p cl d₀ c₀ l₀ c l n tally at) (go : at .go ≡ true) where
+  pub turning-low : (at .step < 4294967295) × (tally ≤ at .step)
   turning-low = let G = W .goes-on go in (G .1 .1, stepped-few (G .0))
 
   pub turning-within : at .step < many T p cl
@@ -151,12 +147,12 @@ module _ {T : Case} {p : Pair} {cl : ℕ} {d₀ : List Pair} {c₀ l₀ : List �
       turning-hands = stepped-hands (going-apply (W .goes-on go .0 .going) turning-aim J) turning-aim
 
       -- its marks were handed on
-      module _ {v h : ℕ} {c₂ : List ℕ} (read : v ≡ verd (getD c₁ (cellAt (T .m) (pairIs (at .pair))) 0)) (e : h ≡ plus misses (not (eqb v 1)))
-          (M : Marked (T .m) (firstKid T p) (kidCount T p) (p .rule) (handedOn (T .m) c₁ (p .row) (p .rule) (pairIs (at .pair) .row) (pairIs (at .pair) .rule)) c₁ c₂) where
+      module _ {v h : ℕ} {c₂ : List ℕ} (read : v ≡ verd (getD c₁ (cellAt (T .m) (pairIs (at .pair))) 0)) (e : h ≡ moved (at .hits) (at .branch) (at .step) tally (eqb v 1))
+          (M : Marked (T .m) (firstKid T p) (kidCount T p) (p .rule) (givenOn (not (at .hits) || eqb v 1) (T .m) c₁ (p .row) (p .rule) (pairIs (at .pair) .row) (pairIs (at .pair) .rule)) c₁ c₂) where
         stepped : Stepped T p cl d₀ c₀ l₀ (at .step + 1) c₂ l₁ n₁ h
         stepped =
             let G = W .goes-on go in
-            stepped-went (G .0) (G .1 .2 ∙ sym (ap (λ (b : Bool). b && fresh T p cl (bitsOf (T .m) c₀ p) (at .step)) (W .on go))) (G .1 .3) turning-aim J read M e
+            stepped-went (G .0) (G .1 .2) (G .1 .3) turning-aim J read M (ap (λ (x : Bool). not x || eqb v 1) (G .1 .4)) (e ∙ ap₂ (λ (x y : Bool). moved x y (at .step) tally (eqb v 1)) (G .1 .4) (G .1 .5))
 
         -- and the clause goes on with the next step, or stops
         pub turning-more : {x : ℕ} → x ≡ nextAt T p cl (at .step) h → Standing T p cl d₀ c₀ l₀ x c₂ l₁ n₁ h
@@ -171,7 +167,7 @@ module _ {T : Case} {p : Pair} {cl : ℕ} {d₀ : List Pair} {c₀ l₀ : List �
             let z : x ≡ many T p cl = next ∙ ap (λ b. cond b (many T p cl) (at .step + 1)) s in
             let y : (at .step + 1) + (many T p cl - (at .step + 1)) ≡ x = omega arith in
             record {
-              steps = subst (λ (k : ℕ). Stepped T p cl d₀ c₀ l₀ k c₂ l₁ n₁ h) y (stepped-stops (many T p cl - (at .step + 1)) stepped (stepped-still stepped ∙ ap not s));
+              steps = subst (λ (k : ℕ). Stepped T p cl d₀ c₀ l₀ k c₂ l₁ n₁ h) y (stepped-stops (many T p cl - (at .step + 1)) stepped s);
               low = omega arith;
               unstopped = λ k. absurd (omega arith);
             })
@@ -182,11 +178,7 @@ module _ {T : Case} {p : Pair} {cl : ℕ} {d₀ : List Pair} {c₀ l₀ : List �
 
 -- ---- it ends
 
-pub turning-few : {T : Case} {p : Pair} {cl : ℕ} {d₀ : List Pair} {c₀ l₀ : List ℕ} {c l : List ℕ} {n misses : ℕ} {at : Turn} → Turning T p cl d₀ c₀ l₀ c l n misses at
-    → at .go ≡ false → misses ≤ manySteps T p cl
-turning-few W e = stepped-few (W .ends e)
-
-pub turning-end : {T : Case} {t : ℕ} {p : Pair} {cl : ℕ} {c₀ l₀ : List ℕ} {n₀ : ℕ} {c l : List ℕ} {n misses : ℕ} {at : Turn} {r : Done}
-    → Ready T t p c₀ l₀ n₀ → WhereDone T c₀ l₀ n₀ (λ d. Turning T p cl d c₀ l₀ c l n misses at)
-    → at .go ≡ false → r .ok ≡ finishOf (T .doc) p (clauseAt T p cl) (manySteps T p cl - misses) (manySteps T p cl) → r .count ≡ n → ClauseJudged T p cl c₀ l₀ n₀ c l r
+pub turning-end : {T : Case} {t : ℕ} {p : Pair} {cl : ℕ} {c₀ l₀ : List ℕ} {n₀ : ℕ} {c l : List ℕ} {n tally : ℕ} {at : Turn} {r : Done}
+    → Ready T t p c₀ l₀ n₀ → WhereDone T c₀ l₀ n₀ (λ d. Turning T p cl d c₀ l₀ c l n tally at)
+    → at .go ≡ false → r .ok ≡ finishOf (T .doc) p (clauseAt T p cl) tally → r .count ≡ n → ClauseJudged T p cl c₀ l₀ n₀ c l r
 turning-end R W e f q = stepped-end R (λ d A. W d A .ends e) f q

@@ -10,7 +10,7 @@ use mathlib.Core.Logic.{⊎-elim}
 use mathlib.Core.Path.{_≡_, refl, sym, ap, _∙_, subst}
 use Rattle.laws.proofs.Tests.{decide}
 use Rattle.sheet.specs.Doc.{Doc}
-use Rattle.rulesheet.specs.Ruleset.{Mode, allOf, anyOf, oneOf, notOf, ref, Clause, asserts, inPlace, takes, Ruleset}
+use Rattle.rulesheet.specs.Ruleset.{Mode, allOf, anyOf, oneOf, notOf, ref, Clause, asserts, inPlace, ifThenElse, dependentSchemas, contains, takes, Ruleset}
 use Rattle.meaning.specs.Lists.{all}
 use Rattle.meaning.specs.Rules.{Pair, Marks, nothing, _∪_, Result, unions, verdicts, Judgement, found, answer, applied, andThen, Way, whole, cut, stops, each, wayIn}
 use Rattle.meaning.specs.Rules.{joined, here, clause, clauses, judgement, truth, applies}
@@ -84,6 +84,9 @@ module _ (sub : Pair → Result) where
       clause-holds (inPlace oneOf ss) = refl
       clause-holds (inPlace notOf ss) = refl
       clause-holds (inPlace ref ss) = refl
+      clause-holds (ifThenElse i t e) = refl
+      clause-holds (dependentSchemas es) = refl
+      clause-holds (contains s least most) = refl
       clause-holds (takes c) = refl
 
       -- one that holds was not cut
@@ -97,6 +100,9 @@ module _ (sub : Pair → Result) where
       clause-held (inPlace oneOf ss) e = refl
       clause-held (inPlace notOf ss) e = refl
       clause-held (inPlace ref ss) e = refl
+      clause-held (ifThenElse i t e) h = refl
+      clause-held (dependentSchemas es) e = refl
+      clause-held (contains s least most) e = refl
       clause-held (takes c) e = refl
 
       clause-among : (c : Clause) (q : Pair) → In q (applied-in cut c) → In q (applied-in whole c)
@@ -109,6 +115,9 @@ module _ (sub : Pair → Result) where
       clause-among (inPlace oneOf ss) q i = i
       clause-among (inPlace notOf ss) q i = i
       clause-among (inPlace ref ss) q i = i
+      clause-among (ifThenElse a b c) q i = i
+      clause-among (dependentSchemas es) q i = i
+      clause-among (contains s least most) q i = i
       clause-among (takes c) q i = i
 
     -- ---- the clauses

@@ -120,11 +120,11 @@ module _ (D : Doc) (R : Ruleset) where
     chosen : (sub (to p (p .row) i)) .holds ≡ b
     chosen = ap (λ (r : Result). r .holds) x ∙ y
 
-    pub if-applied : applied sub (clause D p cs μ (ifThenElse i t e)) ≡ to p (p .row) i ∷ to p (p .row) (cond b t e) ∷ []
+    pub if-applied : applied sub (clause D whole p cs μ (ifThenElse i t e)) ≡ to p (p .row) i ∷ to p (p .row) (cond b t e) ∷ []
     unfolding clause applied
     if-applied = ap (λ (z : Bool). to p (p .row) i ∷ to p (p .row) (cond z t e) ∷ []) chosen
 
-    pub if-step : (q′ : Result) → sub (to p (p .row) (cond b t e)) ≡ q′ → answer sub (clause D p cs μ (ifThenElse i t e)) ≡ both q q′
+    pub if-step : (q′ : Result) → sub (to p (p .row) (cond b t e)) ≡ q′ → answer sub (clause D whole p cs μ (ifThenElse i t e)) ≡ both q q′
     unfolding clause answer
     if-step q′ z = ap (λ (w : Bool). both (sub (to p (p .row) i)) (sub (to p (p .row) (cond w t e)))) chosen ∙ ap₂ both x z
 

@@ -24,14 +24,7 @@ fn schema_in(named: bool, entry: EntryRow) -> u32
 }
 
 // Whether the schemas of these entries, which have names or not, stand after s.
-fn all_later(
-    words: &[u32],
-    form: RuleForm,
-    s: RuleRow,
-    named: bool,
-    first: u32,
-    end: u32,
-) -> bool
+fn all_later(words: &[u32], form: RuleForm, s: RuleRow, named: bool, first: u32, end: u32) -> bool
     requires { ⌜ RulesFormed (now words) form × (end ≤ form .e) ⌝ }
     ensures { λ r. ⌜ (r ≡ true → AllLater (now (words .entry)) named (s .0) first end) ⌝ }
 {

@@ -1,6 +1,7 @@
 // What belongs to a code: its fields. Nothing else in the code knows a code's number but the reader
 // of clauses; `specs/Codes.antt` has 01's table.
 ghost use mathlib.Core.Path.{_≡_};
+ghost use Rattle.rulesheet.specs.declared.code.Fields.the-variants.{Unknown};
 ghost use Rattle.rulesheet.specs.Codes.{guardedShape, inPlaceShape, exactShape, shapeOf};
 ghost use Rattle.rulesheet.specs.Faults.{isList, isNamed};
 
@@ -34,6 +35,24 @@ impl Shape {
     // More than a sheet has entries.
     const NO_MOST: u32 = 4_294_967_295;
 
+    // The shape of one of the codes that few sheets have. They stand apart since the compiler makes a
+    // table of the others.
+    fn seldom(code: u32) -> Shape
+        requires { ⌜ ((code ≡ 36 → ⊥) → (code ≡ 37 → ⊥) → (code ≡ 45 → ⊥) → shapeOf code ≡ guardedShape Unknown 0) ⌝ }
+        ensures { λ r. ⌜ r ≡ shapeOf code ⌝ }
+    {
+        if code == 36 {
+            return Shape::exactly(Fields::Branches, 3, true);
+        }
+        if code == 37 {
+            return Shape::in_place(Fields::Members, 0);
+        }
+        if code == 45 {
+            return Shape::exactly(Fields::Counted, 1, false);
+        }
+        Shape::guarded(Fields::Unknown, 0)
+    }
+
     // The shape of a code, `Fields::Unknown` where there is no such code.
     pub fn of(code: u32) -> Shape
         ensures { λ r. ⌜ r ≡ shapeOf code ⌝ }
@@ -48,13 +67,10 @@ impl Shape {
             26 => Shape::guarded(Fields::Names, 0),
             30 | 31 | 32 => Shape::in_place(Fields::Schemas, 1),
             33 | 34 => Shape::in_place(Fields::Schema, 0),
-            36 => Shape::exactly(Fields::Branches, 3, true),
-            37 => Shape::in_place(Fields::Members, 0),
             40 => Shape::guarded(Fields::Members, 0),
             42 | 44 | 60 | 61 => Shape::guarded(Fields::Schema, 0),
             43 => Shape::guarded(Fields::Schemas, 1),
-            45 => Shape::exactly(Fields::Counted, 1, false),
-            _ => Shape::guarded(Fields::Unknown, 0),
+            _ => Shape::seldom(code),
         }
     }
 

@@ -3,7 +3,9 @@
 --     all-picked, kept-picked            a list of all, and of some, of a run of rows
 --     done-picked                        settling them in turn
 --     count-hits, any-hits, all-hits     what their verdicts say, by the number of hits
---     unions-marks, these-marks, marks-later     their marks
+--     unions-marks, these-marks, held-marks, marks-later     their marks
+--     tally-told, tally-misses, tally-hits, tally-few        what is carried: by the steps that went, steps that fail, steps that hold, never more than there were
+--     three-picked, some-picked, holding-picked  a condition with its branch; those of a list that pass a test; those that hold
 -- Assumes nothing.
 use mathlib.Core.Bool.{Bool, true, false, not, _&&_, _||_, cond, or-assoc}
 use mathlib.Core.List.{List, [], _∷_, _++_, map, append-nil, append-assoc}
@@ -15,11 +17,12 @@ use lib.Dec.{eqb, ltb}
 use lib.ListN.{length, getD}
 use borrow.Author.Tests.{eqb-true, eqb-false, eq-eqb, ne-eqb, lt-ltb}
 use Rattle.laws.proofs.Tests.{decide}
-use Rattle.meaning.specs.Lists.{all, any, count, range, elem, keep}
-use Rattle.meaning.specs.Rules.{Pair, Marks, nothing, _∪_, these, Result, unions, verdicts}
+use Rattle.meaning.specs.Lists.{all, any, count, range, elem, keep, concatMap}
+use Rattle.meaning.specs.Rules.{Pair, Marks, nothing, _∪_, these, Result, unions, verdicts, holding}
 use Rattle.meaning.specs.Settling.{inTurn}
 use Rattle.areas.specs.Cells.{plus}
-use Rattle.steps.specs.Folds.{picked, hitsBy, gives, marksBy, doneBy}
+use Rattle.steps.specs.Plan.{moved}
+use Rattle.steps.specs.Folds.{picked, tallyBy, hitsBy, gives, marksBy, doneBy}
 
 -- ---- lists by their end
 
@@ -168,7 +171,7 @@ module _ (sub : Pair → Result) (aim : ℕ → Pair) where
       up true h = omega arith
       up false h = omega arith
 
-  pub all-step : (go h : Bool) (x n : ℕ) → x ≤ n → (eqb x n && all (cond go (h ∷ []) [])) ≡ eqb (plus x (not go || h)) (suc n)
+  all-step : (go h : Bool) (x n : ℕ) → x ≤ n → (eqb x n && all (cond go (h ∷ []) [])) ≡ eqb (plus x (not go || h)) (suc n)
   unfolding plus all
   all-step true true x n l =
       ⊎-elim (λ (e : x ≡ n). rw (eq-eqb x n e) (sym (eq-eqb (x + 1) (suc n) (omega arith))))
@@ -194,30 +197,29 @@ module _ (sub : Pair → Result) (aim : ℕ → Pair) where
   -- ---- marks
 
   pub unions-marks : (p : Pair) (go : ℕ → Bool) (κ : Marks) (k n : ℕ) → ((i : ℕ) → i < n → (aim i) .row ≡ p .row)
-      → (κ k || unions (map sub (picked go aim n)) k) ≡ marksBy sub p go aim κ n k
+      → (κ k || unions (map sub (picked go aim n)) k) ≡ marksBy sub p true go aim κ n k
   unfolding marksBy gives unions nothing _∪_ picked
   unions-marks p go κ k zero f = or-no (κ k)
   unions-marks p go κ k (suc n) f =
       ap (λ l. κ k || unions l k) (map-append sub (picked go aim n) (cond (go n) (aim n ∷ []) []))
       ∙ ap (λ b. κ k || b) (unions-append (map sub (picked go aim n)) (map sub (cond (go n) (aim n ∷ []) [])) k)
       ∙ sym (or-assoc (κ k) (unions (map sub (picked go aim n)) k) _)
-      ∙ rw (unions-marks p go κ k n (λ i h. f i (omega arith))) (ap (λ b. marksBy sub p go aim κ n k || b) (last (go n) (f n (omega arith))))
+      ∙ rw (unions-marks p go κ k n (λ i h. f i (omega arith))) (ap (λ b. marksBy sub p true go aim κ n k || b) (last (go n)))
     where
-      last : (b : Bool) → (aim n) .row ≡ p .row
-          → unions (map sub (cond b (aim n ∷ []) [])) k ≡ (b && cond (eqb ((aim n) .row) (p .row)) ((sub (aim n)) .marks k) (eqb k ((aim n) .row)))
-      last true h = rw (eq-eqb ((aim n) .row) (p .row) h) (or-no ((sub (aim n)) .marks k))
-      last false h = refl
+      last : (b : Bool) → unions (map sub (cond b (aim n ∷ []) [])) k ≡ (b && cond (eqb ((aim n) .row) (p .row)) ((sub (aim n)) .marks k) (eqb k ((aim n) .row)))
+      last true = rw (eq-eqb ((aim n) .row) (p .row) (f n (omega arith))) (or-no ((sub (aim n)) .marks k))
+      last false = refl
 
   -- where every pair that is applied is of another row
   pub these-marks : (p : Pair) (go : ℕ → Bool) (κ : Marks) (k n : ℕ) → ((i : ℕ) → i < n → go i ≡ true → (aim i) .row ≡ p .row → ⊥)
-      → (κ k || these (map (λ (q : Pair). q .row) (picked go aim n)) k) ≡ marksBy sub p go aim κ n k
+      → (κ k || these (map (λ (q : Pair). q .row) (picked go aim n)) k) ≡ marksBy sub p true go aim κ n k
   unfolding marksBy gives these elem picked
   these-marks p go κ k zero f = or-no (κ k)
   these-marks p go κ k (suc n) f =
       ap (λ l. κ k || elem k l) (map-append (λ (q : Pair). q .row) (picked go aim n) (cond (go n) (aim n ∷ []) []))
       ∙ ap (λ b. κ k || b) (elem-append k (map (λ (q : Pair). q .row) (picked go aim n)) (map (λ (q : Pair). q .row) (cond (go n) (aim n ∷ []) [])))
       ∙ sym (or-assoc (κ k) (elem k (map (λ (q : Pair). q .row) (picked go aim n))) _)
-      ∙ rw (these-marks p go κ k n (λ i h. f i (omega arith))) (ap (λ b. marksBy sub p go aim κ n k || b) (last (go n) (f n (omega arith))))
+      ∙ rw (these-marks p go κ k n (λ i h. f i (omega arith))) (ap (λ b. marksBy sub p true go aim κ n k || b) (last (go n) (f n (omega arith))))
     where
       last : (b : Bool) → (b ≡ true → (aim n) .row ≡ p .row → ⊥)
           → elem k (map (λ (q : Pair). q .row) (cond b (aim n ∷ []) [])) ≡ (b && cond (eqb ((aim n) .row) (p .row)) ((sub (aim n)) .marks k) (eqb k ((aim n) .row)))
@@ -225,18 +227,102 @@ module _ (sub : Pair → Result) (aim : ℕ → Pair) where
       last false h = refl
 
   -- a row that no step before n aims at is not marked by them
-  pub marks-later : (p : Pair) (go : ℕ → Bool) (κ : Marks) (k n : ℕ) → ((i : ℕ) → i < n → ((aim i) .row ≡ p .row → ⊥) × (k ≡ (aim i) .row → ⊥))
-      → marksBy sub p go aim κ n k ≡ κ k
+  pub marks-later : (p : Pair) (keeps : Bool) (go : ℕ → Bool) (κ : Marks) (k n : ℕ) → ((i : ℕ) → i < n → ((aim i) .row ≡ p .row → ⊥) × (k ≡ (aim i) .row → ⊥))
+      → marksBy sub p keeps go aim κ n k ≡ κ k
   unfolding marksBy gives
-  marks-later p go κ k zero f = refl
-  marks-later p go κ k (suc n) f =
+  marks-later p keeps go κ k zero f = refl
+  marks-later p keeps go κ k (suc n) f =
       let z = f n (omega arith) in
-      rw (marks-later p go κ k n (λ i h. f i (omega arith)), ne-eqb ((aim n) .row) (p .row) (z .0), ne-eqb k ((aim n) .row) (z .1)) (no (κ k) (go n))
+      rw (marks-later p keeps go κ k n (λ i h. f i (omega arith)), ne-eqb ((aim n) .row) (p .row) (z .0), ne-eqb k ((aim n) .row) (z .1)) (no (κ k) (go n) (keeps || (sub (aim n)) .holds))
     where
-      no : (a b : Bool) → (a || (b && false)) ≡ a
-      no true b = refl
-      no false true = refl
-      no false false = refl
+      no : (a b c : Bool) → (a || (b && (c && false))) ≡ a
+      no true b c = refl
+      no false true true = refl
+      no false true false = refl
+      no false false c = refl
+
+  -- where those that fail give nothing, those that hold are all that are applied
+  pub held-marks : (p : Pair) (κ : Marks) (k n : ℕ) → marksBy sub p true (λ i. (sub (aim i)) .holds) aim κ n k ≡ marksBy sub p false (λ i. true) aim κ n k
+  unfolding marksBy
+  held-marks p κ k zero = refl
+  held-marks p κ k (suc n) = ap (λ b. b || ((sub (aim n)) .holds && gives sub p (aim n) k)) (held-marks p κ k n)
+
+  holding-append : (xs ys : List Pair) → holding (xs ++ ys) (map sub (xs ++ ys)) ≡ holding xs (map sub xs) ++ holding ys (map sub ys)
+  unfolding holding
+  holding-append [] ys = refl
+  holding-append (x ∷ xs) ys = pick ((sub x) .holds) (holding-append xs ys)
+    where
+      pick : (b : Bool) → holding (xs ++ ys) (map sub (xs ++ ys)) ≡ holding xs (map sub xs) ++ holding ys (map sub ys)
+          → cond b (x ∷ holding (xs ++ ys) (map sub (xs ++ ys))) (holding (xs ++ ys) (map sub (xs ++ ys))) ≡ cond b (x ∷ holding xs (map sub xs)) (holding xs (map sub xs)) ++ holding ys (map sub ys)
+      pick true e = ap (λ l. x ∷ l) e
+      pick false e = e
+
+  pub holding-picked : (n : ℕ) → holding (picked (λ i. true) aim n) (map sub (picked (λ i. true) aim n)) ≡ picked (λ i. (sub (aim i)) .holds) aim n
+  unfolding picked holding
+  holding-picked zero = refl
+  holding-picked (suc n) = holding-append (picked (λ i. true) aim n) (aim n ∷ []) ∙ rw (holding-picked n)
+
+  -- ---- what is carried
+
+  -- the steps that went tell it
+  pub tally-told : (go : ℕ → ℕ → Bool) (move : ℕ → ℕ → Bool → ℕ) (n : ℕ) → tallyBy sub go aim move n ≡ tallyBy sub (λ i t. go i (tallyBy sub go aim move i)) aim move n
+  unfolding tallyBy
+  tally-told go move zero = refl
+  tally-told go move (suc n) = ap (λ (t : ℕ). cond (go n (tallyBy sub go aim move n)) (move n t ((sub (aim n)) .holds)) t) (tally-told go move n)
+
+  -- of a clause that counts the steps that fail
+  pub tally-misses : (go : ℕ → Bool) (n : ℕ) → hitsBy sub go aim n + tallyBy sub (λ i t. go i) aim (moved false false) n ≡ n
+  unfolding hitsBy tallyBy moved plus
+  tally-misses go zero = refl
+  tally-misses go (suc n) = step (go n) ((sub (aim n)) .holds) (hitsBy sub go aim n) (tallyBy sub (λ i t. go i) aim (moved false false) n) (tally-misses go n)
+    where
+      step : (g h : Bool) (x y : ℕ) → x + y ≡ n → plus x (not g || h) + cond g (cond h y (y + 1)) y ≡ suc n
+      step true true x y e = omega arith
+      step true false x y e = omega arith
+      step false h x y e = omega arith
+
+  -- of one that counts those that hold
+  pub tally-hits : (n : ℕ) → tallyBy sub (λ i t. true) aim (moved true false) n ≡ hitsBy sub (λ i. true) aim n
+  unfolding hitsBy tallyBy moved plus
+  tally-hits zero = refl
+  tally-hits (suc n) = step ((sub (aim n)) .holds) (tally-hits n)
+    where
+      step : (h : Bool) {x y : ℕ} → x ≡ y → cond h (x + 1) x ≡ plus y h
+      step true e = ap (λ z. z + 1) e
+      step false e = e
+
+  pub tally-few : (go : ℕ → ℕ → Bool) (hits branch : Bool) (n : ℕ) → tallyBy sub go aim (moved hits branch) n ≤ n
+  unfolding tallyBy moved
+  tally-few go hits branch zero = omega arith
+  tally-few go hits branch (suc n) = step (go n (tallyBy sub go aim (moved hits branch) n)) hits branch ((sub (aim n)) .holds) (tallyBy sub go aim (moved hits branch) n) (tally-few go hits branch n)
+    where
+      fails : (b : Bool) (t : ℕ) → t ≤ n → cond b (cond (eqb n 0) 1 2) (t + 1) ≤ suc n
+      fails false t h = omega arith
+      fails true t h = ⊎-elim (λ (z : n ≡ 0). rw (eq-eqb n 0 z) (omega arith)) (λ (z : n ≡ 0 → ⊥). rw (ne-eqb n 0 z) (some z)) (eq-or n 0)
+        where
+          some : (n ≡ 0 → ⊥) → 2 ≤ suc n
+          some z = omega arith
+
+      step : (g c b h : Bool) (t : ℕ) → t ≤ n → cond g (cond c (cond h (t + 1) t) (cond h t (cond b (cond (eqb n 0) 1 2) (t + 1)))) t ≤ suc n
+      step false c b h t l = omega arith
+      step true true b true t l = omega arith
+      step true true b false t l = omega arith
+      step true false b true t l = omega arith
+      step true false b false t l = fails b t l
+
+-- ---- a condition and its branch, and some of a list
+
+pub three-picked : (go : ℕ → Bool) (aim : ℕ → Pair) (h : Bool) → go 0 ≡ true → go 1 ≡ h → go 2 ≡ not h → picked go aim 3 ≡ aim 0 ∷ aim (cond h 1 2) ∷ []
+unfolding picked
+three-picked go aim true a b c = rw (a, b, c)
+three-picked go aim false a b c = rw (a, b, c)
+
+pub some-picked : {A : Type 0} (f : A → Pair) (t : A → Bool) (xs : List A) (d : A)
+    → concatMap (λ x. cond (t x) (f x ∷ []) []) xs ≡ picked (λ i. t (getD xs i d)) (λ i. f (getD xs i d)) (length xs)
+unfolding picked concatMap
+some-picked f t [] d = refl
+some-picked f t (x ∷ xs) d =
+    ap (λ l. cond (t x) (f x ∷ []) [] ++ l) (some-picked f t xs d) ∙ sym (picked-first (λ i. t (getD (x ∷ xs) i d)) (λ i. f (getD (x ∷ xs) i d)) (length xs))
 
 -- ---- what verdicts say, by how many hold
 

@@ -1,9 +1,9 @@
 -- The plan of a clause is the clause: for a record and rules that fit, and a pair of a row of the record.
 --     applied-is      the pairs that the clause applies are those that its steps pick, whole or cut
---     holds-is        its verdict is what the plan says of the hits
+--     after-miss      from which step it goes on after a failure
+--     holds-is        its verdict is what the plan says of what is carried
 --     marks-is        its marks, with those before it, are those after the steps
 --     go-is           a step that looks at the marks that stand when it is reached sees what it would have seen before the clause
---     still-on, after-miss     whether the clause goes on after a failure, and from which step
 --     go-same, clause-same     only the marks of children matter
 --     aimed           a step that is applied aims at a pair of lower rank among the n × m, of the row itself or of a child
 -- Assumes nothing.
@@ -16,25 +16,26 @@ use native.Mathlib.Nat.{eq-or-lt-of-le}
 use native.Mathlib.Omega.{arith}
 use lib.Dec.{eqb, ltb}
 use lib.ListN.{length, getD}
-use borrow.Author.Tests.{eqb-true, le-ltb}
+use borrow.Author.Tests.{eqb-true, eq-eqb, le-ltb}
 use Rattle.text.proofs.Bytes.{same-eq}
 use Rattle.sheet.specs.Doc.{Value, null, bool, number, string, array, object, Doc, firstChild, Child}
 use Rattle.rulesheet.specs.Ruleset.{Mode, allOf, anyOf, oneOf, notOf, ref, Reach, properties, additionalProperties, prefixItems, items}
-use Rattle.rulesheet.specs.Ruleset.{unevaluatedProperties, unevaluatedItems, Clause, asserts, inPlace, takes, Ruleset}
-use Rattle.meaning.specs.Lists.{all, range, keep}
+use Rattle.rulesheet.specs.Ruleset.{unevaluatedProperties, unevaluatedItems, Clause, asserts, inPlace, ifThenElse, dependentSchemas, contains, takes, Ruleset}
+use Rattle.meaning.specs.Lists.{all, count, range, keep}
 use Rattle.meaning.specs.Tests.{members?, elements?, rows}
-use Rattle.meaning.specs.Rules.{Pair, Marks, nothing, these, unions, Result, verdicts, found, answer, applied, Way, whole, cut, each, wayIn}
-use Rattle.meaning.specs.Rules.{one?, none?, joined, to, here, under, called, membersOf, elementsOf, taken, clause}
+use Rattle.meaning.specs.Rules.{Pair, Marks, nothing, _∪_, these, unions, Result, verdicts, holding, found, answer, applied, Way, whole, cut, each, wayIn}
+use Rattle.meaning.specs.Rules.{one?, none?, joined, to, here, under, called, hasMember, membersOf, elementsOf, taken, depended, contained, clause}
 use Rattle.meaning.specs.Fit.{Fit, Inside, rank}
 use Rattle.meaning.proofs.Lists.{in-every}
 use Rattle.meaning.proofs.Judgements.{upTo, answer-upto, applied-upto, answer-each, applied-each}
 use Rattle.meaning.proofs.Steps.{taken-steps, Step, stays, descends, clause-steps, falls, stays-inside}
-use Rattle.steps.specs.Folds.{picked, stillBy, hitsBy, marksBy}
-use Rattle.steps.specs.Plan.{memberCount, elementCount, no-member, finishedBy, wayOf, stopsBy, afterMiss, own, childRow, childNamed, finishOf, prefixed, unnamed, stepsIn, aimIn, goIn, stepsOf, aimOf, goOf}
-use Rattle.steps.proofs.Folds.{picked-same, picked-none, kept-picked, run-picked, count-hits, all-hits, unions-marks, these-marks, marks-later, any-count, not-some}
+use Rattle.steps.specs.Folds.{picked, tallyBy, hitsBy, gives, marksBy}
+use Rattle.steps.specs.Plan.{memberCount, elementCount, no-member, finishedBy, countsHits, branches, moved, branchGoes, branchOf, wayOf, stopsBy, afterMiss, own, childRow, childNamed, endsBy, finishOf, prefixed, unnamed, stepsIn, aimIn, goIn, stepsOf, aimOf, goOf}
+use Rattle.steps.proofs.Folds.{picked-same, picked-none, kept-picked, run-picked, count-hits, all-hits, unions-marks, these-marks, held-marks, marks-later, holding-picked, three-picked, some-picked, tally-told, tally-misses, tally-hits, any-count, not-some}
 use Rattle.meaning.proofs.Members.{drop-range}
-use Rattle.steps.proofs.Cuts.{upto-picked, still-is}
-use Rattle.steps.proofs.Picks.{named-picked, across-picked}
+use Rattle.steps.proofs.Reading.{none-carried, ends-joined}
+use Rattle.steps.proofs.Cuts.{asksOn, missed, goesOn, upto-picked}
+use Rattle.steps.proofs.Picks.{any-lowest, named-picked, across-picked}
 
 -- ---- what is picked
 
@@ -165,7 +166,10 @@ module _ (D : Doc) (R : Ruleset) (n m : ℕ) (fit : Fit D R n m) (p : Pair) (row
     taken-picked (unevaluatedItems s) = rw elements-are (kept-picked (λ k. to p k s) (λ k. not (κ k)) (elementCount (own D p)) (firstChild (own D p)))
 
     -- the schemas on the row itself, whole or cut
-    here-picked : (sub : Pair → Result) (v : Way) (ss : List ℕ) → upTo sub v (here p ss) ≡ picked (λ i. stillBy v sub (λ k. to p (p .row) (getD ss k 0)) i && true) (λ k. to p (p .row) (getD ss k 0)) (length ss)
+    abbrev placed : List ℕ → ℕ → Pair
+    placed ss i = to p (p .row) (getD ss i 0)
+
+    here-picked : (sub : Pair → Result) (v : Way) (ss : List ℕ) → upTo sub v (here p ss) ≡ picked (goesOn sub v (placed ss)) (placed ss) (length ss)
     unfolding here
     here-picked sub v ss = upto-picked sub v (λ s. to p (p .row) s) ss 0
 
@@ -175,31 +179,119 @@ module _ (D : Doc) (R : Ruleset) (n m : ℕ) (fit : Fit D R n m) (p : Pair) (row
     abbrev many : Clause → ℕ
     many c = stepsOf D p before c
 
-    -- step i is taken: it goes by the marks, and no failure has stopped the clause
+    -- whether step i goes at what is carried, which has not stopped the clause; what is carried; and whether it goes
+    abbrev asks : Way → Clause → ℕ → ℕ → Bool
+    asks w c i t = not (stopsBy (wayOf w c) t) && goOf D p before c i (κ (aims c i .row)) t
+
+    abbrev carried : (Pair → Result) → Way → Clause → ℕ → ℕ
+    carried sub w c n = tallyBy sub (asks w c) (aims c) (moved (countsHits c) (branches c)) n
+
     abbrev goes : (Pair → Result) → Way → Clause → ℕ → Bool
-    goes sub w c i = stillBy (wayOf w c) sub (aims c) i && goOf D p before c i (κ (aimOf D p before c i .row))
+    goes sub w c i = asks w c i (carried sub w c i)
 
-    placed-applied : (sub : Pair → Result) (v : Way) (ss : List ℕ) (g : List Result → Result)
-        → applied sub (each v (here p ss) (λ rs. found (g rs))) ≡ picked (λ i. stillBy v sub (λ k. to p (p .row) (getD ss k 0)) i && true) (λ k. to p (p .row) (getD ss k 0)) (length ss)
-    unfolding applied
-    placed-applied sub v ss g = applied-upto sub v (here p ss) (λ rs. found (g rs)) ∙ append-nil (upTo sub v (here p ss)) ∙ here-picked sub v ss
+    -- ---- 36: the condition, and the branch that it chooses
 
-    taken-applied : (sub : Pair → Result) (c : Reach) (g : List Result → Result)
-        → applied sub (each whole (taken D p before κ c) (λ rs. found (g rs))) ≡ picked (goesIn c) (aimIn D p before c) (stepsIn D p before c)
-    unfolding applied
-    taken-applied sub c g = applied-each sub (taken D p before κ c) (λ rs. found (g rs)) ∙ append-nil (taken D p before κ c) ∙ taken-picked c
+    module _ (sub : Pair → Result) (w : Way) (i t e : ℕ) where
+      abbrev verdict : ℕ → Bool
+      verdict x = (sub (aims (ifThenElse i t e) x)) .holds
+
+      abbrev goes-if : ℕ → Bool
+      goes-if = goes sub w (ifThenElse i t e)
+
+      then-goes : goes-if 1 ≡ verdict 0
+      unfolding goOf branchGoes tallyBy moved countsHits branches wayOf stopsBy
+      then-goes = by (verdict 0)
+        where
+          by : (h : Bool) → eqb (cond h 0 1) 0 ≡ h
+          by true = refl
+          by false = refl
+
+      else-goes : goes-if 2 ≡ not (verdict 0)
+      unfolding goOf branchGoes tallyBy moved countsHits branches wayOf stopsBy
+      else-goes = by (verdict 0) (verdict 1)
+        where
+          by : (h x : Bool) → eqb (cond (eqb (cond h 0 1) 0) (cond x (cond h 0 1) 2) (cond h 0 1)) 1 ≡ not h
+          by true true = refl
+          by true false = refl
+          by false x = refl
+
+      if-ends : ltb (carried sub w (ifThenElse i t e) 3) 2 ≡ verdict (cond (verdict 0) 1 2)
+      unfolding goOf branchGoes tallyBy moved countsHits branches wayOf stopsBy
+      if-ends = by (verdict 0) (verdict 1) (verdict 2) ∙ sym (pick (verdict 0))
+        where
+          pick : (h : Bool) → verdict (cond h 1 2) ≡ cond h (verdict 1) (verdict 2)
+          pick true = refl
+          pick false = refl
+
+          second : Bool → Bool → ℕ
+          second h x = cond (eqb (cond h 0 1) 0) (cond x (cond h 0 1) 2) (cond h 0 1)
+
+          by : (h x y : Bool) → ltb (cond (eqb (second h x) 1) (cond y (second h x) 2) (second h x)) 2 ≡ cond h x y
+          by true true true = refl
+          by true true false = refl
+          by true false true = refl
+          by true false false = refl
+          by false x true = refl
+          by false x false = refl
+
+      branch-is : (h : Bool) → to p (p .row) (cond h t e) ≡ aims (ifThenElse i t e) (cond h 1 2)
+      unfolding aimOf branchOf
+      branch-is true = refl
+      branch-is false = refl
+
+      if-picked : to p (p .row) i ∷ to p (p .row) (cond (verdict 0) t e) ∷ [] ≡ picked goes-if (aims (ifThenElse i t e)) 3
+      unfolding goOf branchGoes tallyBy aimOf branchOf wayOf stopsBy
+      if-picked =
+          ap (λ (q : Pair). to p (p .row) i ∷ q ∷ []) (branch-is (verdict 0))
+          ∙ sym (three-picked goes-if (aims (ifThenElse i t e)) (verdict 0) refl then-goes else-goes)
+
+    -- ---- 37: a name is a member's if some child has it
+
+    has-named : (name : List ℕ) → hasMember D (p .row) name ≡ ltb (childNamed D p name) (memberCount (own D p))
+    unfolding hasMember childNamed
+    has-named name = rw members-are (any-lowest (called D name) (firstChild (own D p)) (memberCount (own D p)))
+
+    depended-picked : (es : List (List ℕ × ℕ)) → depended D p es
+        ≡ picked (λ i. ltb (childNamed D p (getD es i no-member .0)) (memberCount (own D p))) (λ i. to p (p .row) (getD es i no-member .1)) (length es)
+    unfolding depended
+    depended-picked es =
+        some-picked (λ (e : List ℕ × ℕ). to p (p .row) (e .1)) (λ (e : List ℕ × ℕ). hasMember D (p .row) (e .0)) es no-member
+        ∙ picked-same _ _ _ _ (length es) (λ i h. has-named (getD es i no-member .0)) (λ i h. refl)
+
+    -- ---- 45: every element
+
+    elements-picked : (s : ℕ) → under p s (elementsOf D (p .row)) ≡ picked (λ i. true) (λ i. to p (childRow D p i) s) (elementCount (own D p))
+    unfolding under
+    elements-picked s = rw elements-are (run-picked (λ k. to p k s) (elementCount (own D p)) (firstChild (own D p)))
 
     pub applied-is : (sub : Pair → Result) (w : Way) (c : Clause) → applied sub (clause D w p before κ c) ≡ picked (goes sub w c) (aims c) (many c)
-    unfolding clause wayIn applied stepsOf aimOf goOf wayOf stillBy picked
+    unfolding clause applied stepsOf aimOf goOf picked branchOf wayOf stopsBy countsHits branches
     applied-is sub w (asserts t) = refl
-    applied-is sub whole (inPlace mode ss) = placed-applied sub whole ss _
-    applied-is sub cut (inPlace mode ss) = placed-applied sub (wayIn cut mode) ss _
-    applied-is sub whole (takes c) = taken-applied sub c _
-    applied-is sub cut (takes c) = taken-applied sub c _
+    applied-is sub w (inPlace mode ss) = applied-upto sub (wayIn w mode) (here p ss) _ ∙ append-nil (upTo sub (wayIn w mode) (here p ss)) ∙ here-picked sub (wayIn w mode) ss
+    applied-is sub w (ifThenElse i t e) = if-picked sub w i t e
+    applied-is sub w (dependentSchemas es) = applied-each sub (depended D p es) _ ∙ append-nil (depended D p es) ∙ depended-picked es
+    applied-is sub w (contains s least most) =
+        applied-each sub (under p s (elementsOf D (p .row))) _ ∙ append-nil (under p s (elementsOf D (p .row))) ∙ elements-picked s
+    applied-is sub w (takes c) = applied-each sub (taken D p before κ c) _ ∙ append-nil (taken D p before κ c) ∙ taken-picked c
 
     either-way : (b : Bool) (x : ℕ) → cond b x x ≡ x
     either-way true x = refl
     either-way false x = refl
+
+    -- to which step a failure leads
+    pub after-miss : (w : Way) (c : Clause) (i tally : ℕ) → cond (stopsBy w tally) (afterMiss c i) (i + 1) ≡ cond (stopsBy (wayOf w c) tally) (many c) (i + 1)
+    unfolding wayOf wayIn stopsBy afterMiss stepsOf
+    after-miss w (asserts t) i tally = either-way (stopsBy w tally) (i + 1)
+    after-miss whole (inPlace mode ss) i tally = refl
+    after-miss cut (inPlace allOf ss) i tally = refl
+    after-miss cut (inPlace anyOf ss) i tally = either-way (not (eqb tally 0)) (i + 1)
+    after-miss cut (inPlace oneOf ss) i tally = either-way (not (eqb tally 0)) (i + 1)
+    after-miss cut (inPlace notOf ss) i tally = either-way (not (eqb tally 0)) (i + 1)
+    after-miss cut (inPlace ref ss) i tally = either-way (not (eqb tally 0)) (i + 1)
+    after-miss w (ifThenElse a b c) i tally = either-way (stopsBy w tally) (i + 1)
+    after-miss w (dependentSchemas es) i tally = either-way (stopsBy w tally) (i + 1)
+    after-miss w (contains s least most) i tally = either-way (stopsBy w tally) (i + 1)
+    after-miss w (takes c) i tally = either-way (stopsBy w tally) (i + 1)
 
     -- ---- the verdict
 
@@ -212,61 +304,53 @@ module _ (D : Doc) (R : Ruleset) (n m : ℕ) (fit : Fit D R n m) (p : Pair) (row
     joined-hits sub notOf aim k = ap not (any-count _ ∙ ap (ltb 0) (count-hits sub aim k)) ∙ not-some (hitsBy sub (λ i. true) aim k)
     joined-hits sub ref aim k = all-hits sub aim (λ i. true) k
 
-    -- of a clause that is cut only if it needs all
-    cut-hits : (sub : Pair → Result) (mode : Mode) (aim : ℕ → Pair) (k : ℕ)
-        → joined mode (verdicts (map sub (picked (λ i. stillBy (wayIn cut mode) sub aim i && true) aim k))) ≡ finishedBy mode (hitsBy sub (λ i. stillBy (wayIn cut mode) sub aim i && true) aim k) k
-    unfolding wayIn stillBy joined finishedBy
-    cut-hits sub allOf aim k = all-hits sub aim (λ i. stillBy cut sub aim i && true) k
-    cut-hits sub anyOf aim k = joined-hits sub anyOf aim k
-    cut-hits sub oneOf aim k = joined-hits sub oneOf aim k
-    cut-hits sub notOf aim k = joined-hits sub notOf aim k
-    cut-hits sub ref aim k = joined-hits sub ref aim k
+    -- by the steps that fail
+    all-carried : (sub : Pair → Result) (go : ℕ → Bool) (aim : ℕ → Pair) (k : ℕ)
+        → all (verdicts (map sub (picked go aim k))) ≡ eqb (tallyBy sub (λ i t. go i) aim (moved false false) k) 0
+    all-carried sub go aim k =
+        all-hits sub aim go k ∙ none-carried (hitsBy sub go aim k) (tallyBy sub (λ i t. go i) aim (moved false false) k) k (tally-misses sub aim go k)
 
-    placed-answer : (sub : Pair → Result) (v : Way) (ss : List ℕ) (g : List Result → Result)
-        → answer sub (each v (here p ss) (λ rs. found (g rs))) ≡ g (map sub (picked (λ i. stillBy v sub (λ k. to p (p .row) (getD ss k 0)) i && true) (λ k. to p (p .row) (getD ss k 0)) (length ss)))
-    unfolding answer
-    placed-answer sub v ss g = answer-upto sub v (here p ss) (λ rs. found (g rs)) ∙ ap (λ l. g (map sub l)) (here-picked sub v ss)
+    joined-carried : (sub : Pair → Result) (mode : Mode) (ss : List ℕ)
+        → joined mode (verdicts (map sub (picked (λ i. true) (placed ss) (length ss)))) ≡ endsBy D p (inPlace mode ss) (tallyBy sub (λ i t. true) (placed ss) (moved false false) (length ss))
+    joined-carried sub mode ss = joined-hits sub mode (placed ss) (length ss) ∙ ends-joined D p mode ss _ _ (tally-misses sub (placed ss) (λ i. true) (length ss))
 
-    taken-answer : (sub : Pair → Result) (c : Reach) (g : List Result → Result)
-        → answer sub (each whole (taken D p before κ c) (λ rs. found (g rs))) ≡ g (map sub (taken D p before κ c))
-    unfolding answer
-    taken-answer sub c g = answer-each sub (taken D p before κ c) (λ rs. found (g rs))
+    cut-carried : (sub : Pair → Result) (ss : List ℕ) → joined allOf (verdicts (map sub (picked (goesOn sub cut (placed ss)) (placed ss) (length ss)))) ≡ endsBy D p (inPlace allOf ss) (missed sub cut (placed ss) (length ss))
+    unfolding joined endsBy
+    cut-carried sub ss =
+        all-carried sub (goesOn sub cut (placed ss)) (placed ss) (length ss)
+        ∙ sym (ap (λ (t : ℕ). eqb t 0) (tally-told sub (placed ss) (asksOn sub cut) (moved false false) (length ss)))
 
-    taken-holds : (sub : Pair → Result) (c : Reach) → all (verdicts (map sub (taken D p before κ c))) ≡ eqb (hitsBy sub (goesIn c) (aimIn D p before c) (stepsIn D p before c)) (stepsIn D p before c)
-    taken-holds sub c = ap (λ l. all (verdicts (map sub l))) (taken-picked c) ∙ all-hits sub (aimIn D p before c) (goesIn c) (stepsIn D p before c)
+    -- of schemas on the row itself, whole or cut
+    placed-ends : (sub : Pair → Result) (w : Way) (mode : Mode) (ss : List ℕ)
+        → joined mode (verdicts (map sub (picked (goesOn sub (wayIn w mode) (placed ss)) (placed ss) (length ss)))) ≡ endsBy D p (inPlace mode ss) (missed sub (wayIn w mode) (placed ss) (length ss))
+    unfolding wayIn stopsBy
+    placed-ends sub whole mode ss = joined-carried sub mode ss
+    placed-ends sub cut allOf ss = cut-carried sub ss
+    placed-ends sub cut anyOf ss = joined-carried sub anyOf ss
+    placed-ends sub cut oneOf ss = joined-carried sub oneOf ss
+    placed-ends sub cut notOf ss = joined-carried sub notOf ss
+    placed-ends sub cut ref ss = joined-carried sub ref ss
 
-    pub holds-is : (sub : Pair → Result) (w : Way) (c : Clause) → answer sub (clause D w p before κ c) .holds ≡ finishOf D p c (hitsBy sub (goes sub w c) (aims c) (many c)) (many c)
-    unfolding clause wayIn answer stepsOf aimOf goOf wayOf stillBy finishOf
+    pub holds-is : (sub : Pair → Result) (w : Way) (c : Clause) → answer sub (clause D w p before κ c) .holds ≡ finishOf D p c (carried sub w c (many c))
+    unfolding clause answer stepsOf aimOf goOf finishOf endsBy countsHits branches branchOf wayOf stopsBy
     holds-is sub w (asserts t) = refl
-    holds-is sub whole (inPlace mode ss) = ap (λ r. r .holds) (placed-answer sub whole ss _) ∙ joined-hits sub mode (λ i. to p (p .row) (getD ss i 0)) (length ss)
-    holds-is sub cut (inPlace mode ss) = ap (λ r. r .holds) (placed-answer sub (wayIn cut mode) ss _) ∙ cut-hits sub mode (λ i. to p (p .row) (getD ss i 0)) (length ss)
-    holds-is sub whole (takes c) = ap (λ r. r .holds) (taken-answer sub c _) ∙ taken-holds sub c
-    holds-is sub cut (takes c) = ap (λ r. r .holds) (taken-answer sub c _) ∙ taken-holds sub c
-
-    -- whether a clause that has taken i steps goes on, by the misses
-    pub still-on : (sub : Pair → Result) (w : Way) (c : Clause) (i misses : ℕ) → hitsBy sub (goes sub w c) (aims c) i + misses ≡ i
-        → stillBy (wayOf w c) sub (aims c) i ≡ not (stopsBy (wayOf w c) misses)
-    unfolding wayOf wayIn stillBy stopsBy aimOf goOf
-    still-on sub whole c i misses e = refl
-    still-on sub cut (asserts t) i misses e = refl
-    still-on sub cut (inPlace allOf ss) i misses e = still-is sub (λ k. to p (p .row) (getD ss k 0)) cut i misses e
-    still-on sub cut (inPlace anyOf ss) i misses e = refl
-    still-on sub cut (inPlace oneOf ss) i misses e = refl
-    still-on sub cut (inPlace notOf ss) i misses e = refl
-    still-on sub cut (inPlace ref ss) i misses e = refl
-    still-on sub cut (takes c) i misses e = refl
-
-    -- to which step a failure leads
-    pub after-miss : (w : Way) (c : Clause) (i misses : ℕ) → cond (stopsBy w misses) (afterMiss c i) (i + 1) ≡ cond (stopsBy (wayOf w c) misses) (many c) (i + 1)
-    unfolding wayOf wayIn stopsBy afterMiss stepsOf
-    after-miss whole c i misses = refl
-    after-miss cut (asserts t) i misses = either-way (not (eqb misses 0)) (i + 1)
-    after-miss cut (inPlace allOf ss) i misses = refl
-    after-miss cut (inPlace anyOf ss) i misses = either-way (not (eqb misses 0)) (i + 1)
-    after-miss cut (inPlace oneOf ss) i misses = either-way (not (eqb misses 0)) (i + 1)
-    after-miss cut (inPlace notOf ss) i misses = either-way (not (eqb misses 0)) (i + 1)
-    after-miss cut (inPlace ref ss) i misses = either-way (not (eqb misses 0)) (i + 1)
-    after-miss cut (takes c) i misses = either-way (not (eqb misses 0)) (i + 1)
+    holds-is sub w (inPlace mode ss) =
+        ap (λ r. r .holds) (answer-upto sub (wayIn w mode) (here p ss) _)
+        ∙ ap (λ l. joined mode (verdicts (map sub l))) (here-picked sub (wayIn w mode) ss)
+        ∙ placed-ends sub w mode ss
+    holds-is sub w (ifThenElse i t e) = ap (λ (q : Pair). (sub q) .holds) (branch-is sub w i t e (verdict sub w i t e 0)) ∙ sym (if-ends sub w i t e)
+    holds-is sub w (dependentSchemas es) =
+        ap (λ r. r .holds) (answer-each sub (depended D p es) _)
+        ∙ ap (λ l. all (verdicts (map sub l))) (depended-picked es)
+        ∙ all-carried sub _ (λ i. to p (p .row) (getD es i no-member .1)) (length es)
+    holds-is sub w (contains s least most) =
+        ap (λ r. r .holds) (answer-each sub (under p s (elementsOf D (p .row))) _)
+        ∙ ap (λ l. contained D (p .row) least most (count (verdicts (map sub l)))) (elements-picked s)
+        ∙ ap (contained D (p .row) least most) (count-hits sub (λ i. to p (childRow D p i) s) (elementCount (own D p)) ∙ sym (tally-hits sub (λ i. to p (childRow D p i) s) (elementCount (own D p))))
+    holds-is sub w (takes c) =
+        ap (λ r. r .holds) (answer-each sub (taken D p before κ c) _)
+        ∙ ap (λ l. all (verdicts (map sub l))) (taken-picked c)
+        ∙ all-carried sub (goesIn c) (aimIn D p before c) (stepsIn D p before c)
 
     -- ---- the marks
 
@@ -283,64 +367,97 @@ module _ (D : Doc) (R : Ruleset) (n m : ℕ) (fit : Fit D R n m) (p : Pair) (row
     unfolding to
     here-row s = refl
 
-    placed-marks : (sub : Pair → Result) (v : Way) (mode : Mode) (ss : List ℕ) (k : ℕ)
-        → (κ k || answer sub (each v (here p ss) (λ rs. found (record { holds = joined mode (verdicts rs); marks = unions rs }))) .marks k)
-        ≡ marksBy sub p (λ i. stillBy v sub (λ x. to p (p .row) (getD ss x 0)) i && true) (λ x. to p (p .row) (getD ss x 0)) κ (length ss) k
-    placed-marks sub v mode ss k =
-        ap (λ (r : Result). κ k || r .marks k) (placed-answer sub v ss (λ rs. record { holds = joined mode (verdicts rs); marks = unions rs }))
-        ∙ unions-marks sub (λ i. to p (p .row) (getD ss i 0)) p _ κ k (length ss) (λ i h. here-row (getD ss i 0))
+    -- the clause keeps the marks of what it applies, or those of what holds
+    abbrev keeps : Clause → Bool
+    keeps c = not (countsHits c)
 
-    taken-marks : (sub : Pair → Result) (c : Reach) (k : ℕ)
-        → (κ k || these (map (λ (q : Pair). q .row) (taken D p before κ c)) k) ≡ marksBy sub p (goesIn c) (aimIn D p before c) κ (stepsIn D p before c) k
-    taken-marks sub c k =
-        ap (λ l. κ k || these (map (λ (q : Pair). q .row) l) k) (taken-picked c)
-        ∙ these-marks sub (aimIn D p before c) p (goesIn c) κ k (stepsIn D p before c) (taken-apart c)
+    element-apart : (s i : ℕ) → i < elementCount (own D p) → (to p (childRow D p i) s) .row ≡ p .row → ⊥
+    unfolding to
+    element-apart s i h = child-apart (childRow D p i) (element-in (own D p) refl i h)
 
-    pub marks-is : (sub : Pair → Result) (w : Way) (c : Clause) (k : ℕ) → (κ k || answer sub (clause D w p before κ c) .marks k) ≡ marksBy sub p (goes sub w c) (aims c) κ (many c) k
-    unfolding clause wayIn answer stepsOf aimOf goOf wayOf stillBy nothing marksBy
+    if-marks : (sub : Pair → Result) (i t e k : ℕ) (h : Bool) → (go : ℕ → Bool) → go 0 ≡ true → go 1 ≡ h → go 2 ≡ not h
+        → (κ k || ((sub (to p (p .row) i)) .marks k || (sub (to p (p .row) (cond h t e))) .marks k)) ≡ marksBy sub p true go (aims (ifThenElse i t e)) κ 3 k
+    unfolding marksBy gives aimOf branchOf to
+    if-marks sub i t e k true go a b c =
+        rw (a, b, c, eq-eqb (p .row) (p .row) refl) (nothing-last (κ k) ((sub (record { row = p .row; rule = i })) .marks k) ((sub (record { row = p .row; rule = t })) .marks k))
+      where
+        nothing-last : (x y z : Bool) → (x || (y || z)) ≡ (((x || y) || z) || false)
+        nothing-last true y z = refl
+        nothing-last false true z = refl
+        nothing-last false false true = refl
+        nothing-last false false false = refl
+    if-marks sub i t e k false go a b c =
+        rw (a, b, c, eq-eqb (p .row) (p .row) refl) (nothing-between (κ k) ((sub (record { row = p .row; rule = i })) .marks k) ((sub (record { row = p .row; rule = e })) .marks k))
+      where
+        nothing-between : (x y z : Bool) → (x || (y || z)) ≡ (((x || y) || false) || z)
+        nothing-between true y z = refl
+        nothing-between false true z = refl
+        nothing-between false false z = refl
+
+    pub marks-is : (sub : Pair → Result) (w : Way) (c : Clause) (k : ℕ) → (κ k || answer sub (clause D w p before κ c) .marks k) ≡ marksBy sub p (keeps c) (goes sub w c) (aims c) κ (many c) k
+    unfolding clause answer stepsOf aimOf goOf nothing marksBy countsHits branches branchGoes branchOf _∪_ wayOf stopsBy
     marks-is sub w (asserts t) k = or-no (κ k)
-    marks-is sub whole (inPlace mode ss) k = placed-marks sub whole mode ss k
-    marks-is sub cut (inPlace mode ss) k = placed-marks sub (wayIn cut mode) mode ss k
-    marks-is sub whole (takes c) k = ap (λ r. κ k || r .marks k) (taken-answer sub c _) ∙ taken-marks sub c k
-    marks-is sub cut (takes c) k = ap (λ r. κ k || r .marks k) (taken-answer sub c _) ∙ taken-marks sub c k
+    marks-is sub w (inPlace mode ss) k =
+        ap (λ r. κ k || r .marks k) (answer-upto sub (wayIn w mode) (here p ss) _)
+        ∙ ap (λ l. κ k || unions (map sub l) k) (here-picked sub (wayIn w mode) ss)
+        ∙ unions-marks sub (placed ss) p _ κ k (length ss) (λ i h. here-row (getD ss i 0))
+    marks-is sub w (ifThenElse i t e) k = if-marks sub i t e k (verdict sub w i t e 0) (goes-if sub w i t e) refl (then-goes sub w i t e) (else-goes sub w i t e)
+    marks-is sub w (dependentSchemas es) k =
+        ap (λ r. κ k || r .marks k) (answer-each sub (depended D p es) _)
+        ∙ ap (λ l. κ k || unions (map sub l) k) (depended-picked es)
+        ∙ unions-marks sub (λ i. to p (p .row) (getD es i no-member .1)) p _ κ k (length es) (λ i h. here-row (getD es i no-member .1))
+    marks-is sub w (contains s least most) k =
+        ap (λ r. κ k || r .marks k) (answer-each sub (under p s (elementsOf D (p .row))) _)
+        ∙ ap (λ l. κ k || these (map (λ (q : Pair). q .row) (holding l (map sub l))) k) (elements-picked s)
+        ∙ ap (λ l. κ k || these (map (λ (q : Pair). q .row) l) k) (holding-picked sub (λ i. to p (childRow D p i) s) (elementCount (own D p)))
+        ∙ these-marks sub (λ i. to p (childRow D p i) s) p _ κ k (elementCount (own D p)) (λ i h g. element-apart s i h)
+        ∙ held-marks sub (λ i. to p (childRow D p i) s) p κ k (elementCount (own D p))
+    marks-is sub w (takes c) k =
+        ap (λ r. κ k || r .marks k) (answer-each sub (taken D p before κ c) _)
+        ∙ ap (λ l. κ k || these (map (λ (q : Pair). q .row) l) k) (taken-picked c)
+        ∙ these-marks sub (aimIn D p before c) p (goesIn c) κ k (stepsIn D p before c) (taken-apart c)
 
     -- ---- the marks that stand when a step is reached
 
-    pub go-is : (sub : Pair → Result) (c : Clause) (go : ℕ → Bool) (i : ℕ) → i < many c
-        → goOf D p before c i (marksBy sub p go (aims c) κ i (aims c i .row)) ≡ goOf D p before c i (κ (aims c i .row))
+    pub go-is : (sub : Pair → Result) (c : Clause) (go : ℕ → Bool) (i t : ℕ) → i < many c
+        → goOf D p before c i (marksBy sub p (keeps c) go (aims c) κ i (aims c i .row)) t ≡ goOf D p before c i (κ (aims c i .row)) t
     unfolding stepsOf aimOf goOf stepsIn aimIn goIn to
-    go-is sub (asserts t) go i h = refl
-    go-is sub (inPlace mode ss) go i h = refl
-    go-is sub (takes (properties es)) go i h = refl
-    go-is sub (takes (additionalProperties s)) go i h = refl
-    go-is sub (takes (prefixItems ss)) go i h = refl
-    go-is sub (takes (items s)) go i h = refl
-    go-is sub (takes (unevaluatedProperties s)) go i h =
-        ap not (marks-later sub (λ x. to p (childRow D p x) s) p _ κ (childRow D p i) i
+    go-is sub (asserts z) go i t h = refl
+    go-is sub (inPlace mode ss) go i t h = refl
+    go-is sub (ifThenElse a b c) go i t h = refl
+    go-is sub (dependentSchemas es) go i t h = refl
+    go-is sub (contains s least most) go i t h = refl
+    go-is sub (takes (properties es)) go i t h = refl
+    go-is sub (takes (additionalProperties s)) go i t h = refl
+    go-is sub (takes (prefixItems ss)) go i t h = refl
+    go-is sub (takes (items s)) go i t h = refl
+    go-is sub (takes (unevaluatedProperties s)) go i t h =
+        ap not (marks-later sub (λ x. to p (childRow D p x) s) p _ _ κ (childRow D p i) i
         (λ x g. (child-apart (childRow D p x) (member-in (own D p) refl x (omega arith)), λ e. omega arith)))
-    go-is sub (takes (unevaluatedItems s)) go i h =
-        ap not (marks-later sub (λ x. to p (childRow D p x) s) p _ κ (childRow D p i) i
+    go-is sub (takes (unevaluatedItems s)) go i t h =
+        ap not (marks-later sub (λ x. to p (childRow D p x) s) p _ _ κ (childRow D p i) i
         (λ x g. (child-apart (childRow D p x) (element-in (own D p) refl x (omega arith)), λ e. omega arith)))
 
     -- a step looks at marks only where it aims at a child
-    pub go-same : (c : Clause) (i : ℕ) (x y : Bool) → i < many c → (Child D (p .row) (aims c i .row) → x ≡ y) → goOf D p before c i x ≡ goOf D p before c i y
+    pub go-same : (c : Clause) (i : ℕ) (x y : Bool) (t : ℕ) → i < many c → (Child D (p .row) (aims c i .row) → x ≡ y) → goOf D p before c i x t ≡ goOf D p before c i y t
     unfolding stepsOf aimOf goOf stepsIn aimIn goIn to
-    go-same (asserts t) i x y h f = refl
-    go-same (inPlace mode ss) i x y h f = refl
-    go-same (takes (properties es)) i x y h f = refl
-    go-same (takes (additionalProperties s)) i x y h f = refl
-    go-same (takes (prefixItems ss)) i x y h f = refl
-    go-same (takes (items s)) i x y h f = refl
-    go-same (takes (unevaluatedProperties s)) i x y h f = ap not (f (member-in (own D p) refl i h))
-    go-same (takes (unevaluatedItems s)) i x y h f = ap not (f (element-in (own D p) refl i h))
+    go-same (asserts z) i x y t h f = refl
+    go-same (inPlace mode ss) i x y t h f = refl
+    go-same (ifThenElse a b c) i x y t h f = refl
+    go-same (dependentSchemas es) i x y t h f = refl
+    go-same (contains s least most) i x y t h f = refl
+    go-same (takes (properties es)) i x y t h f = refl
+    go-same (takes (additionalProperties s)) i x y t h f = refl
+    go-same (takes (prefixItems ss)) i x y t h f = refl
+    go-same (takes (items s)) i x y t h f = refl
+    go-same (takes (unevaluatedProperties s)) i x y t h f = ap not (f (member-in (own D p) refl i h))
+    go-same (takes (unevaluatedItems s)) i x y t h f = ap not (f (element-in (own D p) refl i h))
 
     -- ---- where a step leads
 
-    pub aimed : (rule-in : p .rule < m) (c : Clause) (i : ℕ) → In c (R .clauses (p .rule)) → i < many c → goOf D p before c i (κ (aims c i .row)) ≡ true → Aimed D R n m p (aims c i)
-    unfolding wayOf stillBy
-    aimed rule-in c i has h g =
-        let sub : Pair → Result = λ q. record { holds = true; marks = nothing } in
-        let step = in-every (clause-steps D R sub whole p before κ c has) (subst (λ l. In (aims c i) l) (sym (applied-is sub whole c)) (picked-in (goes sub whole c) (aims c) (many c) i h g)) in
+    pub aimed : (sub : Pair → Result) (w : Way) (rule-in : p .rule < m) (c : Clause) (i : ℕ) → In c (R .clauses (p .rule)) → i < many c → goes sub w c i ≡ true → Aimed D R n m p (aims c i)
+    aimed sub w rule-in c i has h g =
+        let step = in-every (clause-steps D R sub w p before κ c has) (subst (λ l. In (aims c i) l) (sym (applied-is sub w c)) (picked-in (goes sub w c) (aims c) (many c) i h g)) in
         record {
           inside = stays-inside D R n m fit p (aims c i) (record { row-in = row-in; rule-in = rule-in }) step;
           lower = falls D R n m fit p (aims c i) step;
@@ -360,6 +477,9 @@ module _ (D : Doc) (R : Ruleset) (n m : ℕ) (fit : Fit D R n m) (p : Pair) (row
   unfolding clause taken
   clause-same w before κ μ (asserts t) f = refl
   clause-same w before κ μ (inPlace mode ss) f = refl
+  clause-same w before κ μ (ifThenElse a b c) f = refl
+  clause-same w before κ μ (dependentSchemas es) f = refl
+  clause-same w before κ μ (contains s least most) f = refl
   clause-same w before κ μ (takes (properties es)) f = refl
   clause-same w before κ μ (takes (additionalProperties s)) f = refl
   clause-same w before κ μ (takes (prefixItems ss)) f = refl

@@ -1,17 +1,20 @@
 -- How many steps a clause has and what it says in the end are what its plan says.
 --     members-counted, elements-counted    how many members and elements a row has
 --     no-steps              a clause that asserts something has no steps
---     any-ends, one-ends, not-ends, all-ends     what a clause says in the end, by the variant that was read and its misses
+--     any-ends, one-ends, not-ends, if-ends, contains-ends, all-ends     what a clause says in the end, by the variant that was read and what is carried
 --     spared-ends, ends-finish     and by what is read of it
 --     all-after, next-after, applied-after       where a failure leads a clause, by the variant that was read and by what is read of it
+--     enough-size, enough-none     of elements, by how many there are
+--     none-carried, ends-joined    by the hits, where misses are carried
 -- Assumes nothing.
-use mathlib.Core.Bool.{Bool}
+use mathlib.Core.Bool.{Bool, true, _&&_}
+use mathlib.Core.Option.{some, none}
 use mathlib.Core.List.{List, [], _∷_}
 use mathlib.Core.Path.{_≡_, refl, sym, ap, _∙_}
 use mathlib.Core.Logic.{⊎-elim}
 use Prim.Native.Nat.{ℕ, _+_, _-_, _≤_, _<_}
 use native.Mathlib.Omega.{arith}
-use lib.Dec.{eqb, ltb}
+use lib.Dec.{eqb, leb, ltb}
 use lib.ListN.{length}
 use borrow.Author.Tests.{lt-ltb, le-ltb, eq-eqb, ne-eqb}
 use Rattle.laws.proofs.Tests.{le-or-lt}
@@ -20,17 +23,18 @@ use denote.Enum.Declared.{tagOf}
 use Rattle.sheet.specs.Doc.{Value, null, bool, number, string, array, object, Doc}
 use Rattle.sheet.specs.declared.record.RuleRow.{RuleRow}
 use Rattle.rulesheet.proofs.clause.Clause.{the-type}
+use Rattle.rulesheet.specs.declared.form.EntryRow.{EntryRow}
 use Rattle.rulesheet.specs.declared.clause.Entries.{Entries}
 use Rattle.rulesheet.specs.declared.clause.Clause.{Clause}
 use Rattle.rulesheet.specs.declared.clause.Clause.the-variants.{Never, Types, Enum, Minimum, Maximum, ExclusiveMinimum, ExclusiveMaximum, MultipleOf}
 use Rattle.rulesheet.specs.declared.clause.Clause.the-variants.{MinLength, MaxLength, MinItems, MaxItems, MinProperties, MaxProperties, Required}
-use Rattle.rulesheet.specs.declared.clause.Clause.the-variants.{AllOf, AnyOf, OneOf as Exactly, Not, Ref, Properties, AdditionalProperties, PrefixItems, Items, UnevaluatedProperties, UnevaluatedItems}
+use Rattle.rulesheet.specs.declared.clause.Clause.the-variants.{AllOf, AnyOf, OneOf as Exactly, Not, Ref, IfThenElse, DependentSchemas, Properties, AdditionalProperties, PrefixItems, Items, Contains, UnevaluatedProperties, UnevaluatedItems}
 use Rattle.rulesheet.specs.Ruleset as R
-use Rattle.rulesheet.specs.Ruleset.{Test, allOf, anyOf, oneOf, notOf, ref, asserts, inPlace, takes}
-use Rattle.rulesheet.specs.Clauses.{clauseMeans, applying, sparing}
+use Rattle.rulesheet.specs.Ruleset.{Test, allOf, anyOf, oneOf, notOf, ref, asserts, inPlace, ifThenElse, dependentSchemas, contains, takes}
+use Rattle.rulesheet.specs.Clauses.{entryIn, clauseMeans, applying, sparing}
 use Rattle.rulesheet.proofs.Items.{schemas-long}
-use Rattle.meaning.specs.Tests.{members?, elements?}
-use Rattle.meaning.specs.Rules.{Pair}
+use Rattle.meaning.specs.Tests.{members?, elements?, given}
+use Rattle.meaning.specs.Rules.{Pair, within, contained}
 use Rattle.clause.specs.Read.{sizeOf, orNone}
 use Rattle.meaning.proofs.Members.{range-length}
 use Rattle.steps.specs.Plan.{memberCount, elementCount, finishedBy, endsBy, afterMiss, stepsOf, finishOf}
@@ -87,12 +91,15 @@ asserting rs us (AnyOf es) k = absurd (miss asserters 16 tt k)
 asserting rs us (Exactly es) k = absurd (miss asserters 17 tt k)
 asserting rs us (Not row) k = absurd (miss asserters 18 tt k)
 asserting rs us (Ref row) k = absurd (miss asserters 19 tt k)
-asserting rs us (Properties es) k = absurd (miss asserters 20 tt k)
-asserting rs us (AdditionalProperties row) k = absurd (miss asserters 21 tt k)
-asserting rs us (PrefixItems es) k = absurd (miss asserters 22 tt k)
-asserting rs us (Items row) k = absurd (miss asserters 23 tt k)
-asserting rs us (UnevaluatedProperties row) k = absurd (miss asserters 24 tt k)
-asserting rs us (UnevaluatedItems row) k = absurd (miss asserters 25 tt k)
+asserting rs us (IfThenElse es) k = absurd (miss asserters 20 tt k)
+asserting rs us (DependentSchemas es) k = absurd (miss asserters 21 tt k)
+asserting rs us (Properties es) k = absurd (miss asserters 22 tt k)
+asserting rs us (AdditionalProperties row) k = absurd (miss asserters 23 tt k)
+asserting rs us (PrefixItems es) k = absurd (miss asserters 24 tt k)
+asserting rs us (Items row) k = absurd (miss asserters 25 tt k)
+asserting rs us (Contains es) k = absurd (miss asserters 26 tt k)
+asserting rs us (UnevaluatedProperties row) k = absurd (miss asserters 27 tt k)
+asserting rs us (UnevaluatedItems row) k = absurd (miss asserters 28 tt k)
 
 pub no-steps : (d : Doc) (p : Pair) (before : List R.Clause) (rs us : List ℕ) (clause : Clause) → OneOf asserters (tagOf the-type clause) → stepsOf d p before (clauseMeans rs us clause) ≡ 0
 unfolding stepsOf
@@ -120,12 +127,12 @@ all-missed misses n h =
 
 -- the positions of the variants that need every step to hold, and those that assert
 abbrev pub others : List ℕ
-others = 0 ∷ 1 ∷ 2 ∷ 3 ∷ 4 ∷ 5 ∷ 6 ∷ 7 ∷ 8 ∷ 9 ∷ 10 ∷ 11 ∷ 12 ∷ 13 ∷ 14 ∷ 15 ∷ 19 ∷ 20 ∷ 21 ∷ 22 ∷ 23 ∷ 24 ∷ 25 ∷ []
+others = 0 ∷ 1 ∷ 2 ∷ 3 ∷ 4 ∷ 5 ∷ 6 ∷ 7 ∷ 8 ∷ 9 ∷ 10 ∷ 11 ∷ 12 ∷ 13 ∷ 14 ∷ 15 ∷ 19 ∷ 21 ∷ 22 ∷ 23 ∷ 24 ∷ 25 ∷ 27 ∷ 28 ∷ []
 
-module _ (misses : ℕ) (rs us : List ℕ) where
+module _ (d : Doc) (p : Pair) (misses : ℕ) (rs us : List ℕ) where
   -- what the clause says
   abbrev pub Ends : Clause → Bool → Type 0
-  Ends clause r = r ≡ endsBy (clauseMeans rs us clause) misses
+  Ends clause r = r ≡ endsBy d p (clauseMeans rs us clause) misses
 
   pub any-ends : (es : Entries) → Ends (AnyOf es) (ltb misses (es .count))
   unfolding endsBy
@@ -138,6 +145,14 @@ module _ (misses : ℕ) (rs us : List ℕ) where
   pub not-ends : (row : RuleRow) → Ends (Not row) (eqb misses 1)
   unfolding endsBy
   not-ends row = refl
+
+  pub if-ends : (es : Entries) → Ends (IfThenElse es) (ltb misses 2)
+  unfolding endsBy
+  if-ends es = refl
+
+  pub contains-ends : (es : Entries) (entry : EntryRow) (r : Bool) → entry ≡ entryIn rs es 0 → r ≡ contained d (p .row) (entry .second) (entry .third) misses → Ends (Contains es) r
+  unfolding endsBy
+  contains-ends es entry r e f = f ∙ ap (λ (x : EntryRow). contained d (p .row) (x .second) (x .third) misses) e
 
   pub all-ends : (clause : Clause) → OneOf others (tagOf the-type clause) → Ends clause (eqb misses 0)
   unfolding endsBy
@@ -161,27 +176,33 @@ module _ (misses : ℕ) (rs us : List ℕ) where
   all-ends (Exactly es) k = absurd (miss others 17 tt k)
   all-ends (Not row) k = absurd (miss others 18 tt k)
   all-ends (Ref row) k = refl
+  all-ends (IfThenElse es) k = absurd (miss others 20 tt k)
+  all-ends (DependentSchemas es) k = refl
   all-ends (Properties es) k = refl
   all-ends (AdditionalProperties row) k = refl
   all-ends (PrefixItems es) k = refl
   all-ends (Items row) k = refl
+  all-ends (Contains es) k = absurd (miss others 26 tt k)
   all-ends (UnevaluatedProperties row) k = refl
   all-ends (UnevaluatedItems row) k = refl
 
--- what is asked of misses is asked of few clauses
-pub spared-ends : (c : R.Clause) (misses : ℕ) → endsBy (sparing c) misses ≡ endsBy c misses
+-- what is asked in the end is asked of few clauses
+pub spared-ends : (d : Doc) (p : Pair) (c : R.Clause) (tally : ℕ) → endsBy d p (sparing c) tally ≡ endsBy d p c tally
 unfolding endsBy sparing
-spared-ends (asserts t) misses = refl
-spared-ends (inPlace allOf ss) misses = refl
-spared-ends (inPlace anyOf ss) misses = refl
-spared-ends (inPlace oneOf ss) misses = refl
-spared-ends (inPlace notOf ss) misses = refl
-spared-ends (inPlace ref ss) misses = refl
-spared-ends (takes c) misses = refl
+spared-ends d p (asserts t) tally = refl
+spared-ends d p (inPlace allOf ss) tally = refl
+spared-ends d p (inPlace anyOf ss) tally = refl
+spared-ends d p (inPlace oneOf ss) tally = refl
+spared-ends d p (inPlace notOf ss) tally = refl
+spared-ends d p (inPlace ref ss) tally = refl
+spared-ends d p (ifThenElse i t e) tally = refl
+spared-ends d p (dependentSchemas es) tally = refl
+spared-ends d p (contains s least most) tally = refl
+spared-ends d p (takes c) tally = refl
 
 -- the positions of all variants but allOf
 abbrev pub uncut : List ℕ
-uncut = 0 ∷ 1 ∷ 2 ∷ 3 ∷ 4 ∷ 5 ∷ 6 ∷ 7 ∷ 8 ∷ 9 ∷ 10 ∷ 11 ∷ 12 ∷ 13 ∷ 14 ∷ 16 ∷ 17 ∷ 18 ∷ 19 ∷ 20 ∷ 21 ∷ 22 ∷ 23 ∷ 24 ∷ 25 ∷ []
+uncut = 0 ∷ 1 ∷ 2 ∷ 3 ∷ 4 ∷ 5 ∷ 6 ∷ 7 ∷ 8 ∷ 9 ∷ 10 ∷ 11 ∷ 12 ∷ 13 ∷ 14 ∷ 16 ∷ 17 ∷ 18 ∷ 19 ∷ 20 ∷ 21 ∷ 22 ∷ 23 ∷ 24 ∷ 25 ∷ 26 ∷ 27 ∷ 28 ∷ []
 
 module _ (step : ℕ) (rs us : List ℕ) where
   -- the step after a failure
@@ -214,10 +235,13 @@ module _ (step : ℕ) (rs us : List ℕ) where
   next-after (Exactly es) k = refl
   next-after (Not row) k = refl
   next-after (Ref row) k = refl
+  next-after (IfThenElse es) k = refl
+  next-after (DependentSchemas es) k = refl
   next-after (Properties es) k = refl
   next-after (AdditionalProperties row) k = refl
   next-after (PrefixItems es) k = refl
   next-after (Items row) k = refl
+  next-after (Contains es) k = refl
   next-after (UnevaluatedProperties row) k = refl
   next-after (UnevaluatedItems row) k = refl
 
@@ -225,16 +249,50 @@ pub applied-after : (c : R.Clause) (step : ℕ) → afterMiss (applying c) step 
 unfolding afterMiss applying
 applied-after (asserts t) step = refl
 applied-after (inPlace m ss) step = refl
+applied-after (ifThenElse i t e) step = refl
+applied-after (dependentSchemas es) step = refl
+applied-after (contains s least most) step = refl
 applied-after (takes c) step = refl
 
--- the misses of a clause that applies schemas tell what its hits tell
-pub ends-finish : (d : Doc) (p : Pair) (before : List R.Clause) (c : R.Clause) (misses : ℕ) → ((t : Test) → c ≡ asserts t → ⊥) → misses ≤ stepsOf d p before c
-    → endsBy c misses ≡ finishOf d p c (stepsOf d p before c - misses) (stepsOf d p before c)
-unfolding endsBy stepsOf finishOf finishedBy
-ends-finish d p before (asserts t) misses applies h = absurd (applies t refl)
-ends-finish d p before (inPlace allOf ss) misses applies h = none-missed misses _ h
-ends-finish d p before (inPlace anyOf ss) misses applies h = some-hit misses (length ss)
-ends-finish d p before (inPlace oneOf ss) misses applies h = refl
-ends-finish d p before (inPlace notOf ss) misses applies h = all-missed misses _ h
-ends-finish d p before (inPlace ref ss) misses applies h = none-missed misses _ h
-ends-finish d p before (takes c) misses applies h = none-missed misses _ h
+-- a clause that applies schemas says in the end what any clause says
+pub ends-finish : (d : Doc) (p : Pair) (c : R.Clause) (tally : ℕ) → ((t : Test) → c ≡ asserts t → ⊥) → endsBy d p c tally ≡ finishOf d p c tally
+unfolding finishOf
+ends-finish d p (asserts t) tally applies = absurd (applies t refl)
+ends-finish d p (inPlace m ss) tally applies = refl
+ends-finish d p (ifThenElse i t e) tally applies = refl
+ends-finish d p (dependentSchemas es) tally applies = refl
+ends-finish d p (contains s least most) tally applies = refl
+ends-finish d p (takes c) tally applies = refl
+
+-- ---- what the hits tell the misses tell
+
+pub none-carried : (hits misses n : ℕ) → hits + misses ≡ n → eqb hits n ≡ eqb misses 0
+none-carried hits misses n e = let h : hits ≡ n - misses = omega arith in ap (λ (x : ℕ). eqb x n) h ∙ sym (none-missed misses n (omega arith))
+
+pub ends-joined : (d : Doc) (p : Pair) (mode : R.Mode) (ss : List ℕ) (hits misses : ℕ) → hits + misses ≡ length ss → finishedBy mode hits (length ss) ≡ endsBy d p (inPlace mode ss) misses
+unfolding endsBy finishedBy
+ends-joined d p allOf ss hits misses e = none-carried hits misses (length ss) e
+ends-joined d p anyOf ss hits misses e = let h : hits ≡ length ss - misses = omega arith in ap (ltb 0) h ∙ sym (some-hit misses (length ss))
+ends-joined d p oneOf ss hits misses e = let h : hits ≡ length ss - misses = omega arith in ap (λ (x : ℕ). eqb x 1) h
+ends-joined d p notOf ss hits misses e = let h : hits ≡ length ss - misses = omega arith in ap (λ (x : ℕ). eqb x 0) h ∙ sym (all-missed misses (length ss) (omega arith))
+ends-joined d p ref ss hits misses e = none-carried hits misses (length ss) e
+
+-- ---- how many elements are enough
+
+pub enough-size : (v : Value) (least most tally n : ℕ) → some n ≡ sizeOf (elements? v) → (leb least tally && leb tally most) ≡ given (elements? v) (λ ks. within least most tally)
+unfolding elements? given within
+enough-size null least most tally n e = cc
+enough-size (bool b) least most tally n e = cc
+enough-size (number z) least most tally n e = cc
+enough-size (string bytes) least most tally n e = cc
+enough-size (array first k) least most tally n e = refl
+enough-size (object first k) least most tally n e = cc
+
+pub enough-none : (v : Value) (least most tally : ℕ) → none ≡ sizeOf (elements? v) → true ≡ given (elements? v) (λ ks. within least most tally)
+unfolding elements? given
+enough-none null least most tally e = refl
+enough-none (bool b) least most tally e = refl
+enough-none (number z) least most tally e = refl
+enough-none (string bytes) least most tally e = refl
+enough-none (array first k) least most tally e = cc
+enough-none (object first k) least most tally e = refl

@@ -81,13 +81,12 @@ branchOf i t e x = let branch = cond (eqb x 1) t e in cond (eqb x 0) i branch
 
 -- whether a clause is cut, where judgements are
 unfoldable pub wayOf : Way → Clause → Way
-wayOf whole c = whole
-wayOf cut (asserts t) = whole
-wayOf cut (inPlace m ss) = wayIn cut m
-wayOf cut (ifThenElse i t e) = whole
-wayOf cut (dependentSchemas es) = whole
-wayOf cut (contains s least most) = whole
-wayOf cut (takes c) = whole
+wayOf w (asserts t) = whole
+wayOf w (inPlace m ss) = wayIn w m
+wayOf w (ifThenElse i t e) = whole
+wayOf w (dependentSchemas es) = whole
+wayOf w (contains s least most) = whole
+wayOf w (takes c) = whole
 
 -- whether it stops by what is carried: of a clause that is cut that is how many of its pairs failed
 unfoldable pub stopsBy : Way → ℕ → Bool

@@ -13,7 +13,7 @@ mod JudgeClause
 mod JudgePair
 use Rattle.judge.proofs.cycle.+apply+judge_clause+judge_pair.Proof.Base.{μ-apply, μ-judge-clause, μ-judge-pair, apply-at, judge-clause-at, judge-pair-at, apply-claims, judge-clause-claims, judge-pair-claims}
 use Rattle.judge.proofs.cycle.+apply+judge_clause+judge_pair.Proof.Apply.{apply-verdict-of-requires, apply-same-length, apply-returns, apply-judge-pair-requires, apply-same-length-2, apply-same-length-3, apply-returns-2}
-use Rattle.judge.proofs.cycle.+apply+judge_clause+judge_pair.Proof.JudgeClause.{judge-clause-Inv-loop, judge-clause-μ-loop, judge-clause-start-requires, judge-clause-loop-holds, judge-clause-turn-requires, judge-clause-finish-requires, judge-clause-same-length, judge-clause-same-length-2, judge-clause-returns, judge-clause-apply-requires, judge-clause-verdict-of-requires, judge-clause-more-requires, judge-clause-give-requires, judge-clause-next-step-requires, judge-clause-loop-less, judge-clause-loop-again}
+use Rattle.judge.proofs.cycle.+apply+judge_clause+judge_pair.Proof.JudgeClause.{judge-clause-Inv-loop, judge-clause-μ-loop, judge-clause-start-requires, judge-clause-loop-holds, judge-clause-turn-requires, judge-clause-finish-requires, judge-clause-same-length, judge-clause-same-length-2, judge-clause-returns, judge-clause-apply-requires, judge-clause-verdict-of-requires, judge-clause-moved-requires, judge-clause-give-requires, judge-clause-next-step-requires, judge-clause-loop-less, judge-clause-loop-again}
 use Rattle.judge.proofs.cycle.+apply+judge_clause+judge_pair.Proof.JudgePair.{judge-pair-Inv-loop, judge-pair-μ-loop, judge-pair-element-copy-out-clauses-of, judge-pair-clauses-of-requires, judge-pair-loop-holds, judge-pair-tried-requires, judge-pair-enum-known-so, judge-pair-enum-told, judge-pair-judge-clause-requires, judge-pair-next-clause-requires, judge-pair-loop-less, judge-pair-loop-again, judge-pair-shut-requires, judge-pair-schemas-of-requires, judge-pair-settle-requires, judge-pair-same-length, judge-pair-same-length-2, judge-pair-returns}
 
 pub +apply+judge-clause+judge-pair-spec : {M : Type 1} → statement M
@@ -40,7 +40,7 @@ pub +apply+judge-clause+judge-pair-spec : {M : Type 1} → statement M
     (judge-clause-returns t)
     (judge-clause-apply-requires t)
     (judge-clause-verdict-of-requires t)
-    (judge-clause-more-requires t)
+    (judge-clause-moved-requires t)
     (judge-clause-give-requires t)
     (judge-clause-next-step-requires t)
     (judge-clause-loop-less t)

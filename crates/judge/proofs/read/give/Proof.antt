@@ -34,11 +34,11 @@ same-length c =
 
 returns : tie.Need-returns
 returns c =
-    let T = lentCase (c .before .before .before .before .before .before .before .before .before .before .args .sheets .now) (c .before .before .before .before .before .before .before .before .before .before .args .texts .now) in let p = pairIs (c .before .before .before .before .before .before .before .before .before .before .args .p) in let q = pairIs (c .before .before .before .before .before .before .before .before .before .before .args .q) in gives-all (T .m) (firstKid T p) (kidCount T p) (p .rule) (p .row) (q .row) (q .rule) (c .before .before .before .before .before .before .before .before .before .before .args .keeps) (c .before .before .before .before .before .before .before .before .before .before .args .cells .now) (c .before .before .before .before .before .before .before .before .if1 .taken) (rw (c .before .before .before .schemas-of .ensures ∙ schemas-lent (c .before .before .before .before .before .before .before .before .before .before .pre .0 .all), c .before .before .before .before .before .children-of .ensures .first-is (lent (c .before .before .before .before .before .before .before .before .before .before .args .texts .now) 0), c .before .before .before .before .before .children-of .ensures .count-is (lent (c .before .before .before .before .before .before .before .before .before .before .args .texts .now) 0)) at (c .before .before .hand-on .ensures))
+    let T = lentCase (c .before .before .before .before .before .before .before .before .before .before .args .sheets .now) (c .before .before .before .before .before .before .before .before .before .before .args .texts .now) (c .before .before .before .before .before .before .before .before .before .before .args .forms .now) in let p = pairIs (c .before .before .before .before .before .before .before .before .before .before .args .p) in let q = pairIs (c .before .before .before .before .before .before .before .before .before .before .args .q) in gives-all (T .m) (firstKid T p) (kidCount T p) (p .rule) (p .row) (q .row) (q .rule) (c .before .before .before .before .before .before .before .before .before .before .args .keeps) (c .before .before .before .before .before .before .before .before .before .before .args .cells .now) (c .before .before .before .before .before .before .before .before .if1 .taken) (rw (c .before .before .before .schemas-of .ensures ∙ schemas-lent (c .before .before .before .before .before .before .before .before .before .before .pre .0 .all), c .before .before .before .before .before .children-of .ensures .first-is (lent (c .before .before .before .before .before .before .before .before .before .before .args .texts .now) 0), c .before .before .before .before .before .children-of .ensures .count-is (lent (c .before .before .before .before .before .before .before .before .before .before .args .texts .now) 0)) at (c .before .before .hand-on .ensures))
 
 returns-2 : tie.Need-returns-2
 returns-2 c =
-    let T = lentCase (c .before .before .args .sheets .now) (c .before .before .args .texts .now) in let p = pairIs (c .before .before .args .p) in let q = pairIs (c .before .before .args .q) in gives-none (T .m) (firstKid T p) (kidCount T p) (p .rule) (p .row) (q .row) (q .rule) (c .before .before .args .keeps) (c .before .before .args .cells .now) (c .if1 .left)
+    let T = lentCase (c .before .before .args .sheets .now) (c .before .before .args .texts .now) (c .before .before .args .forms .now) in let p = pairIs (c .before .before .args .p) in let q = pairIs (c .before .before .args .q) in gives-none (T .m) (firstKid T p) (kidCount T p) (p .rule) (p .row) (q .row) (q .rule) (c .before .before .args .keeps) (c .before .before .args .cells .now) (c .if1 .left)
 
 pub give-spec : {M : Type 1} → statement M
 give-spec =

@@ -19,7 +19,7 @@ use Rattle.areas.proofs.settle.Reads as settle-reads
 use Rattle.judge.proofs.read.clauses_of.Reads as clauses-of-reads
 use Rattle.judge.proofs.read.finish.Reads as finish-reads
 use Rattle.judge.proofs.read.give.Reads as give-reads
-use Rattle.judge.proofs.read.more.Reads as more-reads
+use Rattle.judge.proofs.read.moved.Reads as moved-reads
 use Rattle.judge.proofs.read.next_clause.Reads as next-clause-reads
 use Rattle.judge.proofs.read.next_step.Reads as next-step-reads
 use Rattle.judge.proofs.read.schemas_of.Reads as schemas-of-reads
@@ -71,7 +71,7 @@ abbrev pub apply-claims : ℕ → apply-lts.Claims
 apply-claims t = (verdict-of-reads.Asked, verdict-of-reads.Learnt, judge-pair-below t, judge-pair.Post)
 
 abbrev pub judge-clause-claims : ℕ → judge-clause-lts.Claims
-judge-clause-claims t = (start-reads.Asked, start-reads.Learnt, turn-reads.Asked, turn-reads.Learnt, finish-reads.Asked, finish-reads.Learnt, apply-below t, apply.Post, verdict-of-reads.Asked, verdict-of-reads.Learnt, more-reads.Asked, more-reads.Learnt, give-reads.Asked, give-reads.Learnt, next-step-reads.Asked, next-step-reads.Learnt)
+judge-clause-claims t = (start-reads.Asked, start-reads.Learnt, turn-reads.Asked, turn-reads.Learnt, finish-reads.Asked, finish-reads.Learnt, apply-below t, apply.Post, verdict-of-reads.Asked, verdict-of-reads.Learnt, moved-reads.Asked, moved-reads.Learnt, give-reads.Asked, give-reads.Learnt, next-step-reads.Asked, next-step-reads.Learnt)
 
 abbrev pub judge-pair-claims : ℕ → judge-pair-lts.Claims
 judge-pair-claims t = (clauses-of-reads.Asked, clauses-of-reads.Learnt, tried-reads.Asked, tried-reads.Learnt, judge-clause-below t, judge-clause.Post, next-clause-reads.Asked, next-clause-reads.Learnt, shut-reads.Asked, shut-reads.Learnt, schemas-of-reads.Asked, schemas-of-reads.Learnt, settle-reads.Asked, settle-reads.Learnt)

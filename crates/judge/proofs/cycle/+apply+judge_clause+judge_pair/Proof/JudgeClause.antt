@@ -8,7 +8,7 @@ use Rattle.areas.specs.Cells.{pairIs}
 use Rattle.judge.specs.State.{lentCase, WhereDone}
 use Rattle.judge.proofs.Claused.{cells-kept, list-kept}
 use Rattle.judge.proofs.Going.{many}
-use Rattle.judge.proofs.Turning.{Standing, standing-first, standing-asks, standing-turn, turning-low, turning-ahead, turning-aim, turning-ready, turning-cell, turning-hands, turning-more, turning-few, turning-end}
+use Rattle.judge.proofs.Turning.{Standing, standing-first, standing-asks, standing-turn, turning-low, turning-ahead, turning-aim, turning-ready, turning-cell, turning-hands, turning-more, turning-end}
 use Rattle.judge.proofs.Reading.{clause-has, schemas-lent, reads-by, reads-clause, falls-by}
 use Prim.Native.Nat.{ℕ}
 use borrow.Fn.PlainCycle.{and}
@@ -17,11 +17,11 @@ use Rattle.judge.proofs.cycle.+apply+judge_clause+judge_pair.Lts-judge_
 use Rattle.judge.proofs.cycle.+apply+judge_clause+judge_pair.Proof.Base.{judge-clause-at, judge-clause-claims}
 
 abbrev pub judge-clause-Inv-loop : judge-clause-lts.InvT-loop
-judge-clause-Inv-loop sheets texts forms cells₀ list₀ count p i from misses₀ now₀ x₀ cells list misses now x =
-    WhereDone (lentCase sheets texts forms) cells₀ list₀ count (λ d. Standing (lentCase sheets texts forms) (pairIs p) i d cells₀ list₀ x cells list now misses)
+judge-clause-Inv-loop sheets texts forms cells₀ list₀ count p i from tally₀ now₀ x₀ cells list tally now x =
+    WhereDone (lentCase sheets texts forms) cells₀ list₀ count (λ d. Standing (lentCase sheets texts forms) (pairIs p) i d cells₀ list₀ x cells list now tally)
 
 abbrev pub judge-clause-μ-loop : judge-clause-lts.MeasureT-loop
-judge-clause-μ-loop sheets texts forms cells₀ list₀ count p i from misses₀ now₀ x₀ cells list misses now x =
+judge-clause-μ-loop sheets texts forms cells₀ list₀ count p i from tally₀ now₀ x₀ cells list tally now x =
     many (lentCase sheets texts forms) (pairIs p) i - x
 
 pub judge-clause-start-requires : (t : ℕ) → judge-clause-lts.Need-start-requires (judge-clause-claims t) (judge-clause-at t) judge-clause.Post judge-clause-Inv-loop judge-clause-μ-loop
@@ -38,7 +38,7 @@ judge-clause-turn-requires t c κs =
 
 pub judge-clause-finish-requires : (t : ℕ) → judge-clause-lts.Need-finish-requires (judge-clause-claims t) (judge-clause-at t) judge-clause.Post judge-clause-Inv-loop judge-clause-μ-loop
 judge-clause-finish-requires t c κs =
-    ((reads-clause (c .before .before .before .before .before .before .before .before .pre .1 .0) (c .before .before .before .before .before .before .before .before .pre .1 .1 .0 .inside) (c .before .before .before .before .before .before .before .before .pre .1 .1 .1 .1 .0), c .before .before .before .before .before .before .before .before .pre .1 .1 .1 .1 .1), turning-few (standing-turn (c .before .before .before .before .loop .inv (c .before .before .before .before .before .before .before .before .pre .1 .1 .0 .done) (c .before .before .before .before .before .before .before .before .pre .1 .1 .0 .areas)) (c .before .before .turn .ensures)) (not-true _ (c .if1 .taken)))
+    (reads-clause (c .before .before .before .before .before .before .before .before .pre .1 .0) (c .before .before .before .before .before .before .before .before .pre .1 .1 .0 .inside) (c .before .before .before .before .before .before .before .before .pre .1 .1 .1 .1 .0), c .before .before .before .before .before .before .before .before .pre .1 .1 .1 .1 .1)
 
 pub judge-clause-same-length : (t : ℕ) → judge-clause-lts.Need-same-length (judge-clause-claims t) (judge-clause-at t) judge-clause.Post judge-clause-Inv-loop judge-clause-μ-loop
 judge-clause-same-length t c =
@@ -63,8 +63,8 @@ pub judge-clause-verdict-of-requires : (t : ℕ) → judge-clause-lts.Need-verdi
 judge-clause-verdict-of-requires t c κs =
     rw (schemas-lent (c .before .before .before .before .before .before .before .before .before .before .before .before .before .before .before .before .pre .1 .0)) (turning-cell (standing-turn (c .before .before .before .before .before .before .before .before .before .before .before .before .loop .inv (c .before .before .before .before .before .before .before .before .before .before .before .before .before .before .before .before .pre .1 .1 .0 .done) (c .before .before .before .before .before .before .before .before .before .before .before .before .before .before .before .before .pre .1 .1 .0 .areas)) (c .before .before .before .before .before .before .before .before .before .before .turn .ensures)) (not-false _ (c .before .before .before .before .before .before .before .before .if1 .left)) (clause-has (c .before .before .before .before .before .before .before .before .before .before .before .before .before .before .before .before .pre .1 .0 .sheets) (c .before .before .before .before .before .before .before .before .before .before .before .before .before .before .before .before .pre .1 .1 .0 .inside) (c .before .before .before .before .before .before .before .before .before .before .before .before .before .before .before .before .pre .1 .1 .1 .1 .0)) (c .before .before .before .before .before .apply .ensures))
 
-pub judge-clause-more-requires : (t : ℕ) → judge-clause-lts.Need-more-requires (judge-clause-claims t) (judge-clause-at t) judge-clause.Post judge-clause-Inv-loop judge-clause-μ-loop
-judge-clause-more-requires t c κs =
+pub judge-clause-moved-requires : (t : ℕ) → judge-clause-lts.Need-moved-requires (judge-clause-claims t) (judge-clause-at t) judge-clause.Post judge-clause-Inv-loop judge-clause-μ-loop
+judge-clause-moved-requires t c κs =
     let h = turning-low (standing-turn (c .before .before .before .before .before .before .before .before .before .before .before .before .before .loop .inv (c .before .before .before .before .before .before .before .before .before .before .before .before .before .before .before .before .before .pre .1 .1 .0 .done) (c .before .before .before .before .before .before .before .before .before .before .before .before .before .before .before .before .before .pre .1 .1 .0 .areas)) (c .before .before .before .before .before .before .before .before .before .before .before .turn .ensures)) (not-false _ (c .before .before .before .before .before .before .before .before .before .if1 .left)) in
     omega (arith, h .0, h .1)
 
@@ -85,7 +85,7 @@ judge-clause-loop-less t c =
     let go = not-false _ (c .before .before .before .before .before .before .before .before .before .before .before .before .before .before .before .if1 .left) in
     let W = standing-turn (c .before .before .before .before .before .before .before .before .before .before .before .before .before .before .before .before .before .before .before .loop .inv (R .done) (R .areas)) (c .before .before .before .before .before .before .before .before .before .before .before .before .before .before .before .before .before .turn .ensures) in
     let ahead = c .before .before .before .before .before .before .before .before .before .before .before .before .before .before .before .before .before .turn .ensures .goes go .ahead in
-    let next = turning-ahead W go (c .before .before .before .before .before .more .result) (c .next-step .ensures) in
+    let next = turning-ahead W go (c .before .before .before .before .before .moved .result) (c .next-step .ensures) in
     omega (arith, next .0, next .1)
 
 pub judge-clause-loop-again : (t : ℕ) → judge-clause-lts.Need-loop-again (judge-clause-claims t) (judge-clause-at t) judge-clause.Post judge-clause-Inv-loop judge-clause-μ-loop
@@ -93,4 +93,4 @@ judge-clause-loop-again t c =
     let start = c .before .before .before .before .before .before .before .before .before .before .before .before .before .before .before .before .before .before .before .before .before .before .before in
     let has = clause-has (start .pre .1 .0 .sheets) (start .pre .1 .1 .0 .inside) (start .pre .1 .1 .1 .1 .0) in
     λ d A.
-    turning-more (standing-turn (c .before .before .before .before .before .before .before .before .before .before .before .before .before .before .before .before .before .before .before .loop .inv d A) (c .before .before .before .before .before .before .before .before .before .before .before .before .before .before .before .before .before .turn .ensures)) (not-false _ (c .before .before .before .before .before .before .before .before .before .before .before .before .before .before .before .if1 .left)) has (c .before .before .before .before .before .before .before .before .before .before .before .before .apply .ensures) (rw (schemas-lent (start .pre .1 .0)) at (c .before .before .before .before .before .before .verdict-of .ensures)) (c .before .before .before .before .before .more .ensures) (c .before .before .before .give .ensures) (c .next-step .ensures)
+    turning-more (standing-turn (c .before .before .before .before .before .before .before .before .before .before .before .before .before .before .before .before .before .before .before .loop .inv d A) (c .before .before .before .before .before .before .before .before .before .before .before .before .before .before .before .before .before .turn .ensures)) (not-false _ (c .before .before .before .before .before .before .before .before .before .before .before .before .before .before .before .if1 .left)) has (c .before .before .before .before .before .before .before .before .before .before .before .before .apply .ensures) (rw (schemas-lent (start .pre .1 .0)) at (c .before .before .before .before .before .before .verdict-of .ensures)) (c .before .before .before .before .before .moved .ensures) (c .before .before .before .give .ensures) (c .next-step .ensures)

@@ -30,9 +30,6 @@ guarded-requires-4 c κs = search needs
 guarded-requires-5 : tie.Need-guarded-requires-5
 guarded-requires-5 c κs = search needs
 
-exactly-requires : tie.Need-exactly-requires
-exactly-requires c κs = search needs
-
 in-place-requires : tie.Need-in-place-requires
 in-place-requires c κs = search needs
 
@@ -41,9 +38,6 @@ guarded-requires-6 c κs = search needs
 
 guarded-requires-7 : tie.Need-guarded-requires-7
 guarded-requires-7 c κs = search needs
-
-exactly-requires-2 : tie.Need-exactly-requires-2
-exactly-requires-2 c κs = search needs
 
 guarded-requires-8 : tie.Need-guarded-requires-8
 guarded-requires-8 c κs = search needs
@@ -54,14 +48,28 @@ guarded-requires-9 c κs = search needs
 in-place-requires-2 : tie.Need-in-place-requires-2
 in-place-requires-2 c κs = search needs
 
-in-place-requires-3 : tie.Need-in-place-requires-3
-in-place-requires-3 c κs = search needs
+seldom-requires : tie.Need-seldom-requires
+seldom-requires c κs =
+    λ f36 f37 f45.
+    let s = c .before .before in
+    let code = s .args .code in
+    let r = c .before .match .rest in
+    let none : lineIn codes code ≡ unknown =
+    ⊎-elim
+    (λ w. below-ten code (w .1 .taken) (r .0 .0 .0 .0 .0 .0 .0 .1) (r .0 .0 .0 .0 .0 .0 .1) (r .0 .0 .0 .0 .0 .1))
+    (⊎-elim
+    (λ w. past-fourteen code (w .2 .left) (w .3 .taken) (r .0 .0 .0 .0 .1))
+    (⊎-elim
+    (λ w. past-twenty-six code (w .4 .left) (w .0 .taken) (r .0 .0 .0 .1))
+    (⊎-elim
+    (λ w. past-thirty-four code (w .2 .left) (w .3 .taken) f36 f37 (r .0 .0 .1) (λ e. r .0 .1 (inl e)) (r .1) (λ e. r .0 .1 (inr e)) f45)
+    (λ w. past-sixty-one code (w .4 .left) (s .fits .code .fits)))))
+    (c .if1 .came)
+    in
+    ap (λ (l : CodeLine). l .shape) none
 
 guarded-requires-10 : tie.Need-guarded-requires-10
 guarded-requires-10 c κs = search needs
-
-guarded-requires-11 : tie.Need-guarded-requires-11
-guarded-requires-11 c κs = search needs
 
 returns : tie.Need-returns
 unfolding lineIn
@@ -85,69 +93,41 @@ returns-5 c = rw (c .before .match .keys5) (c .guarded5 .ensures)
 
 returns-6 : tie.Need-returns-6
 unfolding lineIn
-returns-6 c = rw (c .before .match .keys6) (c .exactly .ensures)
+returns-6 c = rw (c .before .match .keys6) (c .guarded6 .ensures)
 
 returns-7 : tie.Need-returns-7
 unfolding lineIn
-returns-7 c = rw (c .before .match .keys7) (c .in-place .ensures)
+returns-7 c = rw (c .before .match .keys8) (c .guarded7 .ensures)
 
 returns-8 : tie.Need-returns-8
-unfolding lineIn
-returns-8 c = rw (c .before .match .keys8) (c .guarded6 .ensures)
+unfolding lineIn Each
+returns-8 c = c .guarded8 .ensures ∙ sym (each-at (Shaped (guardedShape Number 0)) 4 10 (c .before .before .before .before .before .args .code) (refl, (refl, (refl, (refl, tt)))) (omega arith) (omega arith))
 
 returns-9 : tie.Need-returns-9
-unfolding lineIn
-returns-9 c = rw (c .before .match .keys10) (c .guarded7 .ensures)
+unfolding lineIn Each
+returns-9 c = c .guarded9 .ensures ∙ sym (each-at (Shaped (guardedShape Limit 0)) 6 20 (c .before .before .before .before .before .before .before .args .code) (refl, (refl, (refl, (refl, (refl, (refl, tt)))))) (omega arith) (omega arith))
 
 returns-10 : tie.Need-returns-10
-unfolding lineIn
-returns-10 c = rw (c .before .match .keys11) (c .exactly2 .ensures)
+unfolding lineIn Each
+returns-10 c = c .in-place .ensures ∙ sym (each-at (Shaped (inPlaceShape Schemas 1)) 3 30 (c .before .before .before .before .args .code) (refl, (refl, (refl, tt))) (omega arith) (omega arith))
 
 returns-11 : tie.Need-returns-11
 unfolding lineIn Each
-returns-11 c = c .guarded8 .ensures ∙ sym (each-at (Shaped (guardedShape Number 0)) 4 10 (c .before .before .before .before .before .args .code) (refl, (refl, (refl, (refl, tt)))) (omega arith) (omega arith))
+returns-11 c = c .in-place2 .ensures ∙ sym (each-at (Shaped (inPlaceShape Schema 0)) 2 33 (c .before .before .before .before .before .args .code) (refl, (refl, tt)) (omega arith) (omega arith))
 
 returns-12 : tie.Need-returns-12
-unfolding lineIn Each
-returns-12 c = c .guarded9 .ensures ∙ sym (each-at (Shaped (guardedShape Limit 0)) 6 20 (c .before .before .before .before .before .before .before .args .code) (refl, (refl, (refl, (refl, (refl, (refl, tt)))))) (omega arith) (omega arith))
+returns-12 c = c .seldom .ensures
 
 returns-13 : tie.Need-returns-13
 unfolding lineIn Each
-returns-13 c = c .in-place2 .ensures ∙ sym (each-at (Shaped (inPlaceShape Schemas 1)) 3 30 (c .before .before .before .before .args .code) (refl, (refl, (refl, tt))) (omega arith) (omega arith))
-
-returns-14 : tie.Need-returns-14
-unfolding lineIn Each
-returns-14 c = c .in-place3 .ensures ∙ sym (each-at (Shaped (inPlaceShape Schema 0)) 2 33 (c .before .before .before .before .before .args .code) (refl, (refl, tt)) (omega arith) (omega arith))
-
-returns-15 : tie.Need-returns-15
-returns-15 c =
-    let s = c .before .before .before in
-    let code = s .args .code in
-    let r = c .before .before .match .rest in
-    let none : lineIn codes code ≡ unknown =
-    ⊎-elim
-    (λ w. below-ten code (w .1 .taken) (r .0 .0 .0 .0 .0 .0 .0 .0 .0 .0 .1) (r .0 .0 .0 .0 .0 .0 .0 .0 .0 .1) (r .0 .0 .0 .0 .0 .0 .0 .0 .1))
-    (⊎-elim
-    (λ w. past-fourteen code (w .2 .left) (w .3 .taken) (r .0 .0 .0 .0 .0 .0 .0 .1))
-    (⊎-elim
-    (λ w. past-twenty-six code (w .4 .left) (w .0 .taken) (r .0 .0 .0 .0 .0 .0 .1))
-    (⊎-elim
-    (λ w. past-thirty-four code (w .2 .left) (w .3 .taken) (r .0 .0 .0 .0 .0 .1) (r .0 .0 .0 .0 .1) (r .0 .0 .0 .1) (λ e. r .0 .0 .1 (inl e)) (r .0 .1) (λ e. r .0 .0 .1 (inr e)) (r .1))
-    (λ w. past-sixty-one code (w .4 .left) (s .fits .code .fits)))))
-    (c .before .if1 .came)
-    in
-    c .guarded10 .ensures ∙ sym (ap (λ (l : CodeLine). l .shape) none)
-
-returns-16 : tie.Need-returns-16
-unfolding lineIn Each
-returns-16 c =
+returns-13 c =
     let code = c .before .before .args .code in
     let is : shapeOf code ≡ guardedShape Schema 0 =
-    ⊎-elim (λ w. ⊎-elim (λ e. rw e) (λ e. rw e) (w .keys9))
+    ⊎-elim (λ w. ⊎-elim (λ e. rw e) (λ e. rw e) (w .keys7))
     (λ w. each-at (Shaped (guardedShape Schema 0)) 2 60 code (refl, (refl, tt)) (w .4 .left) (w .5 .taken))
     (c .before .match .came)
     in
-    c .guarded11 .ensures ∙ sym is
+    c .guarded10 .ensures ∙ sym is
 
 pub of-spec : {M : Type 1} → statement M
 of-spec =
@@ -158,17 +138,14 @@ of-spec =
     guarded-requires-3
     guarded-requires-4
     guarded-requires-5
-    exactly-requires
-    in-place-requires
     guarded-requires-6
     guarded-requires-7
-    exactly-requires-2
     guarded-requires-8
     guarded-requires-9
+    in-place-requires
     in-place-requires-2
-    in-place-requires-3
+    seldom-requires
     guarded-requires-10
-    guarded-requires-11
     returns
     returns-2
     returns-3
@@ -181,7 +158,4 @@ of-spec =
     returns-10
     returns-11
     returns-12
-    returns-13
-    returns-14
-    returns-15
-    returns-16)
+    returns-13)
