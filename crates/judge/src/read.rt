@@ -6,7 +6,7 @@
 // The contracts cite `specs/State.antt`.
 ghost use mathlib.Core.Path.{_≡_};
 ghost use mathlib.Core.Bool.{cond};
-ghost use Prim.Native.Nat.{_+_, _<_};
+ghost use Prim.Native.Nat.{_+_, _≤_, _<_};
 ghost use lib.ListN.{length, getD};
 ghost use Rattle.rulesheet.specs.Read.{RulesFormed};
 ghost use Rattle.rulesheet.specs.Sheet.{schemaAt};

@@ -146,8 +146,7 @@ module _ (D : Doc) (R : Ruleset) where
         each-steps whole _
         (every-map (λ q (t : Taken D p (s ∷ []) q). descends (contains s least most) i (t .schema) (t .child)) (elements-taken D p s))
     clause-steps before κ (takes c) i =
-        each-steps whole _
-        (every-map (λ q (t : Taken D p (guarded c) q). descends (takes c) i (t .schema) (t .child)) (taken-steps D p before κ c))
+        each-steps whole _ (every-map (λ q (t : Taken D p (guarded c) q). descends (takes c) i (t .schema) (t .child)) (taken-steps D p before κ c))
 
     clauses-steps : (before : List Clause) (r : Result) (cs : List Clause) → ((c : Clause) → In c cs → In c (R .clauses (p .rule)))
         → Every (Step p) (applied sub (clauses D w p before r cs))

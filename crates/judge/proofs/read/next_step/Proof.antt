@@ -20,7 +20,7 @@ add-result c = search needs
 returns : tie.Need-returns
 returns c =
     let start = c .before .before in
-    sym (ap (λ b. cond b (afterMiss (clauseAt (lentCase (start .args .sheets .now) (start .args .texts .now) (start .args .forms .now)) (pairIs (start .args .p)) (start .args .i)) (start .args .step)) (start .args .step + 1)) (goes-stops (wayLent (start .args .forms .now)) (start .args .misses) (c .before .goes-on .ensures) ∙ ap not (c .if1 .taken)))
+    sym (ap (λ b. cond b (afterMiss (clauseAt (lentCase (start .args .sheets .now) (start .args .texts .now) (start .args .forms .now)) (pairIs (start .args .p)) (start .args .i)) (start .args .step)) (start .args .step + 1)) (goes-stops (wayLent (start .args .forms .now)) (start .args .tally) (c .before .goes-on .ensures) ∙ ap not (c .if1 .taken)))
 
 rules-form-requires : tie.Need-rules-form-requires
 rules-form-requires c κs = forms-fit (c .before .before .pre .0 .reads .all)
@@ -41,7 +41,7 @@ returns-2 : tie.Need-returns-2
 returns-2 c =
     let start = c .before .before .before .before .before .before in
     c .after-miss .ensures
-    ∙ sym (ap (λ b. cond b (afterMiss (clauseAt (lentCase (start .args .sheets .now) (start .args .texts .now) (start .args .forms .now)) (pairIs (start .args .p)) (start .args .i)) (start .args .step)) (start .args .step + 1)) (goes-stops (wayLent (start .args .forms .now)) (start .args .misses) (c .before .before .before .before .before .goes-on .ensures) ∙ ap not (c .before .before .before .before .if1 .left)))
+    ∙ sym (ap (λ b. cond b (afterMiss (clauseAt (lentCase (start .args .sheets .now) (start .args .texts .now) (start .args .forms .now)) (pairIs (start .args .p)) (start .args .i)) (start .args .step)) (start .args .step + 1)) (goes-stops (wayLent (start .args .forms .now)) (start .args .tally) (c .before .before .before .before .before .goes-on .ensures) ∙ ap not (c .before .before .before .before .if1 .left)))
 
 pub next-step-spec : {M : Type 1} → statement M
 next-step-spec =

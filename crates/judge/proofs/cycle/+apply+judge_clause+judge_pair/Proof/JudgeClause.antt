@@ -70,27 +70,27 @@ judge-clause-moved-requires t c κs =
 
 pub judge-clause-give-requires : (t : ℕ) → judge-clause-lts.Need-give-requires (judge-clause-claims t) (judge-clause-at t) judge-clause.Post judge-clause-Inv-loop judge-clause-μ-loop
 judge-clause-give-requires t c κs =
-    (reads-by (c .before .before .before .before .before .before .before .before .before .before .before .before .before .before .before .before .before .before .before .pre .1 .0) (c .before .before .before .before .before .before .before .before .before .before .before .before .before .before .before .before .before .before .before .pre .1 .1 .0 .inside), turning-hands (standing-turn (c .before .before .before .before .before .before .before .before .before .before .before .before .before .before .before .loop .inv (c .before .before .before .before .before .before .before .before .before .before .before .before .before .before .before .before .before .before .before .pre .1 .1 .0 .done) (c .before .before .before .before .before .before .before .before .before .before .before .before .before .before .before .before .before .before .before .pre .1 .1 .0 .areas)) (c .before .before .before .before .before .before .before .before .before .before .before .before .before .turn .ensures)) (not-false _ (c .before .before .before .before .before .before .before .before .before .before .before .if1 .left)) (clause-has (c .before .before .before .before .before .before .before .before .before .before .before .before .before .before .before .before .before .before .before .pre .1 .0 .sheets) (c .before .before .before .before .before .before .before .before .before .before .before .before .before .before .before .before .before .before .before .pre .1 .1 .0 .inside) (c .before .before .before .before .before .before .before .before .before .before .before .before .before .before .before .before .before .before .before .pre .1 .1 .1 .1 .0)) (c .before .before .before .before .before .before .before .before .apply .ensures))
+    (reads-by (c .before .before .before .before .before .before .before .before .before .before .before .before .before .before .before .before .before .before .before .before .pre .1 .0) (c .before .before .before .before .before .before .before .before .before .before .before .before .before .before .before .before .before .before .before .before .pre .1 .1 .0 .inside), turning-hands (standing-turn (c .before .before .before .before .before .before .before .before .before .before .before .before .before .before .before .before .loop .inv (c .before .before .before .before .before .before .before .before .before .before .before .before .before .before .before .before .before .before .before .before .pre .1 .1 .0 .done) (c .before .before .before .before .before .before .before .before .before .before .before .before .before .before .before .before .before .before .before .before .pre .1 .1 .0 .areas)) (c .before .before .before .before .before .before .before .before .before .before .before .before .before .before .turn .ensures)) (not-false _ (c .before .before .before .before .before .before .before .before .before .before .before .before .if1 .left)) (clause-has (c .before .before .before .before .before .before .before .before .before .before .before .before .before .before .before .before .before .before .before .before .pre .1 .0 .sheets) (c .before .before .before .before .before .before .before .before .before .before .before .before .before .before .before .before .before .before .before .before .pre .1 .1 .0 .inside) (c .before .before .before .before .before .before .before .before .before .before .before .before .before .before .before .before .before .before .before .before .pre .1 .1 .1 .1 .0)) (c .before .before .before .before .before .before .before .before .before .apply .ensures))
 
 pub judge-clause-next-step-requires : (t : ℕ) → judge-clause-lts.Need-next-step-requires (judge-clause-claims t) (judge-clause-at t) judge-clause.Post judge-clause-Inv-loop judge-clause-μ-loop
 judge-clause-next-step-requires t c κs =
-    let start = c .before .before .before .before .before .before .before .before .before .before .before .before .before .before .before .before .before .before .before .before .before .before in
+    let start = c .before .before .before .before .before .before .before .before .before .before .before .before .before .before .before .before .before .before .before .before .before .before .before in
     let R = start .pre .1 .1 .0 in
-    let h = turning-low (standing-turn (c .before .before .before .before .before .before .before .before .before .before .before .before .before .before .before .before .before .before .loop .inv (R .done) (R .areas)) (c .before .before .before .before .before .before .before .before .before .before .before .before .before .before .before .before .turn .ensures)) (not-false _ (c .before .before .before .before .before .before .before .before .before .before .before .before .before .before .if1 .left)) in
+    let h = turning-low (standing-turn (c .before .before .before .before .before .before .before .before .before .before .before .before .before .before .before .before .before .before .before .loop .inv (R .done) (R .areas)) (c .before .before .before .before .before .before .before .before .before .before .before .before .before .before .before .before .before .turn .ensures)) (not-false _ (c .before .before .before .before .before .before .before .before .before .before .before .before .before .before .before .if1 .left)) in
     (reads-clause (start .pre .1 .0) (R .inside) (start .pre .1 .1 .1 .1 .0), h .0)
 
 pub judge-clause-loop-less : (t : ℕ) → judge-clause-lts.Need-loop-less (judge-clause-claims t) (judge-clause-at t) judge-clause.Post judge-clause-Inv-loop judge-clause-μ-loop
 judge-clause-loop-less t c =
-    let R = c .before .before .before .before .before .before .before .before .before .before .before .before .before .before .before .before .before .before .before .before .before .before .before .pre .1 .1 .0 in
-    let go = not-false _ (c .before .before .before .before .before .before .before .before .before .before .before .before .before .before .before .if1 .left) in
-    let W = standing-turn (c .before .before .before .before .before .before .before .before .before .before .before .before .before .before .before .before .before .before .before .loop .inv (R .done) (R .areas)) (c .before .before .before .before .before .before .before .before .before .before .before .before .before .before .before .before .before .turn .ensures) in
-    let ahead = c .before .before .before .before .before .before .before .before .before .before .before .before .before .before .before .before .before .turn .ensures .goes go .ahead in
-    let next = turning-ahead W go (c .before .before .before .before .before .moved .result) (c .next-step .ensures) in
+    let R = c .before .before .before .before .before .before .before .before .before .before .before .before .before .before .before .before .before .before .before .before .before .before .before .before .pre .1 .1 .0 in
+    let go = not-false _ (c .before .before .before .before .before .before .before .before .before .before .before .before .before .before .before .before .if1 .left) in
+    let W = standing-turn (c .before .before .before .before .before .before .before .before .before .before .before .before .before .before .before .before .before .before .before .before .loop .inv (R .done) (R .areas)) (c .before .before .before .before .before .before .before .before .before .before .before .before .before .before .before .before .before .before .turn .ensures) in
+    let ahead = c .before .before .before .before .before .before .before .before .before .before .before .before .before .before .before .before .before .before .turn .ensures .goes go .ahead in
+    let next = turning-ahead W go (c .before .before .before .before .before .before .moved .result) (c .next-step .ensures) in
     omega (arith, next .0, next .1)
 
 pub judge-clause-loop-again : (t : ℕ) → judge-clause-lts.Need-loop-again (judge-clause-claims t) (judge-clause-at t) judge-clause.Post judge-clause-Inv-loop judge-clause-μ-loop
 judge-clause-loop-again t c =
-    let start = c .before .before .before .before .before .before .before .before .before .before .before .before .before .before .before .before .before .before .before .before .before .before .before in
+    let start = c .before .before .before .before .before .before .before .before .before .before .before .before .before .before .before .before .before .before .before .before .before .before .before .before in
     let has = clause-has (start .pre .1 .0 .sheets) (start .pre .1 .1 .0 .inside) (start .pre .1 .1 .1 .1 .0) in
     λ d A.
-    turning-more (standing-turn (c .before .before .before .before .before .before .before .before .before .before .before .before .before .before .before .before .before .before .before .loop .inv d A) (c .before .before .before .before .before .before .before .before .before .before .before .before .before .before .before .before .before .turn .ensures)) (not-false _ (c .before .before .before .before .before .before .before .before .before .before .before .before .before .before .before .if1 .left)) has (c .before .before .before .before .before .before .before .before .before .before .before .before .apply .ensures) (rw (schemas-lent (start .pre .1 .0)) at (c .before .before .before .before .before .before .verdict-of .ensures)) (c .before .before .before .before .before .moved .ensures) (c .before .before .before .give .ensures) (c .next-step .ensures)
+    turning-more (standing-turn (c .before .before .before .before .before .before .before .before .before .before .before .before .before .before .before .before .before .before .before .before .loop .inv d A) (c .before .before .before .before .before .before .before .before .before .before .before .before .before .before .before .before .before .before .turn .ensures)) (not-false _ (c .before .before .before .before .before .before .before .before .before .before .before .before .before .before .before .before .if1 .left)) has (c .before .before .before .before .before .before .before .before .before .before .before .before .before .apply .ensures) (rw (schemas-lent (start .pre .1 .0)) at (c .before .before .before .before .before .before .before .verdict-of .ensures)) (c .before .before .before .before .before .before .moved .ensures) (c .before .before .before .give .ensures) (c .next-step .ensures)
