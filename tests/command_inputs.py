@@ -2,6 +2,7 @@
 import json
 import os
 import pty
+import random
 import select
 import subprocess
 import time
@@ -16,8 +17,8 @@ class Inputs:
         self.runs, self.equal, self.write = runs, runs.equal, runs.write
 
     def parts(self):
-        return (self.lines, self.many_lines, self.folders, self.further, self.large, self.progress, self.faults,
-                self.slips)
+        return (self.lines, self.many_lines, self.queues, self.large_records, self.waiting, self.folders, self.further,
+                self.large, self.progress, self.faults, self.slips)
 
     def run(self, *arguments, **settings):
         return self.runs.run(*arguments, **settings)
@@ -56,6 +57,70 @@ class Inputs:
         self.equal('1,000 lines', (len(lines), lines[0].startswith('q.jsonl:1: invalid: /bib: is 0, must be at least 1'),
                                    lines[1:] == ['q.jsonl:%d: valid' % i for i in range(2, 1001)], status, spent < 30),
                    (1000, True, True, 1, True))
+
+    def queues(self):
+        """More records than a queue takes, of all sorts: each is told as it is by itself, in the order of the lines."""
+        self.write('s.json', {'properties': {'bib': {'type': 'integer', 'maximum': 700}}})
+        sorts = (lambda i: ('{"bib":%d}' % i, 'valid') if i <= 700 else
+                           ('{"bib":%d}' % i, 'invalid: /bib: is %d, must be at most 700 (#/properties/bib/maximum)' % i),
+                 lambda i: ('{"bib":"%d"}' % i, 'invalid: /bib: is "%d", must be integer (#/properties/bib/type)' % i),
+                 lambda i: ('[' * 33 + ']' * 33, '/0' * 32 + ': refused (4): more than 32 levels deep'),
+                 lambda i: ('[%d' % i, "column %d: not JSON: expecting ',' delimiter" % (2 + len(str(i)))),
+                 lambda i: ('{"a":%de9}' % (i + 1), '/a: the number %de9 is out of range: at most 9 digits, and 9 places '
+                            'after the point' % (i + 1)))
+        rng = random.Random(3)
+        made = [rng.choice(sorts)(i) if i not in (0, 511, 512, 1023, 1024) else sorts[0](i) for i in range(1300)]
+        self.write('q.jsonl', ''.join(line + '\n' for line, _ in made))
+        ran = subprocess.run([self.runs.command, 'check', 's.json', 'q.jsonl'], cwd=self.runs.files,
+                             stdout=subprocess.PIPE, stderr=subprocess.STDOUT)
+        told = ran.stdout.decode().splitlines()
+        wanted = ['q.jsonl:%d: %s' % (i + 1, said) for i, (_, said) in enumerate(made)]
+        self.equal('1,300 lines of all sorts', next(((a, b) for a, b in zip(told, wanted) if a != b), len(told)), 1300)
+        verdicts = [(line, said) for line, said in made if said == 'valid' or said.startswith('invalid')]
+        for name, lines, status in (('all', made, 2), ('judged', verdicts, 1),
+                                    ('valid', [one for one in verdicts if one[1] == 'valid'], 0)):
+            self.write('q.jsonl', ''.join(line + '\n' for line, _ in lines))
+            self.equal(('-q', name), self.run('check', '-q', 's.json', 'q.jsonl'), ('', '', status))
+        files = [self.write('many/%04d.json' % i, line) for i, (line, _) in enumerate(made[500:1100])]
+        out, err, status = self.run('check', 's.json', 'many')
+        wanted = ['%s: %s' % (file, said if not said.startswith('column') else 'line 1, ' + said)
+                  for file, (_, said) in zip(files, made[500:1100])]
+        self.equal('600 files in a folder', (sorted(out.splitlines() + err.splitlines()) == sorted(wanted), status), (True, 2))
+
+    def large_records(self):
+        """Records of the greatest size, many more than a queue's bytes."""
+        self.write('s.json', {'type': 'array', 'items': {'maxLength': 60}, 'maxItems': 1023})
+        rows = ['x' * 60] * 1023
+        lines = [json.dumps(rows[:-1] + ['y' * (60 + i % 7)]) for i in range(70)]
+        self.write('q.jsonl', '\n'.join(lines))
+        out, err, status = self.run('check', 's.json', 'q.jsonl')
+        verdicts = ['valid' if i % 7 == 0 else 'invalid' for i in range(70)]
+        self.equal('large records', ([line.split(': ')[1] for line in out.splitlines()], err, status), (verdicts, '', 1))
+        self.equal('large records, -q', self.run('check', '-q', 's.json', 'q.jsonl'), ('', '', 1))
+
+    def waiting(self):
+        """What is at hand is told before more is waited for: of lines in a pipe, and of a file before a pipe."""
+        self.write('s.json', {'type': 'null'})
+        self.write('good.json', 'null')
+        pipe = self.runs.files / 'pipe.json'
+        os.mkfifo(pipe)
+        for arguments in (['-l', 's.json', '-'], ['s.json', 'good.json', 'good.json', 'pipe.json']):
+            running = subprocess.Popen([self.runs.command, 'check', *arguments], cwd=self.runs.files,
+                                       stdin=subprocess.PIPE, stdout=subprocess.PIPE)
+            told = b''
+            if '-' in arguments:
+                for sent, lines in ((b'null\n1\nnu', 2), (b'll\n', 1)):
+                    running.stdin.write(sent)
+                    running.stdin.flush()
+                    told += b''.join(line_of(running.stdout) for _ in range(lines))
+                wanted = b'-:1: valid\n-:2: invalid: is 1, must be null (#/type)\n-:3: valid\n'
+            else:
+                told += line_of(running.stdout) + line_of(running.stdout)
+                pipe.write_text('null')
+                wanted = b'good.json: valid\n' * 2 + b'pipe.json: valid\n'
+            running.stdin.close()
+            told += running.stdout.read()
+            self.equal(('waiting', arguments), (told, running.wait()), (wanted, 1 if '-' in arguments else 0))
 
     def folders(self):
         self.write('s.json', {'type': 'null'})
@@ -183,3 +248,11 @@ class Inputs:
         self.equal('format, -q', self.run('check', '-q', 's.json', 'r.json'), ('', '', 1))
         self.equal('format, --strict', self.run('check', '--strict', 's.json', 'r.json'),
                    ('', ''.join('s.json: ' + line for line in told), 2))
+
+
+def line_of(pipe, seconds=30):
+    """The next line, if it comes in time; the pipe has no buffer that could hide it."""
+    line = b''
+    while not line.endswith(b'\n') and select.select([pipe], [], [], seconds)[0]:
+        line += os.read(pipe.fileno(), 1)
+    return line

@@ -3,7 +3,7 @@ import argparse
 import sys
 from collections import Counter
 
-from tools import VERSION, building, explain, inputs, library, refusals, sheets, telling
+from tools import VERSION, building, explain, inputs, library, queues, refusals, sheets, telling
 from tools.fault import CannotJudge, refuse_if_any
 from tools.keywords import slips
 from tools.records import record_of
@@ -106,29 +106,37 @@ def check(options):
 
 def check_records(teller, judge, rules, sources):
     results = Counter()
-    for source in sources:
-        results[check_record(teller, judge, rules, source)] += 1
-        teller.progress.another(results[SOME_INVALID])
+    for queue in queues.queues_in(sources):
+        for one, answer in queues.answered(judge, queue, teller.quiet):
+            results[tell(teller, judge, rules, one, answer)] += 1
+            teller.progress.another(results[SOME_INVALID])
     teller.progress.clear()
     return max(results, default=ALL_VALID)
 
 
-def check_record(teller, judge, rules, source):
+def tell(teller, judge, rules, one, answer):
+    """Tells what came of one of a queue, and gives what that is for the exit status."""
     try:
-        record = record_of(inputs.record_in(source))
-        answer = judge.verdict(record.sheet) if teller.quiet else judge.judge(record.sheet)
-        refusals.refuse_record(answer, record)
+        if one.fault is not None:
+            raise one.fault
+        refusals.refuse_record(answer, one.record)
+        if answer.word == 'valid':
+            teller.valid(one.source)
+            return ALL_VALID
+        if not teller.quiet:
+            tell_causes(teller, judge, rules, one)
+        return SOME_INVALID
     except CannotJudge as fault:
-        teller.record_fault(source, fault)
+        teller.record_fault(one.source, fault)
         return NOT_JUDGED
-    if answer.word == 'valid':
-        teller.valid(source)
-        return ALL_VALID
-    if not teller.quiet:
-        with explain.deep_calls():
-            causes = explain.causes_of(record, rules, answer.cells, teller.most_causes())
-            teller.invalid(source, causes, rules.references)
-    return SOME_INVALID
+
+
+def tell_causes(teller, judge, rules, one):
+    """Judges the record by itself: a queue leaves the cells of its last record only."""
+    cells = judge.judge(one.record.sheet).cells
+    with explain.deep_calls():
+        causes = explain.causes_of(one.record, rules, cells, teller.most_causes())
+        teller.invalid(one.source, causes, rules.references)
 
 
 def bundle(options):

@@ -1,5 +1,6 @@
 """The records that files, lines of files and folders hold, and schema documents; '-' is standard input."""
 import os
+import select
 import sys
 from collections import namedtuple
 from contextlib import contextmanager
@@ -9,9 +10,11 @@ from tools.reading import BYTES_MAX, read_json, read_some, too_long
 
 LINES = ('.jsonl', '.ndjson')       # names of files that hold a record on each line
 NAMES = ('.json',) + LINES          # names of files that a folder is searched for
+PIECE = 1 << 16                     # bytes that are read at once
 
 # data: the bytes of a record, or a CannotJudge; line: its line's number, in a file of lines.
 Source = namedtuple('Source', 'file data line', defaults=(None,))
+WAIT = None                         # in place of a source: the next one may be long in coming
 
 
 def read_document(file):
@@ -34,7 +37,7 @@ def record_in(source):
 
 
 def sources(files, by_lines, but):
-    """The sources in the files and folders; of folders without the files that are schemas."""
+    """The sources in the files and folders, and WAIT; of folders without the files that are schemas."""
     but = {os.path.realpath(file) for file in but}
     for file in files:
         if file != '-' and os.path.isdir(file):
@@ -59,6 +62,8 @@ def in_folder(folder, by_lines, but):
 
 def in_file(file, by_lines):
     """One source, or one for each line that is not blank."""
+    if not os.path.isfile(file):
+        yield WAIT
     try:
         with opened(file) as data:
             if by_lines or file.endswith(LINES):
@@ -70,17 +75,30 @@ def in_file(file, by_lines):
 
 
 def lines_in(file, data):
-    number = 0
-    while True:
-        number += 1
-        line = data.readline(BYTES_MAX + 1)
-        if len(line) > BYTES_MAX:
-            yield Source(file, too_long(), number)
-            return                  # where such a line ends nobody knows
-        if line.strip():
-            yield Source(file, line.rstrip(b'\r\n'), number)
-        elif not line:
-            return
+    number, rest = 0, b''
+    for piece in pieces_in(data):
+        if piece is WAIT:
+            yield WAIT
+            continue
+        *lines, rest = (rest + piece).split(b'\n')
+        for line in lines + [rest] * (len(rest) > BYTES_MAX or not piece):
+            number += 1
+            if len(line) > BYTES_MAX:
+                yield Source(file, too_long(), number)
+                return              # where such a line ends nobody knows
+            if line.strip():
+                yield Source(file, line.rstrip(b'\r'), number)
+
+
+def pieces_in(data):
+    """What is read, up to an empty piece at the end; WAIT before a piece that is not there yet."""
+    piece = WAIT
+    while piece != b'':
+        if not select.select([data], [], [], 0)[0]:
+            yield WAIT
+            select.select([data], [], [])
+        piece = os.read(data.fileno(), PIECE)
+        yield piece
 
 
 @contextmanager

@@ -1,7 +1,7 @@
 """The calls of the proved library, and the only module that knows them: loaded into this process by ctypes, or, on a
 machine that cannot load it, made by a worker process. Both give the same answers.
 
-A judge is asked about rules once, and then about any number of records.
+A judge is asked about rules once, and then about any number of records, in queues or one by one.
 """
 import ctypes
 import struct
@@ -14,6 +14,7 @@ from tools.fault import CannotJudge
 # As include/amphorust.h has them.
 ROWS_MAX, SCHEMAS_MAX, CLAUSES_MAX, ENTRIES_MAX, TEXT_MAX = 1024, 1024, 4096, 4096, 65_535
 ROOM_MAX = ROWS_MAX * SCHEMAS_MAX
+QUEUE_MAX = 512         # records
 CELL_HELD, CELL_FAILED, CELL_MARKED = 1, 2, 4
 
 # word: 'valid' (of rules: in order), 'invalid' or 'refused', then with number and place; cells only of the invalid that
@@ -27,8 +28,29 @@ def answer_in(number, cells):
     if low > 10:
         return Answer('refused', low - 10, high)
     if low > 1:
-        raise CannotJudge('gives an answer that is none: %d' % number, file=building.named(building.LIBRARY))
+        raise no_answer(number)
     return Answer('invalid', cells=cells()) if low == 1 else Answer('valid')
+
+
+def no_answer(number):
+    return CannotJudge('gives an answer that is none: %d' % number, file=building.named(building.LIBRARY))
+
+
+def answers_in(number, numbers, records):
+    """The answers of a queue, without cells: those of its last record alone are left. number is the call's own."""
+    if number != 256 * len(records):
+        raise no_answer(number)         # all are listed as they lie, so that no queue is refused
+    return [answer_in(one, lambda: None) for one in numbers()]
+
+
+def queued(records):
+    """The records' words, texts and listing, as a queue has them."""
+    listing, words, text = [], 0, 0
+    for record in records:
+        count = len(record.words) // 4
+        listing += [words, count, text, len(record.text)]
+        words, text = words + count, text + len(record.text)
+    return sheets.Sheet(b''.join(record.words for record in records), b''.join(record.text for record in records)), listing
 
 
 def opened():
@@ -48,6 +70,7 @@ class Loaded:
         self.call('amphorust_check', sheet)
         self.call('amphorust_judge', sheet * 3)
         self.call('amphorust_verdict', sheet * 2 + sheet[:2])
+        self.call('amphorust_judge_queue', sheet * 4)
         self.cells, self.list = (ctypes.c_uint8 * ROOM_MAX)(), (ctypes.c_uint32 * ROOM_MAX)()
         self.schemas, self.rules = 0, ()
 
@@ -69,9 +92,18 @@ class Loaded:
         number = self.library.amphorust_judge(*lent(record), *self.rules, self.cells, ROOM_MAX, self.list, ROOM_MAX)
         return answer_in(number, lambda: bytes(memoryview(self.cells)[:sheets.rows(record) * self.schemas]))
 
-    def verdict(self, record):
-        """The same without the cells: no more is judged than the verdict needs."""
-        return answer_in(self.library.amphorust_verdict(*lent(record), *self.rules, self.cells, ROOM_MAX), lambda: None)
+    def judge_queue(self, records):
+        """The answers on up to QUEUE_MAX records, without the cells."""
+        (sheet, listing), answers = queued(records), (ctypes.c_uint64 * len(records))()
+        number = self.library.amphorust_judge_queue(
+            *lent(sheet), (ctypes.c_uint32 * len(listing))(*listing), len(listing), *self.rules, self.cells, ROOM_MAX,
+            self.list, ROOM_MAX, answers, len(records))
+        return answers_in(number, lambda: answers, records)
+
+    def verdicts(self, records):
+        """The same, but no more is judged than each verdict needs."""
+        return [answer_in(self.library.amphorust_verdict(*lent(record), *self.rules, self.cells, ROOM_MAX), lambda: None)
+                for record in records]
 
 
 def lent(sheet):
@@ -83,7 +115,7 @@ def lent(sheet):
 class Worker:
     """The library in a process of its own: tools/worker.c says what is written and read."""
 
-    RULES, RECORD, VERDICT = 1, 2, 3
+    RULES, RECORD, VERDICT, QUEUE = 1, 2, 3, 4
 
     def __init__(self):
         try:
@@ -101,17 +133,28 @@ class Worker:
         number = self.asked(self.RECORD, record)
         return answer_in(number, lambda: self.read(sheets.rows(record) * self.schemas))
 
-    def verdict(self, record):
-        return answer_in(self.asked(self.VERDICT, record), lambda: None)
+    def judge_queue(self, records):
+        number = self.asked(self.QUEUE, *queued(records))
+        return answers_in(number, lambda: self.numbers(len(records)), records)
 
-    def asked(self, what, sheet):
+    def verdicts(self, records):
+        """All are asked before the first answer is read: those of a queue fit the pipe."""
+        self.write(b''.join(request(self.VERDICT, record) for record in records))
+        return [answer_in(number, lambda: None) for number in self.numbers(len(records))]
+
+    def asked(self, what, sheet, listing=()):
+        self.write(request(what, sheet, listing))
+        return self.numbers(1)[0]
+
+    def write(self, data):
         try:
-            self.process.stdin.write(struct.pack('<3I', what, len(sheet.words) // 4, len(sheet.text))
-                                     + sheet.words + sheet.text)
+            self.process.stdin.write(data)
             self.process.stdin.flush()
         except OSError:
             raise self.gone()
-        return struct.unpack('<Q', self.read(8))[0]
+
+    def numbers(self, count):
+        return struct.unpack('<%dQ' % count, self.read(8 * count))
 
     def read(self, count):
         data = self.process.stdout.read(count)
@@ -123,3 +166,9 @@ class Worker:
         self.process.stdout.close()
         return CannotJudge('ended with %d and without an answer: build it again, by ./amphorust build'
                            % self.process.wait(), file=building.named(building.WORKER))
+
+
+def request(what, sheet, listing=()):
+    """What the worker reads."""
+    head = [what, len(sheet.words) // 4, len(sheet.text), len(listing) // 4, *listing]
+    return sheets.to_bytes(head) + sheet.words + sheet.text

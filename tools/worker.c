@@ -1,10 +1,13 @@
 /* Makes the library's calls for a command that cannot load the library: for one on a machine that is not x86-64, where
  * an emulator runs this. `tools/library.py` writes requests and reads answers, and is the only one to do so.
  *
- * A request is three words (what, how many words, how many bytes) and then a sheet, its words and its text:
+ * A request is four words (what, how many words, how many bytes, how many records are listed), a listing of four words
+ * a record, and then a sheet, its words and its text:
  *     1  rules: they are kept, and the answer is that of amphorust_check
  *     2  a record: the answer is that of amphorust_judge by the rules kept, and for an invalid record the cells follow
  *     3  a record: the answer is that of amphorust_verdict by the rules kept
+ *     4  a queue: the answer is that of amphorust_judge_queue by the rules kept, and the records' answers follow
+ * Only a queue has a listing.
  * The end of the input ends it, with 0; anything that is no request, with 1. */
 #include "amphorust.h"
 
@@ -12,8 +15,8 @@
 extern long read(int file, void *to, size_t count);
 extern long write(int file, const void *from, size_t count);
 
-#define WORDS_MAX 32768 /* the longest sheet is one of rules: 2 x 1,024 + 3 x 4,096 + 3 x 4,096 + 6 words */
-#define TEXT_MAX 65536
+#define WORDS_MAX (1 << 19) /* of a queue: tools/queues.py ends one with the record that brings it to 1 MiB */
+#define TEXT_MAX (1 << 21)
 
 struct sheet {
     uint32_t words[WORDS_MAX];
@@ -21,7 +24,9 @@ struct sheet {
     size_t words_length, text_length;
 };
 
-static struct sheet rules, record;
+static struct sheet rules, record; /* or a queue's records */
+static uint32_t listing[4 * AMPHORUST_QUEUE_MAX];
+static uint64_t answers[AMPHORUST_QUEUE_MAX];
 static uint8_t cells[AMPHORUST_ROOM_MAX];
 static uint32_t list[AMPHORUST_ROOM_MAX];
 
@@ -87,6 +92,18 @@ static int answer_verdict(const uint32_t *request)
     return give(&answer, sizeof answer);
 }
 
+static int answer_queue(const uint32_t *request)
+{
+    size_t many = request[3];
+    if (many > AMPHORUST_QUEUE_MAX || !take(listing, 4 * many * sizeof listing[0]) || !take_sheet(&record, request))
+        return 0;
+    uint64_t answer = amphorust_judge_queue(record.words, record.words_length, record.text, record.text_length,
+                                            listing, 4 * many, rules.words, rules.words_length, rules.text,
+                                            rules.text_length, cells, AMPHORUST_ROOM_MAX, list, AMPHORUST_ROOM_MAX,
+                                            answers, many);
+    return give(&answer, sizeof answer) && give(answers, amphorust_answered(answer) * sizeof answers[0]);
+}
+
 static int answered(const uint32_t *request)
 {
     switch (request[0]) {
@@ -96,6 +113,8 @@ static int answered(const uint32_t *request)
         return answer_record(request);
     case 3:
         return answer_verdict(request);
+    case 4:
+        return answer_queue(request);
     default:
         return 0;
     }
@@ -103,7 +122,7 @@ static int answered(const uint32_t *request)
 
 int main(void)
 {
-    uint32_t request[3];
+    uint32_t request[4];
     while (take(request, sizeof request)) {
         if (!answered(request))
             return 1;
