@@ -274,13 +274,19 @@ static inline size_t amphorust_room(const uint32_t *record, size_t record_length
  *     26             required                                      entries start, length of a name, 0
  *     30, 31, 32     allOf, anyOf, oneOf                           entries schema, 0, 0
  *     33, 34         not, $ref                                     first: a schema
+ *     36             if, then, else                                three entries schema, 0, 0; an empty schema for
+ *                                                                  a branch that is absent
+ *     37             dependentSchemas                              entries start, length of a name, schema
  *     40             properties                                    entries start, length of a name, schema
  *     42, 44         additionalProperties, items                   first: a schema
  *     43             prefixItems                                   entries schema, 0, 0
+ *     45             contains, minContains, maxContains            one entry schema, least, most; 4,294,967,295 for
+ *                                                                  no most
  *     60, 61         unevaluatedProperties, unevaluatedItems       first: a schema
  *
- * Lists of 3, 30, 31, 32 and 43 have at least one entry. Names and strings of the rules stand in the rule
- * text and are UTF-8. A chain of schemas that reach each other by 30 to 34 has at most 32 and no loop. */
+ * Lists of 3, 30, 31, 32 and 43 have at least one entry, and no name stands twice in one of 26, 37 or 40. Names
+ * and strings of the rules stand in the rule text and are UTF-8. A chain of schemas that reach each other by 30
+ * to 37, by any of their entries, has at most 32 and no loop. */
 
 #ifdef __cplusplus
 }

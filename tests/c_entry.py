@@ -307,6 +307,12 @@ def deep_cases():
         named = second.rules_of([(s, 1) for s in range(31)] + [(31, len(leaf) + 2)],
                                 chain + leaf + [(40, len(entries), 1), (60, 0, 0)], entries + [(0, 1, 0)], b'p')
         yield 'properties' + end, second.record_of(objects, b'p'), b'p', named, b'p'
+        branches = [(s + 1, 0, 0) for s in range(31) for _ in range(3)]
+        leaf = [(3, len(branches), 1) for _ in enum] + tests
+        counted = second.rules_of([(s, 1) for s in range(31)] + [(31, len(leaf) + 1)],
+                                  [(36, 3 * s, 3) for s in range(31)] + leaf + [(45, len(branches + entries), 1)],
+                                  branches + entries + [(0, 0, 2 ** 32 - 1)], b'p')
+        yield 'contains, by conditions' + end, second.record_of(arrays, b'p'), b'p', counted, b'p'
 
 
 def check_stack(results):

@@ -23,15 +23,16 @@ ROOT = EXAMPLES.parent
 class Tests(Runs):
     def parts(self):
         return (self.verdicts, self.bad_records, self.bad_schemas, self.schemas_alone, self.examples,
-                self.documents, self.damaged_relays, self.options, self.verbose, self.ways, self.usage, self.bundles,
-                self.damaged)
+                self.documents, self.damaged_relays, self.options, self.verbose, self.ways, self.conditional_ways,
+                self.usage, self.bundles, self.damaged)
 
     # ---- the tables ----
 
     def verdicts(self):
         failing = [(schema, record, 'invalid: ' + said)
                    for schema, record, said in command_causes.NEAREST + command_causes.CUT]
-        for schema, record, said in command_cases.VERDICTS + failing + command_causes.STRUCTURED:
+        for schema, record, said in (command_cases.VERDICTS + failing + command_causes.CONDITIONS
+                                     + command_causes.STRUCTURED):
             self.write('s.json', schema)
             self.write('r.json', record)
             self.equal((schema, record), self.run('check', 's.json', 'r.json'),
@@ -166,6 +167,14 @@ class Tests(Runs):
             '  /junction/km: is -61.7, must be at least 0 (#/$defs/junction/properties/km/minimum)\n'
             '  /junction/altitude: is 2516.5, must be integer (#/$defs/junction/properties/altitude/type)\n'
             '%s: valid\n' % (queue, EXAMPLES / 'passage.json'), 1))
+        self.write('s.json', {'if': {'required': ['a']}, 'then': {
+            'anyOf': [{'required': ['b']}, {'dependentRequired': {'a': ['c', 'd']}}], 'type': 'array'}})
+        self.equal('-v of a condition', self.run('check', '-v', 's.json', self.write('r.json', '{"a":1}')), (
+            'r.json: invalid\n'
+            '  is {"a":1}, must be array (#/then/type), since #/if holds\n'
+            '  fits none of 2 (#/then/anyOf), since #/if holds, the nearest is 0\n'
+            '    0: missing "b" (#/then/anyOf/0/required)\n'
+            '    1: missing "c", "d" (#/then/anyOf/1/dependentRequired), since /a is there\n', '', 1))
         self.write('s.json', command_cases.chain(31, lambda i: {'anyOf': [command_cases.to(i)] * 2}))
         out, _, status = self.run('check', '-v', 's.json', self.write('r.json', '5'))
         self.equal('-v of a chain of choices', (out.count('\n'), out.count('as above'), status), (64, 30, 1))
@@ -191,6 +200,18 @@ class Tests(Runs):
                     for unit in json.loads(out).get('errors', [])]
             self.equal(('the ways', identity), (told, err, status), (wanted, '', 1))
 
+    def conditional_ways(self):
+        """The same through branches, names and counts, whose conditions stand in the error."""
+        self.write('s.json', {'if': True, 'then': {'$ref': '#/$defs/list'}, 'dependentRequired': {'a': ['b']}, '$defs': {
+            'list': {'properties': {'c': {'contains': {'type': 'null'}, 'minContains': 2}}, 'dependentSchemas': {'c': False}}}})
+        out, err, status = self.run('check', '--json', 's.json', self.write('r.json', '{"a":1,"c":[null]}'))
+        told = [(unit['instanceLocation'], unit['keywordLocation'], unit['error']) for unit in json.loads(out)['errors']]
+        self.equal('the ways of conditions', (told, err, status), ([
+            ('', '/then/$ref/dependentSchemas/c', 'not allowed here, since /c is there'),
+            ('/c', '/then/$ref/properties/c/minContains',
+             'has 1 item that fits contains, must have at least 2, since #/if holds'),
+            ('', '/dependentRequired', 'missing "b", since /a is there')], '', 1))
+
     def usage(self):
         for arguments, said in (([], 'the following arguments are required: COMMAND'),
                                 (['chek', 'a', 'b'], "argument COMMAND: invalid choice: 'chek'"),
@@ -209,14 +230,19 @@ class Tests(Runs):
 
     def bundles(self):
         """The bundle of rules A and {"p":7} is that of paper 01's first sample, word for word; references that stand
-        alone leave nothing in it."""
+        alone leave nothing in it. The entries of conditions and counts are as request #106 of paper 02 has them."""
         plain = {'properties': {'p': {'type': 'integer'}}, 'unevaluatedProperties': False}
         by_references = {'$ref': '#/$defs/a', '$defs': {
             'a': {'properties': {'p': {'$ref': '#/$defs/p'}}, 'unevaluatedProperties': {'$ref': '#/$defs/none'}},
             'p': {'type': 'integer'}, 'none': False}}
         self.write('r.json', '{"p":7}')
         _, rules, record, _ = second.sample_table()[0]
-        for schema in (plain, by_references):
+        conditions = {'contains': False, 'maxContains': 2, 'if': {'type': 'null'}, 'then': False,
+                      'dependentSchemas': {'p': {'type': 'null'}}}
+        words = second.rules_of([(0, 3), (3, 0), (3, 1), (4, 1)],
+                                [(36, 0, 3), (37, 3, 1), (45, 4, 1), (2, 1, 0), (1, 0, 0)],
+                                [(2, 0, 0), (3, 0, 0), (1, 0, 0), (0, 1, 2), (3, 1, 2)], b'p')
+        for schema, rules in ((plain, rules), (by_references, rules), (conditions, (words, b'p'))):
             self.write('s.json', schema)
             ran = subprocess.run([self.command, 'bundle', 's.json', 'r.json'], cwd=self.files, capture_output=True)
             self.equal(schema, (ran.stdout, ran.stderr, ran.returncode), (second.bundle(*record, *rules), b'', 0))

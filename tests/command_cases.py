@@ -151,6 +151,7 @@ VERDICTS = [
       'contentEncoding': 'base64', 'contentMediaType': 'x', 'contentSchema': {'pattern': 'x'}, 'x-colour': 'red'},
      '"a"', 'valid'),
     ({'uniqueItems': False, 'minContains': 3, 'then': False, 'patternProperties': {}}, '[1,1]', 'valid'),
+    ({'maxContains': 0, 'else': False, 'then': {'pattern': 'x'}, 'dependencies': {}}, '[1,1]', 'valid'),
     ({'$defs': {'unused': {'pattern': 'x'}}}, '"a"', 'valid'),
     # Just inside the limits; 200 equal schemas share a row.
     ({}, nested(32), 'valid'),
@@ -209,6 +210,20 @@ BAD_SCHEMAS = [
     ({'properties': []}, '#/properties: must be an object'),
     ({'allOf': []}, '#/allOf: must be an array of at least one schema'),
     ({'anyOf': {}}, '#/anyOf: must be an array of at least one schema'),
+    ({'if': 1}, '#/if: a schema must be an object, true or false'),
+    ({'if': True, 'then': []}, '#/then: a schema must be an object, true or false'),
+    ({'if': True, 'else': {'pattern': 'x'}}, '#/else/pattern: the judge has no pattern'),
+    ({'dependentSchemas': []}, '#/dependentSchemas: must be an object'),
+    ({'dependentSchemas': P}, '#/dependentSchemas/p: a schema must be an object, true or false'),
+    ({'dependentRequired': True}, '#/dependentRequired: must be an object'),
+    ({'dependentRequired': P}, '#/dependentRequired/p: must be an array of strings'),
+    ({'dependentRequired': {'p': [P]}}, '#/dependentRequired/p: must be an array of strings'),
+    ({'dependentRequired': {'p': ['a', 'b', 'b']}}, '#/dependentRequired/p/2: this name stands here a second time'),
+    ({'contains': None}, '#/contains: a schema must be an object, true or false'),
+    ({'contains': {}, 'minContains': -1}, '#/minContains: must be a whole number from 0 to 4294967295'),
+    ({'contains': {}, 'maxContains': 1.5}, '#/maxContains: must be a whole number from 0 to 4294967295'),
+    ({'contains': {}, 'maxContains': 4294967296}, '#/maxContains: must be a whole number from 0 to 4294967295'),
+    ({'minContains': '1'}, '#/minContains: must be a whole number from 0 to 4294967295'),
     ({'$ref': 1}, '#/$ref: must be a string'),
     ({'items': {'$ref': '#/$defs/none'}}, '#/items/$ref: refers to nothing: #/$defs/none'),
     ({'$ref': '#none'}, '#/$ref: refers to nothing: #none'),
@@ -225,11 +240,16 @@ BAD_SCHEMAS = [
      '#/$defs/b' + LOOP),
     ({'items': {'$ref': '#/$defs/a'}, '$defs': {'a': {'anyOf': [{'$ref': '#/$defs/a'}]}}}, '#/$defs/a' + LOOP),
     ({'$ref': '#/$defs/a', '$defs': {'a': {'$ref': '#', 'type': 'null'}}}, '#/$defs/a' + LOOP),
+    # Also by a branch that is never taken, and by a name that no record may have.
+    ({'if': {'$ref': '#'}}, '#' + LOOP),
+    ({'if': True, 'else': {'$ref': '#', 'title': 't'}}, '#' + LOOP),
+    ({'items': {'dependentSchemas': {'a': True, 'b': {'$ref': '#/items'}}}}, '#/items' + LOOP),
     ({'$ref': '#/$defs/a', 'pattern': 'x', '$defs': {'a': True}}, '#/pattern: the judge has no pattern'),
     ({'$ref': '#/$defs/a', '$defs': {'a': {'$ref': '#/$defs/b'}, 'b': {'pattern': 'x'}}},
      '#/$defs/b/pattern: the judge has no pattern'),
     (chain(32, to_and_null), '#' + LONG_CHAIN),
     (chain(32, to_twice), '#' + LONG_CHAIN),
+    (chain(32, lambda i: {'if': to(i)}), '#' + LONG_CHAIN),
     (many(1024), '1025 different schemas, and the judge takes at most 1024'),
     ({'allOf': [{'minimum': i, 'maximum': i, 'exclusiveMinimum': i, 'exclusiveMaximum': i, 'multipleOf': 1 + i}
                 for i in range(900)]}, '4501 keywords that assert, and the judge takes at most 4096'),
@@ -238,6 +258,5 @@ BAD_SCHEMAS = [
 ]
 
 # Keywords that assert and have no clause, with a value that says something.
-NO_CLAUSE = {'pattern': 'x', 'patternProperties': {'x': {}}, 'propertyNames': {}, 'uniqueItems': True,
-             'dependencies': P, '$dynamicRef': '#x',
-             '$recursiveRef': '#'}
+NO_CLAUSE = {'pattern': 'x', 'patternProperties': {'x': {}}, 'propertyNames': {}, 'uniqueItems': True, 'dependencies': P,
+             '$dynamicRef': '#x', '$recursiveRef': '#'}

@@ -1,4 +1,5 @@
-"""More tables of tests/command.py: which cause is told of alternatives, structured values, and lists that are cut."""
+"""More tables of tests/command.py: which cause is told of alternatives, conditions and counts, structured values, and lists
+that are cut."""
 from command_cases import LONG, chain, to
 
 def deep(count):
@@ -41,6 +42,70 @@ NEAREST = [
     # Choices on each of 32 levels, below each other.
     (deep(14), '[' * 31 + '1' + ']' * 31, '/0' * 31 + ': is 1, must be string (#/$defs/s0/anyOf/0/type), the nearest of 2 '
      'alternatives (#/$defs/s0/anyOf/1), then of 2 (#/$defs/s1/anyOf/1), then of 433 more choices'),
+]
+
+# Conditions and counts: what is asked for a condition is told with it, the nearest one. With the verdict.
+KIND = {'properties': {'kind': {'const': 'relay'}}, 'required': ['kind']}
+LEGS = {'if': KIND, 'then': {'required': ['legs'], 'properties': {'legs': {'$ref': '#/$defs/legs'}}},
+        'else': {'$ref': '#/$defs/single'}, 'unevaluatedProperties': False,
+        '$defs': {'legs': {'type': 'array', 'minItems': 2}, 'single': {'properties': {'bib': {'type': 'integer'}}}}}
+CARD = {'dependentRequired': {'card': ['name', 'until'], 'x': []},
+        'dependentSchemas': {'card': {'properties': {'name': {'type': 'string'}}}, 'none': False}}
+NESTED = {'if': {'minimum': 0}, 'then': {'if': {'maximum': 9}, 'then': {'multipleOf': 2}, 'else': {'multipleOf': 10}}}
+HELD = {'contains': {'type': 'string'}, 'unevaluatedItems': False}
+CONDITIONS = [
+    (LEGS, '{"kind":"relay","legs":[1,2]}', 'valid'),
+    (LEGS, '{"kind":"relay"}', 'invalid: missing "legs" (#/then/required), since #/if holds'),
+    (LEGS, '{"kind":"relay","legs":[1]}',
+     'invalid: /legs: has 1 item, must have at least 2 (#/$defs/legs/minItems), since #/if holds'),
+    (LEGS, '{"bib":"7"}', 'invalid: /bib: is "7", must be integer (#/$defs/single/properties/bib/type), since #/if fails'),
+    # A condition that fails passes no marks, one that holds does; what a failed branch would have marked is no cause.
+    (LEGS, '{"kind":"single","bib":7}', 'invalid: /kind: not allowed here (#/unevaluatedProperties)'),
+    (LEGS, '{"kind":"single","bib":"7"}', 'invalid: /bib: is "7", must be integer '
+     '(#/$defs/single/properties/bib/type), since #/if fails, and 1 more'),
+    ({'if': KIND, 'unevaluatedProperties': False}, '{"kind":"relay"}', 'valid'),
+    ({'if': False, 'then': False}, '1', 'valid'),
+    ({'if': True, 'then': False}, '1', 'invalid: not allowed here (#/then), since #/if holds'),
+    ({'if': True, 'else': False}, '1', 'valid'),
+    ({'if': False, 'else': False}, '1', 'invalid: not allowed here (#/else), since #/if fails'),
+    (NESTED, '-1', 'valid'),
+    (NESTED, '8', 'valid'),
+    (NESTED, '7', 'invalid: is 7, must be a multiple of 2 (#/then/then/multipleOf), since #/then/if holds'),
+    (NESTED, '11', 'invalid: is 11, must be a multiple of 10 (#/then/else/multipleOf), since #/then/if fails'),
+    ({'anyOf': [{'type': 'null'}, {'if': {'minimum': 0}, 'then': {'maximum': 3}}]}, '5', 'invalid: is 5, must be at most 3 '
+     '(#/anyOf/1/then/maximum), since #/anyOf/1/if holds, the nearest of 2 alternatives (#/anyOf/1)'),
+    # Beside each other, dependentRequired and dependentSchemas are two lists; a name that is missing asks for nothing.
+    (CARD, '{"name":1}', 'valid'),
+    (CARD, '"card"', 'valid'),
+    (CARD, '{"card":1,"x":1,"name":"n","until":1}', 'valid'),
+    (CARD, '{"card":1,"name":"n"}', 'invalid: missing "until" (#/dependentRequired), since /card is there'),
+    (CARD, '{"card":1,"name":1,"until":1}',
+     'invalid: /name: is 1, must be string (#/dependentSchemas/card/properties/name/type), since /card is there'),
+    ({'items': {'dependentSchemas': {'a/b': False}}}, '[1,{"a/b":1}]',
+     'invalid: /1: not allowed here (#/items/dependentSchemas/a~1b), since /1/a~1b is there'),
+    ({'dependentSchemas': {'a': {'properties': {'b': True}}, 'b': {'properties': {'a': True}}},
+      'unevaluatedProperties': False}, '{"a":1,"b":1}', 'valid'),
+    ({'dependentSchemas': {}, 'dependentRequired': {}, 'allOf': [True]}, '{"a":1}', 'valid'),
+    # Counts: the keyword that is not kept, and how many fit.
+    ({'contains': {'minimum': 5}}, '[1,2,"a"]', 'valid'),
+    ({'contains': {'type': 'null'}}, '{"a":1}', 'valid'),
+    ({'contains': {'type': 'null'}}, '[]', 'invalid: has 0 items that fit contains, must have at least 1 (#/contains)'),
+    ({'contains': {'type': 'null'}, 'minContains': 2}, '[1,null]',
+     'invalid: has 1 item that fits contains, must have at least 2 (#/minContains)'),
+    ({'contains': {'type': 'null'}, 'maxContains': 1}, '[null,null,1]',
+     'invalid: has 2 items that fit contains, must have at most 1 (#/maxContains)'),
+    ({'contains': {'type': 'null'}, 'minContains': 0, 'maxContains': 4294967295}, '[1]', 'valid'),
+    ({'contains': True, 'minContains': 3, 'maxContains': 1}, '[1,2]',
+     'invalid: has 2 items that fit contains, must have at least 3 (#/minContains)'),
+    ({'properties': {'p': {'contains': {'$ref': '#'}}}, 'type': 'object'}, '{"p":[{"p":[1]},{}]}', 'valid'),
+    # What fits is evaluated, be there too few; what does not is not.
+    (HELD, '["a","b"]', 'valid'),
+    (HELD, '["a",1]', 'invalid: /1: not allowed here (#/unevaluatedItems)'),
+    (dict(HELD, minContains=2), '["a"]', 'invalid: has 1 item that fits contains, must have at least 2 (#/minContains)'),
+    ({'allOf': [dict(HELD, minItems=3, unevaluatedItems=True)], 'unevaluatedItems': False}, '["a",1]',
+     'invalid: has 2 items, must have at least 3 (#/allOf/0/minItems)'),
+    ({'allOf': [{'contains': {'type': 'string'}, 'minItems': 3}], 'unevaluatedItems': False}, '["a",1]',
+     'invalid: has 2 items, must have at least 3 (#/allOf/0/minItems), and 1 more'),
 ]
 
 # Structured values in enum and const, which the judge does not compare yet: schemas stand for them. With the verdict.

@@ -2,8 +2,9 @@
 
 cases(seed, count) yields (label, record words, record text, rule words, rule text), as sheets.cases does. Many of the
 rules are mended until the record holds. Spread counts what the judging of cases came to, and says what must be met.
-Written, like second.py and sheets.py, from paper 01 and request #102 of 02 alone.
+Written, like second.py and sheets.py, from paper 01 and requests #102 and #106 of 02 alone.
 """
+import itertools
 import random
 from collections import Counter
 
@@ -17,7 +18,10 @@ LONGEST = second.LONGEST_CHAIN
 BOTH = (True, False)
 # Unguarded clauses that can pass on marks, and whether they hold: only failed schemas stand under an anyOf or ref that
 # fails, or under a not that holds.
-PASSING = ((30, True), (30, False), (31, True), (32, True), (32, False), (33, False), (34, True))
+PASSING = ((30, True), (30, False), (31, True), (32, True), (32, False), (33, False), (34, True), (36, True), (36, False),
+           (37, True), (37, False))
+NEW = (36, 37, 45)                          # the codes of request #106: each under and over every other
+APPLYING = [code for code in CODES if code >= UNGUARDED[0]]
 
 
 def derivation_of(words, text, rules, rule_text):
@@ -138,7 +142,7 @@ class Joined(Layered):
         return [0] * self.m
 
     def codes(self, s):
-        marking, last = ((40, 42), 60) if self.record.rows[0][KIND] == OBJECT else ((43, 44), 61)
+        marking, last = ((40, 42), 60) if self.record.rows[0][KIND] == OBJECT else ((43, 44, 45), 61)
         joins = self.rng.sample(UNGUARDED, self.rng.randint(0 if s else 1, 2))
         marks = [code for code in marking if self.rng.random() < 0.35]
         return joins + marks + [last] * (self.rng.random() < 0.6)
@@ -255,10 +259,24 @@ class Spread:
             self.met['marks passed on', code, holds] += 1
         if code in (60, 61):
             self.met['left over', code, bool(marked), bool(pairs)] += 1
-        for _, t in pairs if code in UNGUARDED else ():
+        if code in NEW:
+            self.note_new(derivation, clause, pairs, holds)
+        for _, t in pairs:
             for inner in second.clauses_of(derivation.rules, t):
-                if inner.code in UNGUARDED + (60, 61):
-                    self.met['over', code, inner.code] += 1
+                self.met['over', code, inner.code] += 1
+
+    def note_new(self, derivation, clause, pairs, holds):
+        """Which branch was taken, whether a name was missing, on which side of the bounds the count was."""
+        entries = second.entries_of(derivation.rules, clause)
+        if clause.code == 36:
+            self.met['branch', derivation.holds(pairs[0]), holds] += 1
+        elif clause.code == 37:
+            self.met['depending', bool(pairs), len(pairs) < len(entries)] += 1
+        else:
+            count = len([pair for pair in pairs if derivation.holds(pair)])
+            (_, least, most), = entries
+            self.met['counted', count >= least, count <= most] += 1
+            self.met['counted, some'] += 0 < count < len(pairs)
 
     def wanted(self):
         """What must be met, with how often at least."""
@@ -268,6 +286,10 @@ class Spread:
         rare += [('negative multiple', held) for held in BOTH]
         rare += [('marks passed on', code, holds) for code, holds in PASSING]
         rare += [('over', code, inner) for code in UNGUARDED for inner in UNGUARDED + (60, 61)]
+        rare += [('over', *pair) for new in NEW for pairs in (((new, code) for code in CODES), ((code, new) for code in APPLYING))
+                 for pair in pairs]
+        rare += [('branch', taken, holds) for taken in BOTH for holds in BOTH] + ['counted, some']
+        rare += [(what, *both) for what in ('depending', 'counted') for both in itertools.product(BOTH, BOTH)]
         rare += [(what, code, before, left) for what, codes in (('rest', (42, 44)), ('left over', (60, 61)))
                  for code in codes for before in BOTH for left in BOTH]
         often = {('verdict', held): self.met['sheets'] // 4 for held in BOTH}

@@ -1,4 +1,4 @@
-"""Seeded record and rule sheets for comparing two judges, written from paper 01 and request #102 of 02 alone.
+"""Seeded record and rule sheets for comparing two judges, from paper 01 and requests #102 and #106 of 02 alone.
 
 cases(seed, count, what) yields (label, record words, record text, rule words, rule text).
 A label says what the case is aimed at, its group before the colon. A case aimed at a
@@ -17,13 +17,14 @@ CODE = 0                                                   # a clause is code, F
 ARRAY, OBJECT = 5, 6
 LIMIT = 999_999_999
 
-FEWEST = {3: 1, 26: 0, 30: 1, 31: 1, 32: 1, 36: 3, 37: 0, 40: 0, 43: 1, 45: 1}  # list codes and their fewest entries
-ABOUT = {0: (2, 3, 31, 33, 36), 1: (2, 3, 30, 32, 36), 2: (2, 3, 31, 34, 36),      # codes to be met on rows of a kind
+FEWEST = {3: 1, 26: 0, 30: 1, 31: 1, 32: 1, 36: 3, 37: 0, 40: 0, 43: 1, 45: 1}     # list codes and their fewest entries
+ABOUT = {0: (2, 3, 31, 33, 36), 1: (2, 3, 30, 32, 36), 2: (2, 3, 31, 34, 36),       # codes to be met on rows of a kind
          3: (2, 2, 2, 3, 3, 3, 10, 11, 12, 13, 14, 10, 11, 12, 13, 14, 30, 31, 32, 33, 34, 36),
          4: (2, 3, 3, 20, 21, 20, 21, 30, 31, 32, 33, 34, 36),
          5: (2, 22, 23, 30, 31, 31, 32, 33, 34, 34, 36, 36, 43, 43, 43, 44, 45, 45, 45, 61, 61, 61),
-         6: (2, 24, 25, 26, 30, 31, 31, 32, 33, 34, 34, 36, 36, 37, 37, 40, 40, 40, 40, 42, 60, 60, 60)}
+         6: (2, 24, 25, 26, 30, 31, 31, 32, 33, 34, 34, 36, 36, 37, 37, 37, 40, 40, 40, 40, 42, 60, 60, 60)}
 UNGUARDED = (30, 31, 32, 33, 34, 36, 37)
+NAMES_IN = (26, 37, 40)                                    # codes whose entries have names
 CODES = (1, 2, 3, 10, 11, 12, 13, 14, 20, 21, 22, 23, 24, 25, 26, 30, 31, 32, 33, 34, 36, 37, 40, 42, 43, 44, 45, 60, 61)
 TYPE_BITS = {0: (1,), 1: (2,), 2: (2,), 3: (4, 4, 8), 4: (16,), 5: (32,), 6: (64,)}
 
@@ -335,7 +336,7 @@ class Writer:
         return [[*self.text.place(name), self.outer(children.get(name, 0))] for name in dict.fromkeys(names)]
 
     def depending(self, s):
-        names = self.names(s) + self.rng.sample(ABSENT, self.rng.choice((0, 0, 1)))
+        names = (self.names(s) or self.names(s)) + self.rng.sample(ABSENT, self.rng.choice((0, 0, 1)))
         return [[*self.text.place(name), self.inner(37, s)] for name in dict.fromkeys(names)]
 
     def counted(self, s):
@@ -576,7 +577,7 @@ RULE_DAMAGES = (
     ('enum number bound', 'entries', enum_entry(3), put(FIRST, *BOUNDS)),
     ('enum number scale', 'entries', enum_entry(3), put(COUNT, *SCALES)),
     ('enum string range', 'entries', enum_entry(4), put_range(1)),
-    ('name range', 'entries', entry_of(26, 37, 40), put_range(0)),
+    ('name range', 'entries', entry_of(*NAMES_IN), put_range(0)),
     ('third word of required', 'entries', entry_of(26), put(2, *ANYTHING)),
     ('schema of an entry', 'entries', entry_of(30, 31, 32, 36, 43, 45), compute(0, schema_numbers)),
     ('schema beside a name', 'entries', entry_of(37, 40), compute(2, schema_numbers)),
@@ -670,7 +671,7 @@ def repeat_record_name(rng, sheet, times=1):
 
 
 def repeat_rule_name(rng, sheet, times=1):
-    lists = [(first, count) for code, first, count in sheet.clauses if code in (26, 40) and count > 1]
+    lists = [(first, count) for code, first, count in sheet.clauses if code in NAMES_IN and count > 1]
     for _ in range(times if lists else 0):
         first, count = rng.choice(lists)
         repeat_name(rng, sheet.text, sheet.entries[first:first + count], 0)
@@ -705,7 +706,7 @@ def rule_ranges(sheet):
     found = []
     for code, first, count in sheet.clauses:
         entries = sheet.entries[first:first + count]
-        found += [(entry, 0) for entry in entries if code in (26, 37, 40)]
+        found += [(entry, 0) for entry in entries if code in NAMES_IN]
         found += [(entry, 1) for entry in entries if code == 3 and entry[0] == 4]
     return found
 
@@ -729,6 +730,20 @@ def empty_list(rng, sheet):
         for later in lists[lists.index(clause) + 1:]:
             later[FIRST] -= count
     return 'empty list'
+
+
+def another_length(rng, sheet):
+    """An entry more or less in one list clause, all other lists kept in order."""
+    lists = [clause for clause in sheet.clauses if clause[CODE] in FEWEST and clause[COUNT] > 0]
+    if lists:
+        clause, step = rng.choice(lists), rng.choice((-1, 1))
+        first, count = clause[FIRST], clause[COUNT]
+        kept = sheet.entries[first:first + count]
+        sheet.entries[first:first + count] = kept[1:] if step < 0 else kept + [list(rng.choice(kept))]
+        clause[COUNT] += step
+        for later in sheet.clauses[sheet.clauses.index(clause) + 1:]:
+            later[FIRST] += step if later[CODE] in FEWEST else 0
+    return 'another number of entries'
 
 
 def one_none_takes(rng, sheet):
@@ -926,7 +941,7 @@ def aim_several_layout(rng, record):
 
 def aim_layout_forms(rng, record):
     sheet = good_rules(rng, record, full=rng.random() < 0.5)
-    label = rng.choice((empty_list, empty_list, one_none_takes, swap_clauses))(rng, sheet)
+    label = rng.choice((empty_list, empty_list, another_length, another_length, one_none_takes, swap_clauses))(rng, sheet)
     return 'rules 6: ' + label, *lent(sheet)
 
 
@@ -934,8 +949,9 @@ def named_rules(rng, record):
     """Good rules to which a schema with several names is added."""
     sheet = good_rules(rng, record)
     names = rng.sample(NAMES + ABSENT, 4)
-    sheet.schemas.append([len(sheet.clauses), 2])
+    sheet.schemas.append([len(sheet.clauses), 3])
     sheet.add_clause(26, [[*sheet.text.place(name), 0] for name in names[:rng.randint(0, 4)]])
+    sheet.add_clause(37, [[*sheet.text.place(name), rng.randrange(len(sheet.schemas) - 1)] for name in names])
     sheet.add_clause(40, [[*sheet.text.place(name), rng.randrange(len(sheet.schemas))] for name in names])
     return sheet
 
@@ -1021,6 +1037,7 @@ def marking_schema(rng, text, names, leaves, ends):
     clauses = ((40, 0.6, [[*text.place(name), rng.choice(leaves)] for name in some]),
                (43, 0.6, [[rng.choice(leaves), 0, 0] for _ in range(rng.randint(1, 4))]),
                (42, 0.15, [rng.choice(leaves), 0]), (44, 0.15, [rng.choice(leaves), 0]),
+               (45, 0.4, [[rng.choice(leaves), rng.choice((0, 0, 1, 2)), rng.choice((1, 4, WORD - 1))]]),
                (60, ends, [rng.choice(leaves), 0]), (61, ends, [rng.choice(leaves), 0]), (1, 0.1, [0, 0]))
     return {code: fields for code, likely, fields in clauses if rng.random() < likely}
 
@@ -1192,8 +1209,8 @@ def range_limits():
         yield with_rows(answer(fits, 2, 0), what + ' of a string', [root(4, start, length)], b'abc')
         named = [root(OBJECT, 1, 1), [0, 0, 0, 0, start, length]]
         yield with_rows(answer(fits, 2, 1), what + ' of a label', named, b'abc')
-        for code, entry in ((3, [4, start, length]), (26, [start, length, 0]), (40, [start, length, 0])):
-            yield with_schemas(answer(fits, 6, 2), what + ' in code %d' % code, [{code: [entry]}], b'abc')
+        for code, entry in texts_in_rules(start, length):
+            yield with_schemas(answer(fits, 6, 3), what + ' in code %d' % code, [{code: [entry]}, {}], b'abc')
 
 
 def chain_limits():
@@ -1222,12 +1239,17 @@ def loop_limits():
                     add_step(random.Random(0), schemas[s], s + 1, code)
                 what = 'loop of %d by code %d after %d' % (length, code, before)
                 yield with_schemas('refused 8 %d' % before, what, schemas)
+    for i in range(3):
+        one = [[int(k == i), 0, 0] for k in range(3)]
+        yield with_schemas('refused 8 1', 'loop by entry %d of 36 alone' % i, [{}, {36: one}])
+    yield with_schemas('refused 8 0', 'loop by the second of 37', [{37: [[0, 0, 1], [0, 1, 0]]}, {}], b'a')
     yield with_schemas('accepted', 'loop through items', [{44: [1, 0]}, {42: [0, 0], 34: [2, 0]}, {61: [1, 0]}])
+    yield with_schemas('accepted', 'loop through contains', [{45: [[0, 1, 1]]}])
 
 
 def code_limits():
     """Every code alone with first and count 0, and with the words of a good clause damaged."""
-    accepted = (1, 10, 11, 12, 13, 20, 21, 22, 23, 24, 25, 26, 40, 42, 44, 60, 61)
+    accepted = (1, 10, 11, 12, 13, 20, 21, 22, 23, 24, 25, 26, 37, 40, 42, 44, 60, 61)
     for code in list(range(71)) + [256 + 1, WORD - 1]:
         expected = 'refused 8 0' if code in (33, 34) else answer(code in accepted, 6, 1)
         yield with_schemas(expected, 'code %d with 0, 0' % code, [{code: [] if code in FEWEST else [0, 0]}])
@@ -1241,16 +1263,33 @@ def code_limits():
         yield with_schemas('accepted', 'code %d with the largest first' % code, [{code: [WORD - 1, 0]}])
 
 
+def entry_limits():
+    """How many entries 36, 37 and 45 may have, also where another list follows; 45 with any least and most."""
+    for code, entry, right in ((36, [1, 0, 0], (3,)), (37, [0, 0, 1], (0, 1)), (45, [1, 0, 0], (1,))):
+        for count in range(6 if code == 36 else 3 if code == 45 else 2):
+            what = '%d entries of code %d' % (count, code)
+            yield with_schemas(answer(count in right, 6, 2), what, [{code: [entry] * count}, {}])
+            yield with_schemas(answer(count in right, 6, 3), what + ', lists around', [
+                {26: [[0, 0, 0]], code: [entry] * count, 61: [1, 0]}, {3: [[0, 0, 0]]}])
+    for least, most in ((0, 0), (1, 0), (0, WORD - 1), (WORD - 1, 0), (WORD - 1, WORD - 1), (WORD // 2, WORD // 2 - 1)):
+        yield with_schemas('accepted', 'least %d and most %d' % (least, most), [{45: [[1, least, most]]}, {}])
+
+
 def schema_limits():
     """Schema numbers at m, unused words of entries, kinds of enum entries."""
-    for code in (30, 31, 32, 33, 34, 40, 42, 43, 44, 60, 61):
+    for code in (30, 31, 32, 33, 34, 36, 37, 40, 42, 43, 44, 45, 60, 61):
         for t in (1, 2, WORD - 1):
-            fields = [[0, 0, t]] if code == 40 else [[t, 0, 0]] if code in FEWEST else [t, 0]
+            fields = [[0, 0, t]] if code in (37, 40) else [[t, 0, 0]] if code in FEWEST else [t, 0]
+            fields = fields + [[1, 0, 0]] * 2 if code == 36 else fields
             expected = answer(t < 2, 6, 3 if code in FEWEST else 2)
             yield with_schemas(expected, 'code %d to schema %d of 2' % (code, t), [{code: fields}, {}])
     unused = [(26, [0, 0, 1])] + [(code, entry) for code in (30, 31, 32, 43) for entry in ([1, 1, 0], [1, 0, 1])]
     for code, entry in unused:
         yield with_schemas('refused 6 3', 'unused word of an entry of %d' % code, [{code: [entry]}, {}])
+    for i in range(3):
+        for entry in ([2, 0, 0], [1, 1, 0], [1, 0, WORD - 1]):
+            three = [entry if k == i else [1, 0, 0] for k in range(3)]
+            yield with_schemas('refused 6 %d' % (3 + i), 'entry %d of 36 is %s' % (i, entry), [{36: three}, {}])
     for kind in range(9):
         yield with_schemas(answer(kind <= 4, 6, 2), 'enum kind %d' % kind, [{3: [[kind, 0, 0]]}])
         if kind <= 2:
@@ -1319,24 +1358,32 @@ def layout_limits():
 
 
 def name_limits():
-    """Repeated names in 26 and 40, and equal names in two clauses."""
+    """Repeated names in 26, 37 and 40, and equal names in two clauses."""
     for one, other, equal in (([0, 1], [0, 1], True), ([0, 1], [1, 1], True),
                               ([0, 0], [3, 0], True), ([0, 1], [2, 1], False)):
-        entries = [[*one, 0], [2, 0, 0] if one[1] else [2, 1, 0], [*other, 0]]
-        for code in (26, 40):
+        names = [one, [2, 0] if one[1] else [2, 1], other]
+        for code in NAMES_IN:
             what = 'code %d names %s and %s' % (code, one, other)
-            yield with_schemas(answer(not equal, 7, 4), what, [{code: entries}], b'aab')
-    two = [{26: [[0, 1, 0]], 40: [[0, 1, 0]]}, {40: [[1, 1, 0]]}]
+            entries = [[*name, int(code == 37)] for name in names]
+            yield with_schemas(answer(not equal, 7, 5), what, [{code: entries}, {}], b'aab')
+    two = [{26: [[0, 1, 0]], 37: [[0, 1, 1]], 40: [[0, 1, 0]]}, {37: [[0, 1, 2]], 40: [[1, 1, 0]]}, {}]
     yield with_schemas('accepted', 'equal names in two clauses', two, b'aa')
+    yield with_schemas('refused 7 7', '7 of 37 before 8', [{26: [[0, 1, 0]], 37: [[0, 1, 0], [1, 1, 0], [2, 0, 0]]}, {},
+                                                          {}], b'aa')
+
+
+def texts_in_rules(start, length):
+    """The range as a value of an enum, a required name, one that a schema goes with, and a property, of two schemas."""
+    return (3, [4, start, length]), (26, [start, length, 0]), (37, [start, length, 1]), (40, [start, length, 0])
 
 
 def texts_named(expected, what, text, start, length):
-    """The range as a string, a name, a value of an enum, a required name and a property."""
+    """The range as a string, as a name, and in the rules."""
     good = expected == 'accepted'
     yield with_rows(answer(good, 13, 0), what + ' as a string', [root(4, start, length)], text)
     yield with_rows(answer(good, 13, 1), what + ' as a label', [root(OBJECT, 1, 1), [0, 0, 0, 0, start, length]], text)
-    for code, entry in ((3, [4, start, length]), (26, [start, length, 0]), (40, [start, length, 0])):
-        yield with_schemas(answer(good, 13, 2), what + ' in code %d' % code, [{code: [entry]}], text)
+    for code, entry in texts_in_rules(start, length):
+        yield with_schemas(answer(good, 13, 3), what + ' in code %d' % code, [{code: [entry]}, {}], text)
 
 
 def text_limits():
@@ -1362,11 +1409,11 @@ def text_order():
     deep = nested(33, ARRAY)
     deep[-1][:3] = [4, 0, 1]
     yield with_rows('refused 13 32', '13 before 4', deep, b'\xff')
-    for code in (26, 40):
+    for code in NAMES_IN:
         same = [[0, 1, 0], [1, 1, 0], [1, 1, 0]]
         yield with_schemas('refused 7 4', '7 before 13 in code %d' % code, [{code: same}], b'\xffa')
-        yield with_schemas('refused 13 4', '13 before 8, in code %d' % code, [{code: [[1, 1, 0], [0, 1, 0]], 34: [0, 0]}]
-                           if code == 26 else [{34: [0, 0], code: [[1, 1, 0], [0, 1, 0]]}], b'\xffa')
+        yield with_schemas('refused 13 4', '13 before 8, in code %d' % code, [{code: [[1, 1, 0], [0, 1, 0]], 34: [0, 0]}],
+                           b'\xffa')
     chain = [{34: [s + 1, 0]} for s in range(32)] + [{3: [[4, 0, 1]]}]
     yield with_schemas('refused 13 66', '13 before 9', chain, b'\xff')
 
@@ -1387,7 +1434,7 @@ def large_cases():
         yield 'accepted: bundle of %d bytes' % (65_536 + extra), *lent(record), *lent(rules)
     chain = [{} for _ in range(32)]
     for s in range(31):
-        add_step(random.Random(0), chain[s], s + 1, UNGUARDED[s % 5])
+        add_step(random.Random(0), chain[s], s + 1, UNGUARDED[s % 6])       # by all but 37, whose name is missing
     chain[31] = {44: [0, 0], 42: [0, 0]}
     for kind in (ARRAY, OBJECT):
         deep = RecordSheet(fixed_text(b'p'), nested(32, kind))
@@ -1415,7 +1462,7 @@ def refused_and_large():
 def limits():
     """Yield the fixed cases on both sides of each limit."""
     for part in (count_limits, trailer_limits, number_limits, range_limits, chain_limits, loop_limits, code_limits,
-                 schema_limits, taking_limits, layout_limits, name_limits, text_limits, text_order, refused_and_large, large_cases):
+                 entry_limits, schema_limits, taking_limits, layout_limits, name_limits, text_limits, text_order, refused_and_large, large_cases):
         yield from part()
 
 

@@ -50,23 +50,29 @@ def line_of(causes, are_all):
     return told(cause) + nearest + (', and %s%d more' % ('' if are_all else 'over ', more) if more else '')
 
 
-def told(cause):
+def told(cause, since=''):
+    """A cause in words; since is a condition that is told already."""
     where = pointer(cause.instance)
-    return '%s%s (%s)' % (where + ': ' if where else '', cause.words, fragment(cause.place))
+    return '%s%s (%s)%s' % (where + ': ' if where else '', cause.words, fragment(cause.place),
+                            since_words(cause) if cause.since != since else '')
+
+
+def since_words(cause):
+    return cause.since and ', since ' + cause.since
 
 
 def lines_of(causes):
     """Every cause on a line of its own; under a choice those of each alternative, by its number."""
     nearness, told_before, lines = Nearness(), set(), []
-    waiting = [(2, '', cause) for cause in reversed(causes)]
+    waiting = [(2, '', '', cause) for cause in reversed(causes)]
     while waiting:
-        margin, number, cause = waiting.pop()
-        line = ' ' * margin + number + told(cause)
+        margin, number, since, cause = waiting.pop()
+        line = ' ' * margin + number + told(cause, since)
         if cause.under and id(cause) not in told_before:
             told_before.add(id(cause))
             lines.append('%s, the nearest is %s' % (line, nearness.nearest(cause).place[-1]))
-            waiting += [(margin + 2, alternative.place[-1] + ': ', below) for alternative in reversed(cause.under)
-                        for below in reversed(alternative.causes)]
+            waiting += [(margin + 2, alternative.place[-1] + ': ', cause.since, below)
+                        for alternative in reversed(cause.under) for below in reversed(alternative.causes)]
         else:
             lines.append(line + (', as above' if cause.under else ''))
     return lines
@@ -89,4 +95,4 @@ def unit_of(cause, references):
     if absolute:
         uri, root = absolute
         unit['absoluteKeywordLocation'] = uri + '#' + quote(pointer(cause.place[len(root):]), safe="/~!$&'()*+,;=:@")
-    return dict(unit, instanceLocation=pointer(cause.instance), error=cause.words)
+    return dict(unit, instanceLocation=pointer(cause.instance), error=cause.words + since_words(cause))

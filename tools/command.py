@@ -26,10 +26,10 @@ build   proves and builds the library if it is not there, or older than a source
 RECORD is a file, - for standard input, a folder (its .json, .jsonl and .ndjson
 files), or a file of lines (.jsonl, .ndjson), each a record.
 
-Not judged, and an error: pattern patternProperties propertyNames contains
-uniqueItems if dependentSchemas dependentRequired $dynamicRef. Not asserted:
-format. Nothing is fetched. At most 1024 values in a record, 1024 schemas, 32
-levels; numbers of at most 9 digits, and 9 places after the point.
+Not judged, and an error: pattern patternProperties propertyNames uniqueItems
+dependencies $dynamicRef. Not asserted: format. Nothing is fetched. At most 1024
+values in a record, 1024 schemas, 32 levels; numbers of at most 9 digits, and 9
+places after the point.
 '''
 
 

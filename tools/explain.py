@@ -3,22 +3,23 @@ import sys
 from collections import namedtuple
 from contextlib import contextmanager
 
-from tools.fault import fragment
-from tools.keywords import NOT, UNGUARDED
+from tools.fault import fragment, pointer
+from tools.keywords import CONDITION, CONTAINS, DEPENDENT, NOT, UNGUARDED
 from tools.library import CELL_FAILED, CELL_MARKED
 from tools.reading import Number
 from tools.structured import json_text
-from tools.words import LIST_MAX, all_of, cut, must_be_one_of, test_words
+from tools.words import LIST_MAX, all_of, contained_words, cut, must_be_one_of, test_words
 
 # instance: tokens of the value; path: tokens of the keyword by the way that was gone, through $ref; place: where the
-# keyword stands; keyword: its name, None where the schema is false; under: of a choice that nothing fits, each
-# alternative.
-Cause = namedtuple('Cause', 'instance path place keyword words under')
+# keyword stands; keyword: its name, None where the schema is false; since: in words, the nearest condition on the way
+# for which this is asked, '' if there is none; under: of a choice that nothing fits, each alternative.
+Cause = namedtuple('Cause', 'instance path place keyword words since under')
 Alternative = namedtuple('Alternative', 'place causes')
 Causes = namedtuple('Causes', 'list are_all')
 
-ABOUT = {code: kind for kind, codes in ((Number, (10, 11, 12, 13, 14)), (str, (20, 21)), (list, (22, 23, 43, 44, 61)),
-                                        (dict, (24, 25, 26, 40, 42, 60))) for code in codes}
+ABOUT = {code: kind for kind, codes in ((Number, (10, 11, 12, 13, 14)), (str, (20, 21)),
+                                        (list, (22, 23, 43, 44, 45, 61)), (dict, (24, 25, 26, 37, 40, 42, 60)))
+         for code in codes}
 NO_CHOICE, CHOICES, ONE_OF = (30, 34), (31, 32), 32     # allOf and $ref; anyOf and oneOf
 
 # A pair goes down at most 32 levels times a chain of 32 schemas, some calls each.
@@ -48,7 +49,7 @@ class Walk:
     def __init__(self, record, rules, cells, most):
         self.record, self.rules, self.cells, self.most, self.count = record, rules, cells, most, 0
         self.schemas = len(cells) // len(record.rows)
-        self.first_cause, self.known_marks = {}, {}
+        self.first_cause, self.known_marks, self.since = {}, {}, ''
 
     def cell(self, j, place):
         return self.cells[j * self.schemas + self.rules.row_of[place]]
@@ -95,11 +96,29 @@ class Walk:
         return set().union(*[self.clause_marks(j, place, one, hopeful) for one in earlier])
 
     def clause_marks(self, j, place, clause, hopeful):
+        if clause.code == CONDITION:    # that it fails is no failure, so there is nothing to be hoped
+            condition, branch = self.applied_here(j, clause)
+            return self.marks(j, condition.target, False) | self.marks(j, branch.target, hopeful)
         if clause.code in UNGUARDED:
-            return set().union(*[self.marks(j, entry.target, hopeful) for entry in clause.entries])
+            return set().union(*[self.marks(j, entry.target, hopeful) for entry in self.applied_here(j, clause)])
+        if clause.code == CONTAINS:
+            return set(self.contained(j, clause))
         if clause.code >= 40:
             return {child for child, _ in self.taken(j, place, clause, hopeful)}
         return set()
+
+    def applied_here(self, j, clause):
+        """The entries that an unguarded clause applies: the condition and one branch, or those whose name is there."""
+        if clause.code == CONDITION:
+            condition, then, otherwise = clause.entries
+            return condition, then if self.held(j, condition.target) else otherwise
+        if clause.code == DEPENDENT:
+            return [entry for entry in clause.entries if entry.name in self.record.values[j]]
+        return clause.entries
+
+    def contained(self, j, clause):
+        """The children that fit what contains asks for."""
+        return [child for child in self.children(j) if self.held(child, clause.entries[0].target)]
 
     def marks(self, j, place, hopeful):
         """The children that a schema marks, which the judge tells; hopeful: that it would if no schema had failed."""
@@ -128,28 +147,47 @@ class Walk:
             causes += found
             if causes and self.count >= self.most:
                 break
-        causes = causes or [Cause(self.record.places[j], path, place, None, 'does not hold', [])]
+        causes = causes or [Cause(self.record.places[j], path, place, None, 'does not hold', self.since, [])]
         self.first_cause[pair] = causes[0]
         return causes
 
     def clause_causes(self, j, place, path, clause, marks_are_lost):
         if clause.code in NO_CHOICE or clause.code in CHOICES and len(clause.entries) == 1:
             return self.below([(j, entry) for entry in clause.entries], path)
+        if clause.code in (CONDITION, DEPENDENT):
+            return self.conditional_causes(j, place, path, clause)
         if clause.code in UNGUARDED:
             return self.choice_causes(j, place, path, clause)
+        if clause.code == CONTAINS:
+            keyword, words = contained_words(len(self.contained(j, clause)), *clause.entries[0].value)
+            return [self.cause(j, place, path, clause._replace(keyword=keyword), words)] if words else []
         if clause.code >= 40:
             # What is unevaluated only because an earlier clause of the schema failed is no cause of its own.
             return self.below(self.taken(j, place, clause, hopeful=marks_are_lost), path)
         words = test_words(clause, self.record.values[j])
         return [self.cause(j, place, path, clause, words)] if words else []
 
-    def below(self, applied, path):
-        causes = []
+    def below(self, applied, path, since=lambda entry: None):
+        """The causes of what is applied; since tells for which condition an entry is, if for one of its own."""
+        causes, before = [], self.since
         for j, entry in applied:
+            self.since = since(entry) or before
             causes += self.causes(j, entry.target, path + entry.path + entry.through)
             if causes and self.count >= self.most:
                 break
+        self.since = before
         return causes
+
+    def conditional_causes(self, j, place, path, clause):
+        """if, and what depends on names: why that fails which is asked for a condition."""
+        if clause.code == CONDITION:
+            condition, branch = self.applied_here(j, clause)
+            verdict = 'holds' if self.held(j, condition.target) else 'fails'
+            since = '%s %s' % (fragment(place + condition.path), verdict)
+            return self.below([(j, branch)], path, lambda entry: since)
+        applied = [(j, entry) for entry in self.applied_here(j, clause)]
+        at = self.record.places[j]
+        return self.below(applied, path, lambda entry: cut(pointer(at + (entry.name,)), LIST_MAX) + ' is there')
 
     def choice_causes(self, j, place, path, clause):
         """anyOf, oneOf and not: what failed is the choice; if nothing fits, the alternatives stand under it."""
@@ -180,4 +218,5 @@ class Walk:
     def cause(self, j, place, path, clause, words, under=()):
         keyword = () if clause.keyword is None else (clause.keyword,)
         self.count += 1
-        return Cause(self.record.places[j], path + keyword, place + keyword, clause.keyword, words, list(under))
+        return Cause(self.record.places[j], path + keyword, place + keyword, clause.keyword, words, self.since,
+                     list(under))

@@ -5,31 +5,28 @@ TYPES = {'null': 1, 'boolean': 2, 'integer': 4, 'number': 8, 'string': 16, 'arra
 
 # The codes of the clauses.
 NEVER, TYPE, ENUM, REQUIRED, ALL_OF, NOT, REFERENCE, PROPERTIES, PREFIX_ITEMS = 1, 2, 3, 26, 30, 33, 34, 40, 43
+CONDITION, DEPENDENT, CONTAINS = 36, 37, 45
 NUMBERS = {'minimum': 10, 'maximum': 11, 'exclusiveMinimum': 12, 'exclusiveMaximum': 13, 'multipleOf': 14}
 SIZES = {'minLength': 20, 'maxLength': 21, 'minItems': 22, 'maxItems': 23, 'minProperties': 24, 'maxProperties': 25}
 SCHEMA_LISTS = {'allOf': ALL_OF, 'anyOf': 31, 'oneOf': 32, 'prefixItems': PREFIX_ITEMS}
 SCHEMAS = {'not': NOT, 'additionalProperties': 42, 'items': 44, 'unevaluatedProperties': 60, 'unevaluatedItems': 61}
+SCHEMAS_BY_NAME = {'properties': PROPERTIES, 'dependentSchemas': DEPENDENT}
 ONE_SCHEMA = (NOT, REFERENCE, 42, 44, 60, 61)           # codes whose first word is the schema
-UNGUARDED = (ALL_OF, 31, 32, NOT, REFERENCE)            # codes that apply schemas to the same row
+UNGUARDED = (ALL_OF, 31, 32, NOT, REFERENCE, CONDITION, DEPENDENT)      # codes that apply schemas to the same row
 
 # Keywords that assert, or bear on what is unevaluated, and have no clause; each with when it says nothing after all.
 NO_CLAUSE = {
-    'pattern': None, 'propertyNames': None, 'contains': None, 'if': None, '$dynamicRef': None, '$recursiveRef': None,
+    'pattern': None, 'propertyNames': None, '$dynamicRef': None, '$recursiveRef': None,
     'uniqueItems': lambda schema: schema['uniqueItems'] is False,
-    'minContains': lambda schema: 'contains' not in schema,
-    'maxContains': lambda schema: 'contains' not in schema,
-    'then': lambda schema: 'if' not in schema,
-    'else': lambda schema: 'if' not in schema,
     'patternProperties': lambda schema: schema['patternProperties'] == {},
-    'dependentSchemas': lambda schema: schema['dependentSchemas'] == {},
-    'dependentRequired': lambda schema: schema['dependentRequired'] == {},
     'dependencies': lambda schema: schema['dependencies'] == {},
 }
 
-OTHERS = ('type', 'enum', 'const', 'required', 'properties', '$schema', '$id', '$ref', '$anchor', '$dynamicAnchor',
-          '$defs', '$comment', '$vocabulary', 'definitions', 'title', 'description', 'default', 'examples',
+OTHERS = ('type', 'enum', 'const', 'required', 'dependentRequired', 'if', 'then', 'else', 'contains', 'minContains',
+          'maxContains', '$schema', '$id', '$ref', '$anchor', '$dynamicAnchor', '$defs', '$comment', '$vocabulary',
+          'definitions', 'title', 'description', 'default', 'examples',
           'deprecated', 'readOnly', 'writeOnly', 'format', 'contentEncoding', 'contentMediaType', 'contentSchema')
-KNOWN = frozenset(OTHERS).union(NUMBERS, SIZES, SCHEMA_LISTS, SCHEMAS, NO_CLAUSE)
+KNOWN = frozenset(OTHERS).union(NUMBERS, SIZES, SCHEMA_LISTS, SCHEMAS, SCHEMAS_BY_NAME, NO_CLAUSE)
 
 
 def slips(schemas):

@@ -4,13 +4,13 @@ clauses say the same share a row.
 from collections import namedtuple
 
 from tools import sheets
-from tools.keywords import ENUM, ONE_SCHEMA, PROPERTIES, REFERENCE, REQUIRED
+from tools.keywords import CONTAINS, DEPENDENT, ENUM, ONE_SCHEMA, PROPERTIES, REFERENCE, REQUIRED
 from tools.reading import Number
 
 # fields: the two words after the code, of a clause without entries. An entry has the place of a schema (target), a
-# name, both, or a value; path is the tokens from the schema to it, and through those of the references that lead on
-# from there to the target; shown are the values that an entry of several stands for, as JSON text. A code of ONE_SCHEMA
-# has one entry, its schema.
+# name, both, or a value; that of contains has a place and, as its value, least and most. path is the tokens from the
+# schema to it, and through those of the references that lead on from there to the target; shown are the values that an
+# entry of several stands for, as JSON text. A code of ONE_SCHEMA has one entry, its schema.
 Clause = namedtuple('Clause', 'code keyword fields entries')
 Entry = namedtuple('Entry', 'path target name value through shown', defaults=(None, None, None, (), ()))
 
@@ -100,6 +100,8 @@ def entry_words(code, entry, row_of, text):
         return sheets.leaf(entry.value, text)
     if code == REQUIRED:
         return text.place(entry.name) + (0,)
-    if code == PROPERTIES:
+    if code in (PROPERTIES, DEPENDENT):
         return text.place(entry.name) + (row_of[entry.target],)
+    if code == CONTAINS:
+        return (row_of[entry.target],) + entry.value
     return row_of[entry.target], 0, 0

@@ -8,13 +8,14 @@ from collections import namedtuple
 
 from tools import library, rulesheets
 from tools.fault import CannotJudge, fault_at, refuse_if_any
-from tools.keywords import (ALL_OF, ENUM, NEVER, NO_CLAUSE, NOT, NUMBERS, PROPERTIES, REFERENCE, REQUIRED,
-                            SCHEMA_LISTS, SCHEMAS, SIZES, TYPE, TYPES)
+from tools.keywords import (ALL_OF, CONDITION, CONTAINS, DEPENDENT, ENUM, NEVER, NO_CLAUSE, NOT, NUMBERS, REFERENCE,
+                            REQUIRED, SCHEMA_LISTS, SCHEMAS, SCHEMAS_BY_NAME, SIZES, TYPE, TYPES)
 from tools.reading import Number
 from tools.rulesheets import Clause, Entry
 from tools.structured import Structured, json_text
 
 DIALECT = 'https://json-schema.org/draft/2020-12/schema'
+SIZE_MAX = 2 ** 32 - 1
 
 # root is an entry for the whole document. clauses[place] are the clauses of the schema at a place of the document,
 # row_of[place] its row in the sheet; places tells for each schema, clause and entry of the sheet, counted so, where in
@@ -53,6 +54,11 @@ def too_many(counts):
     for count, (what, limit) in zip(counts, limits):
         if count > limit:
             yield CannotJudge('%d %s, and the judge takes at most %d' % (count, what, limit))
+
+
+def size_of(value):
+    """The whole number from 0 to SIZE_MAX that a value is, or None."""
+    return value.size() if isinstance(value, Number) else None
 
 
 class SchemaReader:
@@ -131,26 +137,31 @@ class SchemaReader:
         return Clause(NUMBERS[keyword], keyword, scaled, ())
 
     def size(self, keyword, value):
-        size = value.size() if isinstance(value, Number) else None
-        if size is None:
-            return self.fault('must be a whole number from 0 to 4294967295', keyword)
-        return Clause(SIZES[keyword], keyword, (size, 0), ())
+        size = self.count(keyword, value)
+        return size if size is None else Clause(SIZES[keyword], keyword, (size, 0), ())
 
-    def required(self, keyword, value):
+    def count(self, keyword, value):
+        count = size_of(value)
+        if count is None:
+            self.fault('must be a whole number from 0 to %d' % SIZE_MAX, keyword)
+        return count
+
+    def required(self, keyword, value, *below):
+        """A list of names that stands at the keyword, or below it."""
+        path, seen = (keyword,) + below, set()
         if not isinstance(value, list) or not all(isinstance(name, str) for name in value):
-            return self.fault('must be an array of strings', keyword)
-        seen = set()
+            return self.fault('must be an array of strings', *path)
         for i, name in enumerate(value):
             if name in seen:
-                self.fault('this name stands here a second time', keyword, str(i))
+                self.fault('this name stands here a second time', *path, str(i))
             seen.add(name)
-        return Clause(REQUIRED, keyword, None,
-                      tuple(Entry((keyword, str(i)), name=name) for i, name in enumerate(value)))
+        return Clause(REQUIRED, keyword, None, tuple(Entry(path + (str(i),), name=name) for i, name in enumerate(value)))
 
-    def properties(self, keyword, value):
+    def schemas_by_name(self, keyword, value):
         if not isinstance(value, dict):
             return self.fault('must be an object', keyword)
-        return Clause(PROPERTIES, keyword, None, tuple(self.entry(keyword, name)._replace(name=name) for name in value))
+        entries = tuple(self.entry(keyword, name)._replace(name=name) for name in value)
+        return Clause(SCHEMAS_BY_NAME[keyword], keyword, None, entries)
 
     def schema_list(self, keyword, value):
         if not isinstance(value, list) or not value:
@@ -169,21 +180,48 @@ class SchemaReader:
         target = self.references.target(self.place, value)
         return target if target is None else Clause(REFERENCE, keyword, None, (Entry((keyword,), target),))
 
+    def condition(self, keyword, value):
+        """if, with then and else beside it, which say nothing without; one that is absent takes everything."""
+        branches = [self.entry(name) if name in self.schema else Entry((), self.made([])) for name in ('then', 'else')]
+        return Clause(CONDITION, keyword, None, (self.entry(keyword), *branches))
+
+    def dependent_names(self, keyword, value):
+        """With each name a schema that requires the others."""
+        if not isinstance(value, dict):
+            return self.fault('must be an object', keyword)
+        clauses = {name: self.required(keyword, names, name) for name, names in value.items()}
+        entries = tuple(Entry((), self.made([clause]), name) for name, clause in clauses.items() if clause is not None)
+        return Clause(DEPENDENT, keyword, None, entries)
+
+    def contained(self, keyword, value):
+        """contains, with minContains and maxContains, which say nothing without."""
+        least = size_of(self.schema['minContains']) if 'minContains' in self.schema else 1
+        most = size_of(self.schema['maxContains']) if 'maxContains' in self.schema else SIZE_MAX
+        return Clause(CONTAINS, keyword, None, (self.entry(keyword)._replace(value=(least, most)),))
+
+    def bound_of_contained(self, keyword, value):
+        """No clause of its own."""
+        self.count(keyword, value)
+
     def one_of_each(self, clauses):
-        """The clauses in rising code. A schema has one of each: a second, from a const beside an enum or from one of
-        these beside a not, becomes one more schema of allOf."""
+        """The clauses in rising code. A schema has one of each: a second, from a const beside an enum, from one of these
+        beside a not, or from names beside schemas that go with names, becomes one more schema of allOf."""
         kept, beside = {}, []
         for clause in clauses:
             if clause.code in kept:
-                place = self.place + (len(beside),)
-                self.added[place] = [clause]
-                beside.append(Entry((), place))
+                beside.append(Entry((), self.made([clause])))
             else:
                 kept[clause.code] = clause
         if beside:
             all_of = kept.get(ALL_OF, Clause(ALL_OF, 'allOf', None, ()))
             kept[ALL_OF] = all_of._replace(entries=all_of.entries + tuple(beside))
         return [kept[code] for code in sorted(kept)]
+
+    def made(self, clauses):
+        """The place of a schema that stands at none of its own."""
+        place = self.place + (len(self.added),)
+        self.added[place] = clauses
+        return place
 
     def entry(self, *path):
         return Entry(path, self.place + path)
@@ -194,7 +232,9 @@ class SchemaReader:
 
 READERS = {'$schema': SchemaReader.dialect, '$ref': SchemaReader.reference, 'type': SchemaReader.types,
            'enum': SchemaReader.enum, 'const': SchemaReader.enum, 'required': SchemaReader.required,
-           'properties': SchemaReader.properties}
+           'dependentRequired': SchemaReader.dependent_names, 'if': SchemaReader.condition,
+           'contains': SchemaReader.contained, 'minContains': SchemaReader.bound_of_contained,
+           'maxContains': SchemaReader.bound_of_contained}
 READERS.update((keyword, reader) for table, reader in (
     (NUMBERS, SchemaReader.number), (SIZES, SchemaReader.size), (SCHEMA_LISTS, SchemaReader.schema_list),
-    (SCHEMAS, SchemaReader.one_schema)) for keyword in table)
+    (SCHEMAS, SchemaReader.one_schema), (SCHEMAS_BY_NAME, SchemaReader.schemas_by_name)) for keyword in table)

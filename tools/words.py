@@ -82,6 +82,16 @@ def size_words(clause, value):
                                              counted(size, UNITS[clause.code]), 'least' if at_least else 'most', limit)
 
 
+def contained_words(count, least, most):
+    """Which of contains and its two bounds is not kept, and in words, if so many items fit."""
+    if least <= count <= most:
+        return 'contains', None
+    few = count < least
+    keyword = 'contains' if few and least == 1 else 'minContains' if few else 'maxContains'
+    fit = '%s that fit%s contains' % (counted(count, 'item'), 's' if count == 1 else '')
+    return keyword, 'has %s, must have at %s' % (fit, 'least %d' % least if few else 'most %d' % most)
+
+
 # ---- values and lists, not longer than one likes to read ----
 
 def counted(count, what):
