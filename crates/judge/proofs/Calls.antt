@@ -26,13 +26,13 @@ use Rattle.meaning.specs.Rules.{Way, whole, cut}
 use Rattle.meaning.specs.Answer.{valid, invalid, Left, verdict, listRoom, judged, judge}
 use Rattle.meaning.proofs.Answers.{rows-are, schemas-are, call-judged, fits}
 use Rattle.clause.proofs.Reading.{record-read, rules-read}
-use Rattle.judge.specs.declared.cycle.Verdict.{Verdict}
-use Rattle.judge.specs.State.{caseOf, Sheets}
+use Rattle.cycle.specs.declared.cycle.Verdict.{Verdict}
+use Rattle.cycle.specs.State.{caseOf, Sheets}
 use Rattle.judge.specs.Whole.{Roomy, leftBy, judgedOf}
 use Rattle.meaning.proofs.Verdicts.{cut-list}
 use Rattle.judge.specs.declared.answer.Answer.{Answer}
 use Rattle.judge.specs.Call.{answerOf, leaves, verdictLeaves}
-use Rattle.judge.proofs.Going.{pairs-few}
+use Rattle.cycle.proofs.Going.{pairs-few}
 
 module _ (ws ts rs us : List ℕ) (n m : ℕ) (good : recordOutcome ws ts ≡ accepted n) (fine : rulesOutcome rs us ≡ accepted m) where
   rows : rowsWord ws ≡ n

@@ -1,10 +1,3 @@
-pub mod State
-pub mod Ways
-pub mod Pairs
-pub mod Going
-pub mod Claused
-pub mod Turning
 pub mod Whole
-pub mod Reading
 pub mod Calls
 pub mod Outcomes

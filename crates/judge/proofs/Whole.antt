@@ -26,12 +26,12 @@ use Rattle.meaning.proofs.Rows.{by-rows}
 use Rattle.areas.specs.Cells.{cellOf, verd, bit, four, settledAs, column, markedBy, Cleared, cellAt}
 use Rattle.areas.specs.Writers.{Writes}
 use Rattle.areas.proofs.Cells.{settledAs-read, whole as both-parts, zero-verd, zero-bit, settled-blank}
-use Rattle.judge.specs.declared.cycle.Verdict.{Verdict}
-use Rattle.judge.specs.State.{pair, Case, Fits, InCase, firstKid, kidCount, truthOf, settleOf, bitsOf, written, Areas, Quiet, Ready, Judged}
+use Rattle.cycle.specs.declared.cycle.Verdict.{Verdict}
+use Rattle.cycle.specs.State.{pair, Case, Fits, InCase, firstKid, kidCount, truthOf, settleOf, bitsOf, written, Areas, Quiet, Ready, Judged}
 use Rattle.judge.specs.Whole.{Exact, Fresh, Roomy, leftBy, judgedOf}
-use Rattle.judge.proofs.Pairs.{settle-self}
-use Rattle.judge.proofs.State.{written-room, written-none, areas-marks, areas-writes}
-use Rattle.judge.proofs.Going.{open-bits}
+use Rattle.cycle.proofs.Pairs.{settle-self}
+use Rattle.cycle.proofs.State.{written-room, written-none, areas-marks, areas-writes}
+use Rattle.cycle.proofs.Going.{open-bits}
 
 -- ---- the run begins
 

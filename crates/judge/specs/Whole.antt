@@ -6,8 +6,8 @@ use mathlib.Core.List.{List}
 use mathlib.Core.Path.{_≡_}
 use lib.ListN.{length, getD}
 use Rattle.meaning.specs.Answer.{Left, verdict, listRoom, judged}
-use Rattle.judge.specs.declared.cycle.Verdict.{Verdict}
-use Rattle.judge.specs.State.{Case, Fits}
+use Rattle.cycle.specs.declared.cycle.Verdict.{Verdict}
+use Rattle.cycle.specs.State.{Case, Fits}
 
 -- areas of exactly n × m places; of the list none, if judging is cut
 pub record Exact (T : Case) (cells list : List ℕ) : Type 0 where

@@ -1,17 +1,15 @@
 // The judge: a record sheet and a rule sheet with their texts, and two lent areas, cells and list.
 //
-// Both calls are checks (`sheet`, `rules`), areas, clearing and judging (`run`, `cycle`): `judge` judges
+// Both calls are checks (`sheet`, `rules`), areas, clearing and judging (`run`, crate `cycle`): `judge` judges
 // in whole, and `verdict`, which has no list, cut. Their contracts cite `specs/Call.antt`.
 pub mod answer;
-mod cycle;
-mod read;
 mod run;
 
 ghost use mathlib.Core.Path.{_≡_};
 ghost use Rattle.sheet.specs.Refusals.{accepted};
 ghost use Rattle.sheet.specs.Faults.{recordOutcome};
 ghost use Rattle.rules.specs.Check.{rulesOutcome};
-ghost use Rattle.judge.specs.State.{wayBy};
+ghost use Rattle.cycle.specs.State.{wayBy};
 ghost use Rattle.judge.specs.Call.{leaves, callLeaves, verdictLeaves};
 use answer::Answer;
 use recordcheck::check_record;

@@ -27,7 +27,7 @@ use Rattle.rulesheet.proofs.Reaching.{made-at, item-is}
 use Rattle.meaning.specs.Rules.{Pair, Marks, to}
 use Rattle.clause.specs.Read as C
 use Rattle.steps.specs.declared.turn.Turn.{Turn}
-use Rattle.steps.specs.Plan.{memberCount, elementCount, no-member, countsHits, branches, branchGoes, branchOf, own, childNamed, stepsOf, aimOf, goOf}
+use Rattle.plan.specs.Plan.{memberCount, elementCount, no-member, countsHits, branches, branchGoes, branchOf, own, childNamed, stepsOf, aimOf, goOf}
 use Rattle.steps.specs.Turns.{goesAt, Skipped, Turned}
 use Rattle.steps.proofs.Turns.{at, atOf, skipped-none, skipped-more, goes-on, goes-of, stops}
 use Rattle.steps.proofs.Aiming.{named-place}

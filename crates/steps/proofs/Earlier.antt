@@ -45,7 +45,7 @@ use Rattle.meaning.specs.Rules.{Pair, none?, namesOf, prefixOf, called}
 use Rattle.clause.proofs.Having.{never-not}
 use Rattle.clause.proofs.Listing.{any-found, entry-found, entry-nowhere}
 use Rattle.clause.specs.Read.{beforeIn}
-use Rattle.steps.specs.Plan.{unnamed}
+use Rattle.plan.specs.Plan.{unnamed}
 use Rattle.steps.specs.Read.{namedBy, Started}
 
 -- ---- by the variant that was read

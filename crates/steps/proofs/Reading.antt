@@ -5,19 +5,13 @@
 --     spared-ends, ends-finish     and by what is read of it
 --     all-after, next-after, applied-after       where a failure leads a clause, by the variant that was read and by what is read of it
 --     enough-size, enough-none     of elements, by how many there are
---     none-carried, ends-joined    by the hits, where misses are carried
 -- Assumes nothing.
 use mathlib.Core.Bool.{Bool, true, _&&_}
 use mathlib.Core.Option.{some, none}
 use mathlib.Core.List.{List, [], _∷_}
 use mathlib.Core.Path.{_≡_, refl, sym, ap, _∙_}
-use mathlib.Core.Logic.{⊎-elim}
-use Prim.Native.Nat.{ℕ, _+_, _-_, _≤_, _<_}
-use native.Mathlib.Omega.{arith}
+use Prim.Native.Nat.{ℕ, _+_, _-_}
 use lib.Dec.{eqb, leb, ltb}
-use lib.ListN.{length}
-use borrow.Author.Tests.{lt-ltb, le-ltb, eq-eqb, ne-eqb}
-use Rattle.laws.proofs.Tests.{le-or-lt}
 use types.Run.{OneOf, miss}
 use denote.Enum.Declared.{tagOf}
 use Rattle.sheet.specs.Doc.{Value, null, bool, number, string, array, object, Doc}
@@ -37,7 +31,7 @@ use Rattle.meaning.specs.Tests.{members?, elements?, given}
 use Rattle.meaning.specs.Rules.{Pair, within, contained}
 use Rattle.clause.specs.Read.{sizeOf, orNone}
 use Rattle.meaning.proofs.Members.{range-length}
-use Rattle.steps.specs.Plan.{memberCount, elementCount, finishedBy, endsBy, afterMiss, stepsOf, finishOf}
+use Rattle.plan.specs.Plan.{memberCount, elementCount, endsBy, afterMiss, stepsOf, finishOf}
 
 -- ---- how many members and elements a row has
 
@@ -105,25 +99,7 @@ pub no-steps : (d : Doc) (p : Pair) (before : List R.Clause) (rs us : List ℕ) 
 unfolding stepsOf
 no-steps d p before rs us clause k = let a = asserting rs us clause k in rw (a .means)
 
--- ---- what a clause says in the end, by its misses
-
-none-missed : (misses n : ℕ) → misses ≤ n → eqb misses 0 ≡ eqb (n - misses) n
-none-missed misses n h =
-    ⊎-elim (λ (z : misses ≤ 0). eq-eqb misses 0 (omega arith) ∙ sym (eq-eqb (n - misses) n (omega arith)))
-    (λ (z : 0 < misses). ne-eqb misses 0 (λ e. omega arith) ∙ sym (ne-eqb (n - misses) n (λ e. omega arith)))
-    (le-or-lt misses 0)
-
-some-hit : (misses n : ℕ) → ltb misses n ≡ ltb 0 (n - misses)
-some-hit misses n =
-    ⊎-elim (λ (z : n ≤ misses). le-ltb misses n z ∙ sym (le-ltb 0 (n - misses) (omega arith)))
-    (λ (z : misses < n). lt-ltb misses n z ∙ sym (lt-ltb 0 (n - misses) (omega arith)))
-    (le-or-lt n misses)
-
-all-missed : (misses n : ℕ) → misses ≤ n → eqb misses n ≡ eqb (n - misses) 0
-all-missed misses n h =
-    ⊎-elim (λ (z : n ≤ misses). eq-eqb misses n (omega arith) ∙ sym (eq-eqb (n - misses) 0 (omega arith)))
-    (λ (z : misses < n). ne-eqb misses n (λ e. omega arith) ∙ sym (ne-eqb (n - misses) 0 (λ e. omega arith)))
-    (le-or-lt n misses)
+-- ---- what a clause says in the end, by what is carried
 
 -- the positions of the variants that need every step to hold, and those that assert
 abbrev pub others : List ℕ
@@ -263,19 +239,6 @@ ends-finish d p (ifThenElse i t e) tally applies = refl
 ends-finish d p (dependentSchemas es) tally applies = refl
 ends-finish d p (contains s least most) tally applies = refl
 ends-finish d p (takes c) tally applies = refl
-
--- ---- what the hits tell the misses tell
-
-pub none-carried : (hits misses n : ℕ) → hits + misses ≡ n → eqb hits n ≡ eqb misses 0
-none-carried hits misses n e = let h : hits ≡ n - misses = omega arith in ap (λ (x : ℕ). eqb x n) h ∙ sym (none-missed misses n (omega arith))
-
-pub ends-joined : (d : Doc) (p : Pair) (mode : R.Mode) (ss : List ℕ) (hits misses : ℕ) → hits + misses ≡ length ss → finishedBy mode hits (length ss) ≡ endsBy d p (inPlace mode ss) misses
-unfolding endsBy finishedBy
-ends-joined d p allOf ss hits misses e = none-carried hits misses (length ss) e
-ends-joined d p anyOf ss hits misses e = let h : hits ≡ length ss - misses = omega arith in ap (ltb 0) h ∙ sym (some-hit misses (length ss))
-ends-joined d p oneOf ss hits misses e = let h : hits ≡ length ss - misses = omega arith in ap (λ (x : ℕ). eqb x 1) h
-ends-joined d p notOf ss hits misses e = let h : hits ≡ length ss - misses = omega arith in ap (λ (x : ℕ). eqb x 0) h ∙ sym (all-missed misses (length ss) (omega arith))
-ends-joined d p ref ss hits misses e = none-carried hits misses (length ss) e
 
 -- ---- how many elements are enough
 

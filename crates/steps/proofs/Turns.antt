@@ -18,7 +18,7 @@ use Rattle.rulesheet.specs.Clauses.{clauseMeans, applying}
 use Rattle.meaning.specs.Rules.{Pair, Marks}
 use Rattle.clause.proofs.Having.{never, never-not}
 use Rattle.steps.specs.declared.turn.Turn.{Turn}
-use Rattle.steps.specs.Plan.{countsHits, branches, stepsOf, aimOf}
+use Rattle.plan.specs.Plan.{countsHits, branches, stepsOf, aimOf}
 use Rattle.steps.specs.Turns.{goesAt, Skipped, Turned}
 
 -- at step x, which applies the schema to the row

@@ -16,7 +16,7 @@ use Rattle.meaning.specs.Rules.{Pair, Marks}
 use Rattle.clause.specs.Read.{RecordRead, RulesRead, clauseIn, beforeIn}
 use Rattle.areas.specs.Cells.{pairIs, Unsettled, column}
 use Rattle.steps.specs.declared.turn.Turn.{Turn}
-use Rattle.steps.specs.Plan.{countsHits, branches, stepsOf, aimOf, goOf}
+use Rattle.plan.specs.Plan.{countsHits, branches, stepsOf, aimOf, goOf}
 use Rattle.steps.specs.Read.{Started}
 
 module _ (D : Doc) (p : Pair) (before : List Clause) (c : Clause) where

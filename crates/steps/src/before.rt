@@ -15,7 +15,7 @@ ghost use Rattle.rulesheet.specs.declared.form.RuleForm.{RuleForm as Form};
 ghost use Rattle.meaning.specs.Lists.{concatMap};
 ghost use Rattle.meaning.specs.Rules.{Pair, namesOf, prefixOf};
 ghost use Rattle.clause.specs.Read.{RecordRead, RulesRead, ListRead, clauseIn, beforeIn};
-ghost use Rattle.steps.specs.Plan.{unnamed};
+ghost use Rattle.plan.specs.Plan.{unnamed};
 ghost use Rattle.steps.specs.Read.{namedBy, Started};
 use rulesheet::clause::Clause;
 use rulesheet::clause::Entries;

@@ -11,7 +11,7 @@ ghost use Rattle.rulesheet.specs.Read.{RulesFormed};
 ghost use Rattle.rulesheet.specs.Clauses.{entryIn, schemasIn};
 ghost use Rattle.meaning.specs.Rules.{Pair as Meant, Marks};
 ghost use Rattle.clause.specs.Read.{sizeIn, orNone};
-ghost use Rattle.steps.specs.Plan.{memberCount, elementCount};
+ghost use Rattle.plan.specs.Plan.{memberCount, elementCount};
 ghost use Rattle.steps.specs.Read.{Started};
 ghost use Rattle.steps.specs.Turns.{Turned, TurnedOn, TurnedFresh};
 use crate::turn::Turn;

@@ -11,7 +11,7 @@ ghost use Rattle.rulesheet.specs.Clauses.{clauseMeans, Tested};
 ghost use Rattle.meaning.specs.Rules.{Pair as Meant, contained};
 ghost use Rattle.areas.specs.Cells.{pairIs};
 ghost use Rattle.clause.specs.Read.{RulesRead, clauseIn};
-ghost use Rattle.steps.specs.Plan.{endsBy, afterMiss};
+ghost use Rattle.plan.specs.Plan.{endsBy, afterMiss};
 use clause::sizes::Measured;
 use clause::sizes::elements_of;
 use rulesheet::clause::Clause;

@@ -5,7 +5,7 @@ use Rattle.rulesheet.specs.declared.form.SchemaRow.{SchemaRow}
 use Rattle.rulesheet.specs.Clauses.{applying}
 use Rattle.clause.specs.Read.{clauseIn}
 use Rattle.clause.proofs.Reading.{clause-low, clause-small, clause-read}
-use Rattle.steps.specs.Plan.{afterMiss}
+use Rattle.plan.specs.Plan.{afterMiss}
 use Rattle.steps.proofs.Reading.{applied-after}
 use borrow.Author.Needs.{needs}
 use Rattle.steps.proofs.finish.after_miss.Statement.{statement}

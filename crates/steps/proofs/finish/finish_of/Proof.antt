@@ -7,7 +7,7 @@ use Rattle.rulesheet.specs.Clauses.{sparing}
 use Rattle.areas.specs.Cells.{pairIs}
 use Rattle.clause.specs.Read.{clauseIn}
 use Rattle.clause.proofs.Reading.{clause-low, clause-small, clause-read}
-use Rattle.steps.specs.Plan.{endsBy}
+use Rattle.plan.specs.Plan.{endsBy}
 use Rattle.steps.proofs.Reading.{spared-ends}
 use borrow.Author.Needs.{needs}
 use Rattle.steps.proofs.finish.finish_of.Statement.{statement}

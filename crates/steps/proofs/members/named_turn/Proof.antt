@@ -11,7 +11,7 @@ use Rattle.rulesheet.specs.Clauses.{membersIn}
 use Rattle.meaning.specs.Rules.{Pair, Marks}
 use Rattle.clause.proofs.Naming.{child-inside}
 use Rattle.clause.proofs.Listing.{list-few}
-use Rattle.steps.specs.Plan.{memberCount}
+use Rattle.plan.specs.Plan.{memberCount}
 use Rattle.steps.specs.Turns.{Skipped}
 use Rattle.steps.proofs.Turns.{skipped-none}
 use Rattle.steps.proofs.Aiming.{members-object, members-some, no-members, named-turn, named-more, named-end}

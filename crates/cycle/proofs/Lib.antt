@@ -1,0 +1,7 @@
+pub mod State
+pub mod Ways
+pub mod Pairs
+pub mod Going
+pub mod Claused
+pub mod Turning
+pub mod Reading

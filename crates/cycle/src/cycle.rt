@@ -1,0 +1,140 @@
+// Judging a schema judges its clauses, and judging a clause judges schemas again: `apply`,
+// `judge_pair` and `judge_clause` in a cycle. Whatever applies a pair reads its cell first. Each round
+// goes down in the record or along an unguarded chain: the rank of a pair is levels left x 33 + its
+// schema's longest unguarded chain.
+//
+// 1,024 pairs can be open at once, so an open pair keeps little: sheets, texts and forms lie behind one
+// address each, and what is read of them is read in `read`, where no pair is open.
+//
+// One cycle serves both calls: whether judging goes on after a failure, in whole, or stops, cut, is
+// asked of `read::next_clause` and `read::next_step`.
+//
+// The contracts cite `specs/State.antt`.
+ghost use Prim.Native.Nat.{_+_, _<_};
+ghost use Rattle.rulesheet.specs.Sheet.{schemaAt};
+ghost use Rattle.areas.specs.Cells.{pairIs, Unsettled};
+ghost use Rattle.cycle.specs.State.{lent, lentCase, Lent, rankOf, Ready, Judged, ClauseJudged, Applying};
+use crate::read::RULES;
+use crate::read::clauses_of;
+use crate::read::finish;
+use crate::read::give;
+use crate::read::moved;
+use crate::read::next_clause;
+use crate::read::next_step;
+use crate::read::schemas_of;
+use crate::read::shut;
+use crate::read::start;
+use crate::read::tried;
+use crate::read::turn;
+use crate::read::verdict_of;
+use areas::settle;
+use clause::test::Tried;
+use sheet::record::Pair;
+
+// What judging a clause gives: whether it holds, and how many pairs are settled by then.
+pub struct Done {
+    pub ok: bool,
+    pub count: usize,
+}
+
+// What judging a record gives: whether it is valid, how many pairs are settled, and how many
+// children of the root are marked.
+pub struct Verdict {
+    pub ok: bool,
+    pub count: usize,
+    pub marked: usize,
+}
+
+// Applies a pair: its cell answers if it is settled, and else it is judged. The answer is how many
+// pairs are settled then.
+pub fn apply<'a, 'b>(
+    sheets: &'a [&'b [u32]; 2],
+    texts: &'a [&'b [u8]; 2],
+    forms: &'a [usize; 9],
+    cells: &mut [u8],
+    list: &mut [u32],
+    count: usize,
+    p: Pair,
+) -> usize
+    requires { ⌜ Lent (now sheets) (now texts) (now forms) ⌝ }
+    requires { ⌜ Ready (lentCase (now sheets) (now texts) (now forms)) (rankOf (lentCase (now sheets) (now texts) (now forms)) (pairIs p) + 1) (pairIs p) (now cells) (now list) count ⌝ }
+    ensures { λ r. ⌜ Judged (lentCase (now (sheets .entry)) (now (texts .entry)) (now (forms .entry))) (pairIs p) (now (cells .entry)) (now (list .entry)) count (now (cells .exit)) (now (list .exit)) r ⌝ }
+{
+    if verdict_of(forms, cells, p) != 0 {
+        return count;
+    }
+    judge_pair(sheets, texts, forms, cells, list, count, p)
+}
+
+// Judges the clauses of a pair that is not settled, and settles it.
+fn judge_pair<'a, 'b>(
+    sheets: &'a [&'b [u32]; 2],
+    texts: &'a [&'b [u8]; 2],
+    forms: &'a [usize; 9],
+    cells: &mut [u8],
+    list: &mut [u32],
+    count: usize,
+    p: Pair,
+) -> usize
+    requires { ⌜ Lent (now sheets) (now texts) (now forms) ⌝ }
+    requires { ⌜ Ready (lentCase (now sheets) (now texts) (now forms)) (rankOf (lentCase (now sheets) (now texts) (now forms)) (pairIs p) + 1) (pairIs p) (now cells) (now list) count ⌝ }
+    requires { ⌜ Unsettled (lentCase (now sheets) (now texts) (now forms) .m) (pairIs p) (now cells) ⌝ }
+    ensures { λ r. ⌜ Judged (lentCase (now (sheets .entry)) (now (texts .entry)) (now (forms .entry))) (pairIs p) (now (cells .entry)) (now (list .entry)) count (now (cells .exit)) (now (list .exit)) r ⌝ }
+{
+    let many = clauses_of(sheets[RULES], forms, p.rule);
+    let mut ok = true;
+    let mut now = count;
+    let mut i = 0;
+    while i < many {
+        match tried(sheets, texts, forms, cells, p, i) {
+            Tried::Passed(so) => {
+                ok = ok & so;
+            }
+            Tried::Applies => {
+                let d = judge_clause(sheets, texts, forms, cells, list, now, p, i);
+                now = d.count;
+                ok = ok & d.ok;
+            }
+        }
+        i = next_clause(forms, many, i, ok);
+    }
+    shut(sheets, texts, forms, cells, p, ok);
+    settle(cells, list, schemas_of(forms), p, ok, now)
+}
+
+// Judges clause i of a pair that is not settled, which applies schemas: one pair after the other.
+fn judge_clause<'a, 'b>(
+    sheets: &'a [&'b [u32]; 2],
+    texts: &'a [&'b [u8]; 2],
+    forms: &'a [usize; 9],
+    cells: &mut [u8],
+    list: &mut [u32],
+    count: usize,
+    p: Pair,
+    i: u32,
+) -> Done
+    requires { ⌜ Lent (now sheets) (now texts) (now forms) ⌝ }
+    requires { ⌜ Ready (lentCase (now sheets) (now texts) (now forms)) (rankOf (lentCase (now sheets) (now texts) (now forms)) (pairIs p)) (pairIs p) (now cells) (now list) count ⌝ }
+    requires { ⌜ Unsettled (lentCase (now sheets) (now texts) (now forms) .m) (pairIs p) (now cells) ⌝ }
+    requires { ⌜ (i < schemaAt (lent (now sheets) 1) (p .rule .0) .count) × Applying (lentCase (now sheets) (now texts) (now forms)) (pairIs p) i ⌝ }
+    ensures { λ r. ⌜ ClauseJudged (lentCase (now (sheets .entry)) (now (texts .entry)) (now (forms .entry))) (pairIs p) i (now (cells .entry)) (now (list .entry)) count (now (cells .exit)) (now (list .exit)) r ⌝ }
+{
+    let from = start(sheets, texts, forms, p, i);
+    let mut tally = 0;
+    let mut now = count;
+    let mut x = 0;
+    loop {
+        let at = turn(sheets, texts, forms, cells, p, i, from, x, tally);
+        if !at.go {
+            return Done {
+                ok: finish(sheets, texts, forms, p, i, tally),
+                count: now,
+            };
+        }
+        now = apply(sheets, texts, forms, cells, list, now, at.pair);
+        let held = verdict_of(forms, cells, at.pair) == 1;
+        tally = moved(at.hits, at.branch, at.step, tally, held);
+        give(sheets, texts, forms, cells, p, at.pair, !at.hits | held);
+        x = next_step(sheets, texts, forms, p, i, at.step, tally);
+    }
+}
