@@ -8,7 +8,7 @@ use Rattle.grammar.specs.Codes.{placeAt}
 use Rattle.brackets.specs.Brackets.{brackets}
 use Rattle.brackets.proofs.Bits.{stepped-none, stepped-some}
 use Rattle.scan.specs.Scanning.{dies, goes}
-use Rattle.scan.proofs.Moving.{code-place}
+use Rattle.brackets.proofs.Moving.{code-place}
 use borrow.Author.Needs.{needs}
 use Rattle.scan.proofs.next.Statement.{statement}
 use Rattle.scan.proofs.next.Tie as tie
