@@ -24,24 +24,27 @@ pub record Bounded (n : ℕ) (s : Tally) : Type 0 where
   pub values-low : UpTo (4 * n) (s .values)
   pub texts-low : UpTo (4 * n) (s .texts)
 
-up-more : {a b : ℕ} {xs : List ℕ} → a ≤ b → UpTo a xs → UpTo b xs
+pub up-more : {a b : ℕ} {xs : List ℕ} → a ≤ b → UpTo a xs → UpTo b xs
 up-more h u = record { each = λ k. omega (arith, u .each k) }
 
 pub bounded-low : (n : ℕ) (s : Tally) → n ≤ 65_536 → Bounded n s → (UpTo most (s .values)) × (UpTo most (s .texts))
 bounded-low n s h b = (up-more (omega arith) (b .values-low), up-more (omega arith) (b .texts-low))
 
-add-up : (m k n : ℕ) (xs : List ℕ) → n ≤ 4 → UpTo (4 * m) xs → UpTo (4 * suc m) (addAt k n xs)
-unfolding addAt
-add-up m k n xs h u = record { each = λ j. go j (eqb k j) refl }
+pub set-up : (m k v : ℕ) (xs : List ℕ) → v ≤ m → UpTo m xs → UpTo m (set xs k v)
+set-up m k v xs h u = record { each = λ j. go j (eqb k j) refl }
   where
-    go : (j : ℕ) (t : Bool) → eqb k j ≡ t → getD (set xs k (getD xs k 0 + n)) j 0 ≤ 4 * suc m
+    go : (j : ℕ) (t : Bool) → eqb k j ≡ t → getD (set xs k v) j 0 ≤ m
     go j true e =
         let same : k ≡ j = eqb-true k j e in
         ⊎-elim
-        (λ (l : length xs ≤ k). rw (set-out xs k (getD xs k 0 + n) l) (omega (arith, u .each j)))
-        (λ (l : k < length xs). rw (← same) (omega (arith, u .each k, getD-set-same xs k (getD xs k 0 + n) 0 l)))
+        (λ (l : length xs ≤ k). rw (set-out xs k v l) (u .each j))
+        (λ (l : k < length xs). rw (← same) (omega (arith, getD-set-same xs k v 0 l)))
         (le-or-lt (length xs) k)
-    go j false e = omega (arith, u .each j, getD-set-other xs k j (getD xs k 0 + n) 0 (λ x. eqb-false k j e (sym x)))
+    go j false e = omega (arith, u .each j, getD-set-other xs k j v 0 (λ x. eqb-false k j e (sym x)))
+
+add-up : (m k n : ℕ) (xs : List ℕ) → n ≤ 4 → UpTo (4 * m) xs → UpTo (4 * suc m) (addAt k n xs)
+unfolding addAt
+add-up m k n xs h u = set-up (4 * suc m) k (getD xs k 0 + n) xs (omega (arith, u .each k)) (up-more (omega arith) u)
 
 pub size-low : (c : ℕ) → encodedSize c ≤ 4
 unfolding encodedSize
@@ -60,16 +63,16 @@ unit-low high c = go (high && isLow c)
     go true = omega arith
     go false = size-low c
 
-pub bounded-none : Bounded 0 noTally
-bounded-none = record { values-low = nought-up; texts-low = nought-up }
+pub noughts-up : (m : ℕ) → UpTo 0 (replicate m 0)
+noughts-up m = record { each = go m }
   where
-    noughts : (m j : ℕ) → getD (replicate m 0) j 0 ≤ 0
-    noughts zero j = omega arith
-    noughts (suc m) zero = omega arith
-    noughts (suc m) (suc j) = noughts m j
+    go : (m j : ℕ) → getD (replicate m 0) j 0 ≤ 0
+    go zero j = omega arith
+    go (suc m) zero = omega arith
+    go (suc m) (suc j) = go m j
 
-    nought-up : UpTo (4 * 0) (replicate levels 0)
-    nought-up = record { each = λ j. noughts levels j }
+pub bounded-none : Bounded 0 noTally
+bounded-none = record { values-low = noughts-up levels; texts-low = noughts-up levels }
 
 module _ (n b k : ℕ) where
   -- by a test
