@@ -4,11 +4,10 @@ ghost use mathlib.Core.List.{List};
 ghost use mathlib.Core.Logic.{_≢_};
 ghost use mathlib.Core.Path.{_≡_};
 ghost use Prim.Native.Nat.{ℕ, suc, _%_, _≤_, _<_};
-ghost use lib.ListN.{length, getD, drop};
+ghost use lib.ListN.{length, drop};
 ghost use Rattle.json.specs.Automaton.{Bracket, asName};
-ghost use Rattle.grammar.specs.Codes.{placeAt};
-ghost use Rattle.naming.specs.Gathering.{textMore, escapeMore, escaped, gather};
-ghost use Rattle.gathering.specs.Held.{Small, Sound, Does, OnText, Gathers, Within};
+ghost use Rattle.naming.specs.Gathering.{textMore, escapeMore, escaped};
+ghost use Rattle.gathering.specs.Held.{Small, Sound, Does, OnText, Within, Gathers};
 use strings::short_of;
 use survey::strings::high;
 
@@ -71,10 +70,8 @@ fn escape_whole(json: &[u8], at: usize, code: u32, n: Gathered, text: &mut [u8])
     requires { ⌜ Small n × (at ≤ 65536) × (code < 0x20000) ⌝ }
     ensures { λ r. ⌜ OnText (escaped code (drop (suc at) (now (json .entry)))) (now (text .entry)) n (now (text .exit)) r ⌝ }
 {
-    if high(code) {
-        if low_ahead(json, at + 1) {
-            return with_waits(code, n);
-        }
+    if high(code) & low_ahead(json, at + 1) {
+        return with_waits(code, n);
     }
     say_code(character(n.waits, code), n, text)
 }
