@@ -8,7 +8,7 @@ ghost use Rattle.survey.specs.Bounds.{Sound};
 use figure::Figure;
 
 mod numbers;
-mod strings;
+pub mod strings;
 mod values;
 
 use crate::numbers::in_exponent;
