@@ -22,7 +22,7 @@ use Rattle.figure.specs.Figure.{noFigure, wholeMore, partMore, powerBack, power
 use Rattle.figure.proofs.Bounds.{Kin, kin-none, kin-whole, kin-part, kin-back, kin-power, kin-more, kin-fair}
 use Rattle.survey.specs.declared.Watch.{Watch}
 use Rattle.survey.specs.Bounds.{Sound}
-use Rattle.survey.specs.Watching.{found, withFigure, withEscapes, nameBegun, numeric, isDigit, firstFigure, counted, begun, ended, parted, waitFor, coded, slashed, codeMore, hexed, hexDone, opened, digited, digitOr, isEnd, moved}
+use Rattle.survey.specs.Watching.{found, withFigure, withEscapes, noEscapes, numeric, isDigit, firstFigure, counted, begun, ended, parted, waitFor, coded, slashed, codeMore, hexed, hexDone, opened, digited, digitOr, isEnd, moved}
 
 pub record Bounded (n : ℕ) (s : Watch) : Type 0 where
   pub kin : Kin n (s .figure)
@@ -132,16 +132,16 @@ module _ (n b : ℕ) (byte : b < 256) where
     hex-done hex2 = hexes
     hex-done hex1 = codes (codeMore b s)
 
-    fresh : Bounded (suc n) (nameBegun s)
-    fresh = record { kin = same .kin; few = h .few; small = omega arith }
+    fresh : Bounded (suc n) (withEscapes noEscapes s)
+    fresh = with-code 0 0 0 0 (omega arith)
 
     pub bounded-moved : (p : Place) (k left : ℕ) → Bounded (suc n) (moved p k b left s)
     bounded-moved ahead k left = opens k left
     bounded-moved firstElement k left = either (eqb b 0x5D) s (opened k b left s) same (opens k left)
     bounded-moved after k left = same
-    bounded-moved name k left = either (ltb 0x20 b) (nameBegun s) s fresh same
+    bounded-moved name k left = either (ltb 0x20 b) (withEscapes noEscapes s) s fresh same
     bounded-moved firstName k left =
-        either (ltb 0x20 b) (cond (eqb b 0x7D) s (nameBegun s)) s (either (eqb b 0x7D) s (nameBegun s) same fresh) same
+        either (ltb 0x20 b) (cond (eqb b 0x7D) s (withEscapes noEscapes s)) s (either (eqb b 0x7D) s (withEscapes noEscapes s) same fresh) same
     bounded-moved colon k left = same
     bounded-moved (word w) k left = same
     bounded-moved minus k left = digits wholeMore whole-kin

@@ -66,10 +66,6 @@ ended k s =
 
 -- ---- strings
 
--- a name starts: of what came before only faults and the count of values are kept
-abbrev pub nameBegun : Watch → Watch
-nameBegun s = record { fault = s .fault; left = s .left; values = s .values; start = 0; figure = s .figure; escapes = noEscapes }
-
 -- a high surrogate that waits is lone, unless a low one follows directly
 unfoldable pub parted : Watch → Watch
 parted s = cond (eqb (s .escapes .waits) 0) s (found 26 (s .escapes .waiting) s)
@@ -125,8 +121,8 @@ abbrev pub moved : Place → ℕ → ℕ → ℕ → Watch → Watch
 moved ahead k b left s = opened k b left s
 moved firstElement k b left s = cond (eqb b 0x5D) s (opened k b left s)
 moved after k b left s = s
-moved name k b left s = cond (ltb 0x20 b) (nameBegun s) s
-moved firstName k b left s = cond (ltb 0x20 b) (cond (eqb b 0x7D) s (nameBegun s)) s
+moved name k b left s = cond (ltb 0x20 b) (withEscapes noEscapes s) s
+moved firstName k b left s = cond (ltb 0x20 b) (cond (eqb b 0x7D) s (withEscapes noEscapes s)) s
 moved colon k b left s = s
 moved (word w) k b left s = s
 moved minus k b left s = digited wholeMore b s

@@ -21,8 +21,9 @@ use crate::numbers::whole_or_end;
 use crate::strings::backslash;
 use crate::strings::hex_digit;
 use crate::strings::hex_last;
-use crate::strings::name_begins;
+use crate::strings::no_escapes;
 use crate::strings::surrogate_parts;
+use crate::strings::with_escapes;
 use crate::values::value_starts;
 
 // The escape under way and the high surrogate that waits for its low one, or 0; each place is told
@@ -109,7 +110,7 @@ fn outer_moves(place: u8, depth: u32, byte: u8, left: usize, s: Watch) -> Watch
         return s;
     }
     if place == 3 {
-        return name_begins(s);
+        return with_escapes(no_escapes(), s);
     }
     if place == 1 {
         if byte == 0x5D {
@@ -120,7 +121,7 @@ fn outer_moves(place: u8, depth: u32, byte: u8, left: usize, s: Watch) -> Watch
     if byte == 0x7D {
         return s;
     }
-    name_begins(s)
+    with_escapes(no_escapes(), s)
 }
 
 // What a byte does to what is kept, before a fault: the place it is read at, how many brackets are

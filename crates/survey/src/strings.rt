@@ -3,7 +3,7 @@ ghost use mathlib.Core.Path.{_≡_};
 ghost use Prim.Native.Nat.{_<_};
 ghost use Rattle.escapes.specs.Escapes.{hexAt};
 ghost use Rattle.json.specs.Value.{isHigh, isLow};
-ghost use Rattle.survey.specs.Watching.{noEscapes, withEscapes, nameBegun, parted, coded, slashed, codeMore, hexed};
+ghost use Rattle.survey.specs.Watching.{noEscapes, withEscapes, parted, coded, slashed, codeMore, hexed};
 use crate::Escapes;
 use crate::Watch;
 use crate::values::at_fault;
@@ -31,21 +31,6 @@ pub(crate) fn with_escapes(e: Escapes, s: Watch) -> Watch
         start: s.start,
         figure: figure,
         escapes: e,
-    }
-}
-
-// A name starts.
-pub(crate) fn name_begins(s: Watch) -> Watch
-    ensures { λ r. ⌜ r ≡ nameBegun s ⌝ }
-{
-    let figure = s.figure;
-    Watch {
-        fault: s.fault,
-        left: s.left,
-        values: s.values,
-        start: 0,
-        figure: figure,
-        escapes: no_escapes(),
     }
 }
 

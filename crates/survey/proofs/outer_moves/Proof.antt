@@ -1,7 +1,9 @@
 -- `survey::outer_moves` meets its contract. Assumes nothing.
-use mathlib.Core.Path.{_≡_, sym, _∙_}
+use mathlib.Core.Path.{_≡_, refl, sym, ap, _∙_}
 use native.Mathlib.Omega.{arith}
 use borrow.Author.Tests.{eq-eqb, ne-eqb, lt-ltb, le-ltb}
+use Rattle.survey.specs.declared.Escapes.{Escapes}
+use Rattle.survey.specs.Watching.{withEscapes}
 use Rattle.survey.proofs.Ranges.{outer-blank, at-place}
 use borrow.Author.Needs.{needs}
 use Rattle.survey.proofs.outer_moves.Statement.{statement}
@@ -25,13 +27,17 @@ returns-3 c =
     let a = c .before .before .before .args in
     sym (outer-blank (a .depth) (a .byte) (a .left) (a .s) (a .place) (c .before .before .before .pre .0) (c .if3 .taken))
 
-name-begins-requires : tie.Need-name-begins-requires
-name-begins-requires c κs = search needs
+no-escapes-requires : tie.Need-no-escapes-requires
+no-escapes-requires c κs = search needs
+
+with-escapes-requires : tie.Need-with-escapes-requires
+with-escapes-requires c κs = search needs
 
 returns-4 : tie.Need-returns-4
 returns-4 c =
-    let a = c .before .before .before .before .before .args in
-    c .name-begins .ensures ∙ sym (at-place (a .depth) (a .byte) (a .left) (a .s) (a .place) 3 (c .before .if4 .taken) ∙ rw (lt-ltb 0x20 (a .byte) (omega arith)))
+    let a = c .before .before .before .before .before .before .args in
+    c .with-escapes .ensures ∙ ap (λ (e : Escapes). withEscapes e (a .s)) (c .before .no-escapes .ensures)
+    ∙ sym (at-place (a .depth) (a .byte) (a .left) (a .s) (a .place) 3 (c .before .before .if4 .taken) ∙ rw (lt-ltb 0x20 (a .byte) (omega arith)))
 
 returns-5 : tie.Need-returns-5
 returns-5 c =
@@ -52,14 +58,18 @@ returns-7 c =
     let last : a .place ≡ 4 = omega (arith, c .before .before .before .before .before .before .pre .0) in
     sym (at-place (a .depth) (a .byte) (a .left) (a .s) (a .place) 4 last ∙ rw (lt-ltb 0x20 (a .byte) (omega arith), eq-eqb (a .byte) 0x7D (c .if7 .taken)))
 
-name-begins-requires-2 : tie.Need-name-begins-requires-2
-name-begins-requires-2 c κs = search needs
+no-escapes-requires-2 : tie.Need-no-escapes-requires-2
+no-escapes-requires-2 c κs = search needs
+
+with-escapes-requires-2 : tie.Need-with-escapes-requires-2
+with-escapes-requires-2 c κs = search needs
 
 returns-8 : tie.Need-returns-8
 returns-8 c =
-    let a = c .before .before .before .before .before .before .before .args in
-    let last : a .place ≡ 4 = omega (arith, c .before .before .before .before .before .before .before .pre .0) in
-    c .name-begins2 .ensures ∙ sym (at-place (a .depth) (a .byte) (a .left) (a .s) (a .place) 4 last ∙ rw (lt-ltb 0x20 (a .byte) (omega arith), ne-eqb (a .byte) 0x7D (c .before .if7 .left)))
+    let a = c .before .before .before .before .before .before .before .before .args in
+    let last : a .place ≡ 4 = omega (arith, c .before .before .before .before .before .before .before .before .pre .0) in
+    c .with-escapes2 .ensures ∙ ap (λ (e : Escapes). withEscapes e (a .s)) (c .before .no-escapes2 .ensures)
+    ∙ sym (at-place (a .depth) (a .byte) (a .left) (a .s) (a .place) 4 last ∙ rw (lt-ltb 0x20 (a .byte) (omega arith), ne-eqb (a .byte) 0x7D (c .before .before .if7 .left)))
 
 pub outer-moves-spec : {M : Type 1} → statement M
 outer-moves-spec =
@@ -69,11 +79,13 @@ outer-moves-spec =
     returns
     returns-2
     returns-3
-    name-begins-requires
+    no-escapes-requires
+    with-escapes-requires
     returns-4
     returns-5
     value-starts-requires-2
     returns-6
     returns-7
-    name-begins-requires-2
+    no-escapes-requires-2
+    with-escapes-requires-2
     returns-8)
