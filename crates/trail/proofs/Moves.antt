@@ -1,0 +1,314 @@
+-- Where a step leads from a place, by one computed test over all places and their moves.
+--     into-number    to a place in a number: from one, or where a value starts with the byte
+--     into-escape    to a place in an escape: from one, or by a backslash in a string
+--     within-name    from a place in a name: to one, or by the closing quote
+--     into-bracket   to one bracket more: where a value starts with it
+-- Assumes nothing.
+use mathlib.Core.Bool.{Bool, true, false, cond, _&&_, _||_, not}
+use mathlib.Core.List.{List, [], _∷_}
+use mathlib.Core.Logic.{_⊎_, inl, inr, ⊎-elim}
+use mathlib.Core.Option.{Option, none, some}
+use mathlib.Core.Path.{_≡_, refl, sym, _∙_, ap, subst}
+use Prim.Native.Nat.{ℕ, zero, suc, _≤_, _<_}
+use native.Mathlib.Omega.{arith}
+use borrow.Author.Tests.{eqb-true, eq-eqb, ltb-true, lt-ltb, leb-true}
+use lib.Dec.{eqb, leb, ltb}
+use lib.ListN.{length, getD}
+use Rattle.json.specs.Automaton.{Bracket, square, curly, Role, asValue, asName, Left, Char, Word, Place, ahead, firstElement, after, name, firstName, colon, word, minus, nought, whole, point, part, letter, sign, power, text, escape, unit, char, State, at, Change, keep, pop, push, Move, moves, pick, innermost, changed, follow, step}
+use Rattle.grammar.specs.Codes.{places, placeAt, placeCode}
+use Rattle.grammar.proofs.Places.{place-back, place-low}
+use Rattle.laws.proofs.Tests.{left, right, either}
+
+-- ---- kinds of places
+
+abbrev pub isNumber : Place → Bool
+isNumber ahead = false
+isNumber firstElement = false
+isNumber after = false
+isNumber name = false
+isNumber firstName = false
+isNumber colon = false
+isNumber (word w) = false
+isNumber minus = true
+isNumber nought = true
+isNumber whole = true
+isNumber point = true
+isNumber part = true
+isNumber letter = true
+isNumber sign = true
+isNumber power = true
+isNumber (text r) = false
+isNumber (escape r) = false
+isNumber (unit h r) = false
+isNumber (char c r) = false
+
+abbrev asNamed : Role → Bool
+asNamed asValue = false
+asNamed asName = true
+
+abbrev pub inName : Place → Bool
+inName ahead = false
+inName firstElement = false
+inName after = false
+inName name = false
+inName firstName = false
+inName colon = false
+inName (word w) = false
+inName minus = false
+inName nought = false
+inName whole = false
+inName point = false
+inName part = false
+inName letter = false
+inName sign = false
+inName power = false
+inName (text r) = asNamed r
+inName (escape r) = asNamed r
+inName (unit h r) = asNamed r
+inName (char c r) = asNamed r
+
+-- within an escape, within a string between characters, where a value may start: 1, 2, 3
+abbrev kind : Place → ℕ
+kind ahead = 3
+kind firstElement = 3
+kind after = 0
+kind name = 0
+kind firstName = 0
+kind colon = 0
+kind (word w) = 0
+kind minus = 0
+kind nought = 0
+kind whole = 0
+kind point = 0
+kind part = 0
+kind letter = 0
+kind sign = 0
+kind power = 0
+kind (text r) = 2
+kind (escape r) = 1
+kind (unit h r) = 1
+kind (char c r) = 0
+
+abbrev pub inEscape : Place → Bool
+inEscape p = eqb (kind p) 1
+
+abbrev pub isText : Place → Bool
+isText p = eqb (kind p) 2
+
+abbrev pub startsValue : Place → Bool
+startsValue p = eqb (kind p) 3
+
+abbrev pub pushes : Change → Bool
+pushes keep = false
+pushes pop = false
+pushes (push k) = true
+
+-- ---- what a byte may lead to
+
+abbrev pub numbered : Place → ℕ → Bool
+numbered p b = isNumber p || (startsValue p && (ltb 0x20 b && ltb b 0x5D))
+
+abbrev pub escaping : Place → ℕ → Bool
+escaping p b = inEscape p || (isText p && eqb b 0x5C)
+
+abbrev pub bracketed : Place → ℕ → Bool
+bracketed p b = startsValue p && (eqb b 0x5B || eqb b 0x7B)
+
+-- the same of all bytes of a move
+abbrev implies : Bool → Bool → Bool
+implies a b = not a || b
+
+abbrev fine : Place → Move → Bool
+fine p m =
+    implies (isNumber (m .place)) (isNumber p || (startsValue p && (ltb 0x20 (m .low) && ltb (m .high) 0x5D)))
+    && (implies (inEscape (m .place)) (inEscape p || (isText p && (eqb (m .low) 0x5C && eqb (m .high) 0x5C)))
+    && (implies (inName p) (inName (m .place) || (isText p && (eqb (m .low) 0x22 && eqb (m .high) 0x22)))
+    && implies (pushes (m .change)) (startsValue p && (eqb (m .low) (m .high) && (eqb (m .low) 0x5B || eqb (m .low) 0x7B)))))
+
+-- ---- the test
+
+unfoldable every : (Move → Bool) → List Move → Bool
+every f [] = true
+every f (m ∷ ms) = f m && every f ms
+
+abbrev fine-at : Place → Bool
+fine-at p = every (fine p) (moves p none) && (every (fine p) (moves p (some square)) && every (fine p) (moves p (some curly)))
+
+unfoldable everywhere : (Place → Bool) → List Place → Bool
+everywhere f [] = true
+everywhere f (p ∷ ps) = f p && everywhere f ps
+
+all-fine : everywhere fine-at places ≡ true
+unfolding everywhere every
+all-fine = refl
+
+-- ---- what it says of a step
+
+fine-place : (f : Place → Bool) (ps : List Place) → everywhere f ps ≡ true → (i : ℕ) → i < length ps → f (getD ps i after) ≡ true
+unfolding everywhere
+fine-place f [] e i h = absurd (omega arith)
+fine-place f (p ∷ ps) e zero h = left (f p) (everywhere f ps) e
+fine-place f (p ∷ ps) e (suc i) h = fine-place f ps (right (f p) (everywhere f ps) e) i (omega arith)
+
+each-place : (p : Place) → fine-at p ≡ true
+each-place p = subst (λ (q : Place). fine-at q ≡ true) (place-back p) (fine-place fine-at places all-fine (placeCode p) (place-low p))
+
+each-bracket : (p : Place) (k : Option Bracket) → every (fine p) (moves p k) ≡ true
+each-bracket p none = left (every (fine p) (moves p none)) _ (each-place p)
+each-bracket p (some square) = left (every (fine p) (moves p (some square))) _ (right (every (fine p) (moves p none)) _ (each-place p))
+each-bracket p (some curly) = right (every (fine p) (moves p (some square))) _ (right (every (fine p) (moves p none)) _ (each-place p))
+
+-- a move that is picked
+record Picked (p : Place) (b : ℕ) (m : Move) : Type 0 where
+  is-fine : fine p m ≡ true
+  low : m .low ≤ b
+  high : b ≤ m .high
+
+no-move : {A : Type 0} {m : Move} → none ≡ some m → A
+no-move e = absurd (let z : _≡_ {A = ℕ} 0 1 = cc in omega arith)
+
+picked-of : (p : Place) (b : ℕ) (ms : List Move) → every (fine p) ms ≡ true → (m : Move) → pick ms b ≡ some m → Picked p b m
+unfolding every pick
+picked-of p b [] e m q = no-move q
+picked-of p b (x ∷ xs) e m q = go (leb (x .low) b && leb b (x .high)) refl q (λ r. picked-of p b xs (right (fine p x) (every (fine p) xs) e) m r)
+  where
+    go : (t : Bool) → leb (x .low) b && leb b (x .high) ≡ t → cond t (some x) (pick xs b) ≡ some m → (pick xs b ≡ some m → Picked p b m) → Picked p b m
+    go true h r on =
+        let same : x ≡ m = cc in
+        subst (Picked p b) same
+        (record {
+          is-fine = left (fine p x) (every (fine p) xs) e;
+          low = leb-true (x .low) b (left (leb (x .low) b) (leb b (x .high)) h);
+          high = leb-true b (x .high) (right (leb (x .low) b) (leb b (x .high)) h);
+        })
+    go false h r on = on r
+
+-- if it is so, it is
+so : (a b : Bool) → implies a b ≡ true → a ≡ true → b ≡ true
+so true b e h = e
+so false b e h = cc
+
+module _ {p : Place} {b : ℕ} {m : Move} (k : Picked p b m) where
+  abbrev number-ok : Bool
+  number-ok = implies (isNumber (m .place)) (isNumber p || (startsValue p && (ltb 0x20 (m .low) && ltb (m .high) 0x5D)))
+
+  abbrev escape-ok : Bool
+  escape-ok = implies (inEscape (m .place)) (inEscape p || (isText p && (eqb (m .low) 0x5C && eqb (m .high) 0x5C)))
+
+  abbrev name-ok : Bool
+  name-ok = implies (inName p) (inName (m .place) || (isText p && (eqb (m .low) 0x22 && eqb (m .high) 0x22)))
+
+  abbrev push-ok : Bool
+  push-ok = implies (pushes (m .change)) (startsValue p && (eqb (m .low) (m .high) && (eqb (m .low) 0x5B || eqb (m .low) 0x7B)))
+
+  number-so : number-ok ≡ true
+  number-so = left number-ok (escape-ok && (name-ok && push-ok)) (k .is-fine)
+
+  escape-so : escape-ok ≡ true
+  escape-so = left escape-ok (name-ok && push-ok) (right number-ok (escape-ok && (name-ok && push-ok)) (k .is-fine))
+
+  name-so : name-ok ≡ true
+  name-so = left name-ok push-ok (right escape-ok (name-ok && push-ok) (right number-ok (escape-ok && (name-ok && push-ok)) (k .is-fine)))
+
+  push-so : push-ok ≡ true
+  push-so = right name-ok push-ok (right escape-ok (name-ok && push-ok) (right number-ok (escape-ok && (name-ok && push-ok)) (k .is-fine)))
+
+  -- of the byte alone
+  only-byte : (n : ℕ) → eqb (m .low) n && eqb (m .high) n ≡ true → b ≡ n
+  only-byte n e =
+      let l : m .low ≡ n = eqb-true (m .low) n (left (eqb (m .low) n) (eqb (m .high) n) e) in
+      let h : m .high ≡ n = eqb-true (m .high) n (right (eqb (m .low) n) (eqb (m .high) n) e) in
+      omega (arith, k .low, k .high)
+
+  into-number : isNumber (m .place) ≡ true → numbered p b ≡ true
+  into-number n =
+      ⊎-elim
+      (λ (e : isNumber p ≡ true). rw e)
+      (λ (e : startsValue p && (ltb 0x20 (m .low) && ltb (m .high) 0x5D) ≡ true).
+      let v : startsValue p ≡ true = left (startsValue p) (ltb 0x20 (m .low) && ltb (m .high) 0x5D) e in
+      let r = right (startsValue p) (ltb 0x20 (m .low) && ltb (m .high) 0x5D) e in
+      let l : 0x20 < m .low = ltb-true 0x20 (m .low) (left (ltb 0x20 (m .low)) (ltb (m .high) 0x5D) r) in
+      let h : m .high < 0x5D = ltb-true (m .high) 0x5D (right (ltb 0x20 (m .low)) (ltb (m .high) 0x5D) r) in
+      let kl = k .low in
+      let kh = k .high in
+      rw (v, lt-ltb 0x20 b (omega arith), lt-ltb b 0x5D (omega arith)) (or-true (isNumber p)))
+      (either (isNumber p) (startsValue p && (ltb 0x20 (m .low) && ltb (m .high) 0x5D)) (so (isNumber (m .place)) _ number-so n))
+    where
+      or-true : (a : Bool) → a || true ≡ true
+      or-true true = refl
+      or-true false = refl
+
+  into-escape : inEscape (m .place) ≡ true → escaping p b ≡ true
+  into-escape n =
+      ⊎-elim
+      (λ (e : inEscape p ≡ true). rw e)
+      (λ (e : isText p && (eqb (m .low) 0x5C && eqb (m .high) 0x5C) ≡ true).
+      let v : isText p ≡ true = left (isText p) (eqb (m .low) 0x5C && eqb (m .high) 0x5C) e in
+      let at-slash : b ≡ 0x5C = only-byte 0x5C (right (isText p) (eqb (m .low) 0x5C && eqb (m .high) 0x5C) e) in
+      rw (v, eq-eqb b 0x5C at-slash) (or-true (inEscape p)))
+      (either (inEscape p) (isText p && (eqb (m .low) 0x5C && eqb (m .high) 0x5C)) (so (inEscape (m .place)) _ escape-so n))
+    where
+      or-true : (a : Bool) → a || true ≡ true
+      or-true true = refl
+      or-true false = refl
+
+  within-name : inName p ≡ true → (inName (m .place) ≡ true) ⊎ ((isText p ≡ true) × (b ≡ 0x22))
+  within-name n =
+      ⊎-elim
+      (λ (e : inName (m .place) ≡ true). inl e)
+      (λ (e : isText p && (eqb (m .low) 0x22 && eqb (m .high) 0x22) ≡ true).
+      inr (left (isText p) (eqb (m .low) 0x22 && eqb (m .high) 0x22) e, only-byte 0x22 (right (isText p) (eqb (m .low) 0x22 && eqb (m .high) 0x22) e)))
+      (either (inName (m .place)) (isText p && (eqb (m .low) 0x22 && eqb (m .high) 0x22)) (so (inName p) _ name-so n))
+
+  into-bracket : pushes (m .change) ≡ true → bracketed p b ≡ true
+  into-bracket n =
+      let e = so (pushes (m .change)) _ push-so n in
+      let v : startsValue p ≡ true = left (startsValue p) (eqb (m .low) (m .high) && (eqb (m .low) 0x5B || eqb (m .low) 0x7B)) e in
+      let r = right (startsValue p) (eqb (m .low) (m .high) && (eqb (m .low) 0x5B || eqb (m .low) 0x7B)) e in
+      let one : m .low ≡ m .high = eqb-true (m .low) (m .high) (left (eqb (m .low) (m .high)) (eqb (m .low) 0x5B || eqb (m .low) 0x7B) r) in
+      let kl = k .low in
+      let kh = k .high in
+      let same : m .low ≡ b = omega arith in
+      rw v (subst (λ (x : ℕ). (eqb x 0x5B || eqb x 0x7B) ≡ true) same (right (eqb (m .low) (m .high)) (eqb (m .low) 0x5B || eqb (m .low) 0x7B) r))
+
+-- ---- a step
+
+pub record Leads (p : Place) (ks : List Bracket) (b : ℕ) (q : Place) (ls : List Bracket) : Type 0 where
+  pub number : isNumber q ≡ true → numbered p b ≡ true
+  pub escape : inEscape q ≡ true → escaping p b ≡ true
+  pub name : inName p ≡ true → (inName q ≡ true) ⊎ ((isText p ≡ true) × (b ≡ 0x22))
+  pub deeper : (bracketed p b ≡ true) ⊎ (length ls ≤ length ks)
+  pub few : length ls ≤ suc (length ks)
+
+pub leads : (p : Place) (ks : List Bracket) (b : ℕ) (q : Place) (ls : List Bracket) → step (at p ks) b ≡ some (at q ls) → Leads p ks b q ls
+unfolding step
+leads p ks b q ls e = go (pick (moves p (innermost ks)) b) refl e
+  where
+    grows : (m : Move) → Picked p b m → (c : Change) → m .change ≡ c → (bracketed p b ≡ true) ⊎ (length (changed c ks) ≤ length ks)
+    grows m k keep h = inr (omega arith)
+    grows m k pop h = inr (less ks)
+      where
+        less : (ks : List Bracket) → length (changed pop ks) ≤ length ks
+        less [] = omega arith
+        less (x ∷ xs) = omega arith
+    grows m k (push x) h = inl (into-bracket k (rw h))
+
+    at-most : (c : Change) (ks : List Bracket) → length (changed c ks) ≤ suc (length ks)
+    at-most keep ks = omega arith
+    at-most pop [] = omega arith
+    at-most pop (x ∷ xs) = omega arith
+    at-most (push x) ks = omega arith
+
+    go : (o : Option Move) → pick (moves p (innermost ks)) b ≡ o → follow ks o ≡ some (at q ls) → Leads p ks b q ls
+    go none h r = absurd (let z : _≡_ {A = ℕ} 0 1 = cc in omega arith)
+    go (some m) h r =
+        let k : Picked p b m = picked-of p b (moves p (innermost ks)) (each-bracket p (innermost ks)) m h in
+        let place-is : m .place ≡ q = cc in
+        let brackets-are : changed (m .change) ks ≡ ls = cc in
+        record {
+          number = rw place-is at (into-number k);
+          escape = rw place-is at (into-escape k);
+          name = rw place-is at (within-name k);
+          deeper = rw brackets-are at (grows m k (m .change) refl);
+          few = rw brackets-are at (at-most (m .change) ks);
+        }
