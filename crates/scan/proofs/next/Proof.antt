@@ -9,7 +9,7 @@ use Rattle.grammar.specs.Codes.{placeAt}
 use Rattle.brackets.specs.Brackets.{brackets}
 use Rattle.brackets.proofs.Bits.{stepped-none, stepped-some}
 use Rattle.scan.specs.Scanning.{areas, tallyIn, dies, goes}
-use Rattle.scan.proofs.Moving.{code-place}
+use Rattle.brackets.proofs.Moving.{code-place}
 use Rattle.scan.proofs.Carrying.{how-many, watches, counts}
 use borrow.Author.Needs.{needs}
 use Rattle.scan.proofs.next.Statement.{statement}
