@@ -1,3 +1,4 @@
 pub mod Acts
 pub mod Ahead
 pub mod Places
+pub mod Fitting
