@@ -1,8 +1,14 @@
-// The first pass over a JSON text (`specs/Scanning.antt`, which contracts cite): the automaton and
-// what is kept of faults, byte by byte.
+// The first pass over a JSON text (`specs/Scanning.antt`, which contracts cite): the automaton, what
+// is kept of faults and the counters, byte by byte.
+ghost use mathlib.Core.Bool.{cond};
 ghost use mathlib.Core.Path.{_≡_};
-ghost use Prim.Native.Nat.{_≤_};
-ghost use Rattle.scan.specs.Scanning.{Stepped, Ready, Halted, atStart};
+ghost use Prim.Native.Nat.{_≤_, _<_};
+ghost use lib.Dec.{eqb};
+ghost use lib.ListN.{length};
+ghost use Rattle.grammar.specs.Codes.{placeAt};
+ghost use Rattle.survey.specs.Bounds.{Sound};
+ghost use Rattle.survey.specs.Watching.{moved};
+ghost use Rattle.scan.specs.Scanning.{areas, atStart, Blank, Ready, Stepped, Halted};
 use brackets::Open;
 use brackets::around;
 use brackets::changed_by;
@@ -11,33 +17,52 @@ use grammar::step;
 use survey::Escapes;
 use survey::Watch;
 use survey::move_on;
+use tally::Units;
+use tally::count;
 
-// The place in the grammar, 63 where no text goes on so; the open brackets; what is kept of faults.
+// The place in the grammar, 63 where no text goes on so; the open brackets; what is kept of faults;
+// the escape under way, for the counters.
 pub struct Scan {
     pub place: u8,
     pub opened: Open,
     pub watch: Watch,
+    pub units: Units,
 }
 
-// A byte, where so many bytes are left from it on.
-pub fn next(p: Scan, byte: u8, left: usize) -> Scan
-    requires { ⌜ Ready p ⌝ }
-    ensures { λ r. ⌜ Stepped p byte left r ⌝ }
+// What is kept of faults after a byte: after a fault it stays.
+fn watch_on(place: u8, depth: u32, byte: u8, left: usize, s: Watch) -> Watch
+    requires { ⌜ (place < 50) × (depth < 100) × Sound s ⌝ }
+    ensures { λ r. ⌜ r ≡ cond (eqb (s .fault) 0) (moved (placeAt place) depth byte left s) s ⌝ }
 {
+    if s.fault == 0 {
+        return move_on(place, depth, byte, left, s);
+    }
+    s
+}
+
+// The byte at a place of the text.
+pub fn next(json: &[u8], at: usize, p: Scan, values: &mut [u32], texts: &mut [u32]) -> Scan
+    requires { ⌜ (at < length (now json)) × Ready p (areas (now values) (now texts)) ⌝ }
+    ensures { λ r. ⌜ Stepped (now (json .entry)) at p (areas (now (values .entry)) (now (texts .entry))) r (areas (now (values .exit)) (now (texts .exit))) ⌝ }
+{
+    let byte = json[at];
     let opened = p.opened;
     let watch = p.watch;
+    let units = p.units;
     let code = step(p.place, around(opened), byte);
     if code == 63 {
         return Scan {
             place: 63,
             opened: opened,
             watch: watch,
+            units: units,
         };
     }
     Scan {
         place: code % 64,
         opened: changed_by(opened, code / 64),
-        watch: move_on(p.place, opened.depth, byte, left, watch),
+        watch: watch_on(p.place, opened.depth, byte, json.len() - at, watch),
+        units: count(p.place, opened.depth, byte, units, values, texts),
     }
 }
 
@@ -73,13 +98,18 @@ fn begin() -> Scan
                 waiting: 0,
             },
         },
+        units: Units {
+            code: 0,
+            high: false,
+        },
     }
 }
 
 // The pass, up to the first byte with which no text goes on so, to a fault, or to the end.
-pub fn first_pass(json: &[u8]) -> Halt
-    requires { do ⌜ (← ⟦json.len()⟧) ≤ 65536 ⌝ }
-    ensures { λ r. ⌜ Halted (now (json .entry)) r ⌝ }
+pub fn first_pass(json: &[u8], values: &mut [u32], texts: &mut [u32]) -> Halt
+    requires { ⌜ length (now json) ≤ 65536 ⌝ }
+    requires { ⌜ Blank (areas (now values) (now texts)) ⌝ }
+    ensures { λ r. ⌜ Halted (now (json .entry)) r (areas (now (values .exit)) (now (texts .exit))) ⌝ }
 {
     let n = json.len();
     let mut p = begin();
@@ -93,7 +123,7 @@ pub fn first_pass(json: &[u8]) -> Halt
         if opened.depth >= 62 {
             return Halt { at: at, scan: p };
         }
-        let q = next(p, json[at], n - at);
+        let q = next(json, at, p, values, texts);
         if q.place == 63 {
             return Halt { at: at, scan: q };
         }
