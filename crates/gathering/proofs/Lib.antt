@@ -2,4 +2,3 @@ pub mod Bounded
 pub mod Acts
 pub mod Ahead
 pub mod Places
-pub mod Fitting

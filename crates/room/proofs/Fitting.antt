@@ -1,62 +1,28 @@
--- What is gathered fits: after k bytes of a text it has at most k + 1 bytes, k outside of names, and at most as many names as values have started.
---     Fitting, fitting-begins, fitting-moved   so it is along the automaton's steps
---     text-held, words-held                    where there is room, the slices start with what was gathered
+-- Of the bytes of names there are at most as many as bytes of text, and one more within a name: along the automaton's steps, by what is owed at each place.
+--     Owing           so it is after k bytes
+--     owing-moved     and after one more
 -- Assumes nothing.
 use mathlib.Core.Bool.{Bool, true, false, cond, _&&_, not}
-use mathlib.Core.List.{List, [], _∷_, _++_, append-nil}
+use mathlib.Core.List.{List, [], _∷_, _++_}
 use mathlib.Core.Logic.{_≢_, _⊎_, inl, inr, ⊎-elim}
 use mathlib.Core.Option.{Option, none, some}
-use mathlib.Core.Path.{_≡_, refl, sym, ap, _∙_}
-use Prim.Native.Nat.{ℕ, suc, _+_, _-_, _*_, _≤_, _<_}
+use mathlib.Core.Path.{_≡_, refl, sym, _∙_}
+use Prim.Native.Nat.{ℕ, suc, _+_, _-_, _≤_, _<_}
 use native.Mathlib.Omega.{arith}
-use borrow.Author.Tests.{leb-true, eqb-true, eqb-false, ltb-true, ltb-false}
+use borrow.Author.Tests.{leb-true, eqb-true, eqb-false}
 use lib.Dec.{eqb, leb, ltb}
-use lib.ListN.{length, getD, set, take, drop, length-append}
-use lib.Seq.{sets, sets-eq, take-append-seam}
-use Rattle.laws.proofs.Tests.{le-or-lt, left, right}
+use lib.ListN.{length, getD, length-append}
+use Rattle.laws.proofs.Tests.{le-or-lt}
 use Rattle.json.specs.Utf8.{encode}
 use Rattle.json.specs.Value.{isHigh, joined}
-use Rattle.json.specs.Automaton.{Bracket, square, curly, Role, asValue, asName, Char, one, two, three, afterE0, afterED, afterF0, afterF4, Left, hex1, hex2, hex3, hex4, Word, n1, n2, n3, t1, t2, t3, f1, f2, f3, f4, Place, ahead, firstElement, after, name, firstName, colon, word, minus, nought, whole, point, part, letter, sign, power, text, escape, unit, char, State, at, Move, only, ends, characters, moves, pick, innermost, follow, step}
-use Rattle.json.proofs.Moves.{Fits, fits, miss}
-use Rattle.escapes.specs.Escapes.{encodedSize}
+use Rattle.json.specs.Automaton.{Bracket, square, curly, asValue, asName, one, two, three, afterE0, afterED, afterF0, afterF4, hex1, hex2, hex3, hex4, n1, n2, n3, t1, t2, t3, f1, f2, f3, f4, Place, ahead, firstElement, after, name, firstName, colon, word, minus, nought, whole, point, part, letter, sign, power, text, escape, unit, char, Move, only, ends, characters, moves, pick, innermost}
+use Rattle.json.proofs.Moves.{miss}
 use Rattle.escapes.proofs.Escaped.{size-is}
-use Rattle.naming.specs.Gathering.{Gather, nothing-yet, counted, starts, says, opensName, shutsName, unitIs, waitsFor, escaped, lowAhead, digitOf, shortAt, names, gather}
-use Rattle.gathering.specs.declared.Gathered.{Gathered}
-use Rattle.gathering.specs.Held.{Held, numbers}
+use Rattle.tally.proofs.Bounded.{size-low}
+use Rattle.naming.specs.Gathering.{Gather, starts, says, tagOf, opensName, shutsName, unitIs, waitsFor, shortAt, digitOf, lowAhead, escaped, names, gather}
+use Rattle.room.proofs.Taken.{every, of-every, Took, next, next-at}
 
--- ---- a step of the automaton
-
--- the test holds of every move
-unfoldable every : (Move → Bool) → List Move → Bool
-every q [] = true
-every q (m ∷ ms) = q m && every q ms
-
-of-every : (q : Move → Bool) (ms : List Move) (b : ℕ) (m : Move) → every q ms ≡ true → Fits ms b (λ x. m ≡ x) → (q m ≡ true) × (m .low ≤ b)
-unfolding every
-of-every q [] b m e f = absurd f
-of-every q (x ∷ ms) b m e (inl f) = rw (f .2) (left (q x) (every q ms) e, f .0)
-of-every q (x ∷ ms) b m e (inr f) = of-every q ms b m (right (q x) (every q ms) e) f
-
--- the move that was taken
-pub record Took (p : Place) (ks : List Bracket) (b : ℕ) (p′ : Place) : Type 0 where
-  pub move : Move
-  pub picked : pick (moves p (innermost ks)) b ≡ some move
-  pub place-is : move .place ≡ p′
-
-took : (p : Place) (ks : List Bracket) (b : ℕ) (p′ : Place) (ks′ : List Bracket) → step (at p ks) b ≡ some (at p′ ks′) → Took p ks b p′
-unfolding step
-took p ks b p′ ks′ e = go (pick (moves p (innermost ks)) b) refl e
-  where
-    go : (o : Option Move) → pick (moves p (innermost ks)) b ≡ o → follow ks o ≡ some (at p′ ks′) → Took p ks b p′
-    go none f h = absurd (let z : _≡_ {A = ℕ} 0 1 = cc in omega arith)
-    go (some m) f h = record { move = m; picked = f; place-is = cc }
-
-module _ (p : Place) (ks : List Bracket) (b : ℕ) (p′ : Place) (s : Took p ks b p′) where
-  -- what a test says of the next place
-  next : (q : Place → Bool) → every (λ m. q (m .place)) (moves p (innermost ks)) ≡ true → q p′ ≡ true
-  next q e = rw (s .place-is) at (of-every (λ m. q (m .place)) (moves p (innermost ks)) b (s .move) e (fits (λ x. s .move ≡ x) (moves p (innermost ks)) b (s .move) (s .picked) refl) .0)
-
--- ---- bytes of names
+-- ---- what is owed
 
 -- how many more bytes were read than were gathered, and one
 abbrev owed : Place → ℕ
@@ -134,20 +100,13 @@ module _ (ks : List Bracket) (b : ℕ) (p′ : Place) where
   upto : (p : Place) (n : ℕ) → Took p ks b p′ → every (λ m. low n (m .place)) (moves p (innermost ks)) ≡ true → owed p′ ≤ n
   upto p n s e = leb-true (owed p′) n (next p ks b p′ s (low n) e)
 
-  at-quote : (p : Place) (m : Move) → Took p ks b p′ → pick (moves p (innermost ks)) 0x22 ≡ some m → b ≡ 0x22 → m .place ≡ p′
-  at-quote p m s e h =
-      let same : pick (moves p (innermost ks)) b ≡ pick (moves p (innermost ks)) 0x22 = ap (pick (moves p (innermost ks))) h in
-      let f : pick (moves p (innermost ks)) b ≡ some (s .move) = s .picked in
-      let g : m ≡ s .move = cc in
-      ap (λ (x : Move). x .place) g ∙ s .place-is
-
   -- where a name starts
   opening : (p : Place) → Took p ks b p′ → pick (moves p (innermost ks)) 0x22 ≡ some (only 0x22 (text asName))
       → every (λ m. low 1 (m .place)) (moves p (innermost ks)) ≡ true → owed p′ ≤ cond (eqb b 0x22) 0 1
   opening p s o e = go (eqb b 0x22) refl
     where
       go : (t : Bool) → eqb b 0x22 ≡ t → owed p′ ≤ cond t 0 1
-      go true h = rw (sym (at-quote p (only 0x22 (text asName)) s o (eqb-true b 0x22 h))) (omega arith)
+      go true h = rw (sym (next-at p ks b p′ s 0x22 (only 0x22 (text asName)) o (eqb-true b 0x22 h))) (omega arith)
       go false h = upto p 1 s e
 
   -- within one
@@ -160,7 +119,7 @@ module _ (ks : List Bracket) (b : ℕ) (p′ : Place) where
       go false h =
           let ms : List Move = only 0x5C (escape asName) ∷ characters asName in
           let e : pick ms b ≡ some (s .move) = sym (miss (only 0x22 colon) ms b (beyond b (eqb-false b 0x22 h))) ∙ s .picked in
-          let r = of-every (λ m. low 0 (m .place)) ms b (s .move) refl (fits (λ x. s .move ≡ x) ms b (s .move) e refl) .0 in
+          let r = of-every (λ m. low 0 (m .place)) ms b (s .move) refl e .0 in
           leb-true (owed p′) 0 (rw (s .place-is) at r)
 
   behind : (p : Place) → Took p ks b p′ → owed p′ ≤ most p b
@@ -215,3 +174,106 @@ module _ (ks : List Bracket) (b : ℕ) (p′ : Place) where
   behind (char afterF0 asName) s = upto (char afterF0 asName) 0 s refl
   behind (char afterF4 asValue) s = upto (char afterF4 asValue) 1 s refl
   behind (char afterF4 asName) s = upto (char afterF4 asName) 0 s refl
+
+-- ---- what a byte adds
+
+module _ (limit : ℕ) (ks : List Bracket) (b : ℕ) (bs : List ℕ) (g : Gather) where
+  abbrev size : Gather → ℕ
+  size r = length (r .text)
+
+  added : (on : Bool) (cs : List ℕ) (n : ℕ) → length cs ≤ n → length (g .text ++ cond on cs []) ≤ size g + n
+  added true cs n h = omega (arith, length-append (g .text) cs)
+  added false cs n h = omega (arith, length-append (g .text) [])
+
+  said : (cs : List ℕ) (n : ℕ) → length cs ≤ n → size (says cs g) ≤ size g + n
+  unfolding says
+  said cs n h = added (g .on) cs n h
+
+  started : size (starts ks b g) ≡ size g
+  unfolding starts
+  started = refl
+
+  opened : (on : Bool) (o left : ℕ) → size (opensName on o left g) ≤ size g + 2
+  unfolding opensName
+  opened on o left = added on (tagOf o) 2 (omega arith)
+
+  unit-same : (c : ℕ) → size (unitIs c g) ≡ size g
+  unfolding unitIs
+  unit-same c = refl
+
+  char-most : (c : ℕ) → length (encode c []) ≤ 4
+  char-most c = omega (arith, size-is c [], size-low c)
+
+  starting : (t : Bool) → size (cond t (starts ks b g) g) + 1 ≤ size g + 2
+  starting true = omega (arith, started)
+  starting false = omega arith
+
+  name-opens : size (names limit ks b bs g) + cond (eqb b 0x22) 0 1 ≤ size g + 2
+  unfolding names
+  name-opens = go (eqb b 0x22)
+    where
+      go : (t : Bool)
+          → size (cond t (opensName (ltb limit (length (b ∷ bs))) (getD (g .objects) (length ks - 1) 0) (length (b ∷ bs)) g) g) + cond t 0 1 ≤ size g + 2
+      go true = omega (arith, opened (ltb limit (length (b ∷ bs))) (getD (g .objects) (length ks - 1) 0) (length (b ∷ bs)))
+      go false = omega arith
+
+  in-name : size (cond (eqb b 0x22) (shutsName g) (cond (eqb b 0x5C) g (says (b ∷ []) g))) + cond (eqb b 0x22) 1 0 ≤ size g + 1
+  unfolding shutsName
+  in-name = go (eqb b 0x22) (eqb b 0x5C)
+    where
+      go : (t u : Bool) → size (cond t (shutsName g) (cond u g (says (b ∷ []) g))) + cond t 1 0 ≤ size g + 1
+      go true u = omega arith
+      go false true = omega arith
+      go false false = omega (arith, said (b ∷ []) 1 (omega arith))
+
+  in-escape : size (cond (eqb b 0x75) (unitIs 0 g) (says (shortAt b ∷ []) g)) + 0 ≤ size g + 1
+  in-escape = go (eqb b 0x75)
+    where
+      go : (t : Bool) → size (cond t (unitIs 0 g) (says (shortAt b ∷ []) g)) + 0 ≤ size g + 1
+      go true = omega (arith, unit-same 0)
+      go false = omega (arith, said (shortAt b ∷ []) 1 (omega arith))
+
+  last-digit : (c : ℕ) → size (escaped c bs g) + 0 ≤ size g + 4
+  unfolding escaped waitsFor
+  last-digit c = go (isHigh c && lowAhead bs)
+    where
+      go : (t : Bool) → size (cond t (waitsFor c g) (says (encode (joined (g .waits) c) []) g)) + 0 ≤ size g + 4
+      go true = omega arith
+      go false = omega (arith, said (encode (joined (g .waits) c) []) 4 (char-most (joined (g .waits) c)))
+
+  grown : (p : Place) → size (gather limit p ks b bs g) + most p b ≤ size g + owed p + 1
+  grown ahead = omega (arith, starting (ltb 0x20 b))
+  grown firstElement = omega (arith, starting (ltb 0x20 b && not (eqb b 0x5D)))
+  grown after = omega arith
+  grown name = omega (arith, name-opens)
+  grown firstName = omega (arith, name-opens)
+  grown colon = omega arith
+  grown (word w) = omega arith
+  grown minus = omega arith
+  grown nought = omega arith
+  grown whole = omega arith
+  grown point = omega arith
+  grown part = omega arith
+  grown letter = omega arith
+  grown sign = omega arith
+  grown power = omega arith
+  grown (text asValue) = omega arith
+  grown (text asName) = omega (arith, in-name)
+  grown (escape asValue) = omega arith
+  grown (escape asName) = omega (arith, in-escape)
+  grown (unit h asValue) = omega arith
+  grown (unit hex1 asName) = omega (arith, last-digit (digitOf (g .unit) b))
+  grown (unit hex2 asName) = omega (arith, unit-same (digitOf (g .unit) b))
+  grown (unit hex3 asName) = omega (arith, unit-same (digitOf (g .unit) b))
+  grown (unit hex4 asName) = omega (arith, unit-same (digitOf (g .unit) b))
+  grown (char c asValue) = omega arith
+  grown (char c asName) = omega (arith, said (b ∷ []) 1 (omega arith))
+
+-- ---- after k bytes
+
+abbrev pub Owing : ℕ → Place → Gather → Type 0
+Owing k p g = length (g .text) + owed p ≤ k + 1
+
+pub owing-moved : (limit k : ℕ) (p : Place) (ks : List Bracket) (b : ℕ) (bs : List ℕ) (p′ : Place) (g : Gather) → Took p ks b p′ → Owing k p g
+    → Owing (suc k) p′ (gather limit p ks b bs g)
+owing-moved limit k p ks b bs p′ g s h = omega (arith, behind ks b p′ p s, grown limit ks b bs g p)
