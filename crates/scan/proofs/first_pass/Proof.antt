@@ -6,7 +6,7 @@ use native.Mathlib.Omega.{arith}
 use borrow.Author.Needs.{needs}
 use lib.ListN.{length}
 use Rattle.scan.specs.Scanning.{areas, broken, at-end, at-fault, deep}
-use Rattle.scan.proofs.Carrying.{Held, begins, at-rest, ready, stops, on}
+use Rattle.scan.proofs.Carrying.{Held, begins, at-rest, not-at-rest, ready, stops, on}
 use Rattle.scan.proofs.first_pass.Statement.{statement}
 use Rattle.scan.proofs.first_pass.Tie as tie
 
@@ -112,7 +112,7 @@ loop-less c =
 
 loop-again : tie.Need-loop-again Inv-loop μ-loop
 loop-again c =
-    let a = c .before .before .before .before .before .before .before .before .before .before .before .before .before .before .before .before .before .before .before .before .before .before .before .before .before .before .before .before .before .before .before .before .before .before .before .args in let json = c .before .before .before .before .before .before .before .before .before .before .before .before .before .before .before .before .before .before .before .before .before .before .before .before .before .before .before .before .before .before .before .before .before .before .before .args .json .now in let l = c .before .before .before .before .before .before .before .before .before .before .before .before .before .before .before .before .before .before .before .before .before .before .before .before .before .before .before .loop in let more : l .at < length json = c .before .before .before .before .before .before .before .before .before .before .before .before .before .before .before .before .before .before .before .before .before .before .before .before .before .before .loop-test .taken in (on json (areas (a .values .now) (a .texts .now) (a .names .now) (a .words .now) (a .objects .now)) (l .at) (l .p) (areas (l .values) (l .texts) (l .names) (l .words) (l .objects)) (c .before .before .before .before .before .before .before .before .before .before .before .before .before .before .before .before .before .before .before .before .before .before .before .before .before .before .before .before .before .before .before .before .before .before .before .pre .0) (l .inv .0) more (c .before .before .before .before .before .before .before .before .before .before .before .before .next .result) _ (omega (arith, c .before .before .before .before .before .before .before .before .before .before .before .before .before .before .before .before .before .before .before .before .before .before .before .before .before .before .before .before .before .before .before .before .before .before .shared-slice-known .given (l .at))) (c .before .before .before .before .before .before .before .before .before .before .before .before .next .ensures) (c .if3 .left), search needs, search needs, search needs, search needs, search needs)
+    let a = c .before .before .before .before .before .before .before .before .before .before .before .before .before .before .before .before .before .before .before .before .before .before .before .before .before .before .before .before .before .before .before .before .before .before .before .args in let json = c .before .before .before .before .before .before .before .before .before .before .before .before .before .before .before .before .before .before .before .before .before .before .before .before .before .before .before .before .before .before .before .before .before .before .before .args .json .now in let l = c .before .before .before .before .before .before .before .before .before .before .before .before .before .before .before .before .before .before .before .before .before .before .before .before .before .before .before .loop in let more : l .at < length json = c .before .before .before .before .before .before .before .before .before .before .before .before .before .before .before .before .before .before .before .before .before .before .before .before .before .before .loop-test .taken in (on json (areas (a .values .now) (a .texts .now) (a .names .now) (a .words .now) (a .objects .now)) (l .at) (l .p) (areas (l .values) (l .texts) (l .names) (l .words) (l .objects)) (c .before .before .before .before .before .before .before .before .before .before .before .before .before .before .before .before .before .before .before .before .before .before .before .before .before .before .before .before .before .before .before .before .before .before .before .pre .0) (l .inv .0) more (c .before .before .before .before .before .before .before .before .before .before .before .before .next .result) _ (omega (arith, c .before .before .before .before .before .before .before .before .before .before .before .before .before .before .before .before .before .before .before .before .before .before .before .before .before .before .before .before .before .before .before .before .before .before .shared-slice-known .given (l .at))) (not-at-rest (l .p .watch .fault) (l .p .gathered .on) (c .before .before .before .before .before .before .before .before .before .before .before .before .before .before .before .before .before .before .before .before .if1 .left)) (c .before .before .before .before .before .before .before .before .before .before .before .before .next .ensures) (c .if3 .left), search needs, search needs, search needs, search needs, search needs)
 
 same-length-16 : tie.Need-same-length-16 Inv-loop μ-loop
 same-length-16 c =
