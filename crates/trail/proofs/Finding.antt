@@ -18,7 +18,7 @@ use Rattle.figure.specs.Figure.{wholeMore, partMore, powerBack, powerMore, figu
 use Rattle.laws.proofs.Tests.{left, right, either}
 use Rattle.survey.specs.declared.Watch.{Watch}
 use Rattle.survey.specs.Watching.{found, withFigure, withEscapes, noEscapes, isDigit, numeric, counted, begun, ended, parted, waitFor, coded, slashed, codeMore, hexed, hexDone, opened, digited, isEnd, digitOr, moved}
-use Rattle.trail.proofs.Moves.{isNumber, inEscape, isText, startsValue, numbered, escaping, bracketed}
+use Rattle.trail.proofs.Places.{isNumber, inEscape, isText, startsValue, numbered, escaping, bracketed}
 
 -- the places that are kept after a byte, and that no bracket is opened on level 33
 pub record After (R : ℕ → Type 0) (p : Place) (k b : ℕ) (w : Watch) : Type 0 where

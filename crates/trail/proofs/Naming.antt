@@ -15,7 +15,7 @@ use Rattle.json.specs.Automaton.{Bracket, Role, asValue, asName, Left, hex1, he
 use Rattle.survey.specs.declared.Watch.{Watch}
 use Rattle.survey.specs.Watching.{noEscapes, withEscapes, moved}
 use Rattle.naming.specs.Gathering.{Gather, starts, says, opensName, shutsName, unitIs, waitsFor, escaped, lowAhead, shortAt, digitOf, hexMore, textMore, charMore, escapeMore, unitMore, names, gather}
-use Rattle.trail.proofs.Moves.{inName, isText}
+use Rattle.trail.proofs.Places.{inName, isText}
 
 -- the same name is under way, or none any more
 pub record Same (g h : Gather) : Type 0 where

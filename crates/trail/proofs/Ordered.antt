@@ -19,7 +19,8 @@ use Rattle.survey.specs.Watching.{noEscapes, withEscapes, moved, watching}
 use Rattle.survey.proofs.Orders.{going, stays}
 use Rattle.naming.specs.Gathering.{Gather, opensName, names, gather}
 use Rattle.trail.specs.Trail.{Kept, keeping, GoesOn, Trail, begins, goes}
-use Rattle.trail.proofs.Moves.{isNumber, inEscape, inName, isText, bracketed, Leads, leads}
+use Rattle.trail.proofs.Places.{isNumber, inEscape, inName, isText, bracketed}
+use Rattle.trail.proofs.Moves.{Leads, leads}
 use Rattle.trail.proofs.Finding.{After, found-after}
 use Rattle.trail.proofs.Naming.{Same, View, a-start, no-start, view}
 
