@@ -7,7 +7,7 @@ ghost use Rattle.survey.specs.Watching.{moved};
 ghost use Rattle.survey.specs.Bounds.{Sound};
 use figure::Figure;
 
-mod numbers;
+pub mod numbers;
 pub mod strings;
 mod values;
 
