@@ -29,7 +29,7 @@ moved-on i b bs x (at p ks) (at q js) e h =
 
 fitting : {json : List ℕ} {i : ℕ} {s : State} {x : Kept} → Trail json i s x → Fitting i s (x .names)
 fitting begins = (omega arith, omega arith)
-fitting {json} (goes {i} {s} {t} {x} r l e) = moved-on i (getD json i 0) (drop (suc i) json) x s t e (fitting r)
+fitting {json} (goes {i} {s} {t} {x} r g l e) = moved-on i (getD json i 0) (drop (suc i) json) x s t e (fitting r)
 
 both-fit : (i : ℕ) (s : State) (g : Gather) → Fitting i s g → (length (g .text) ≤ i + 1) × (length (g .words) ≤ 3 * g .values)
 both-fit i (at p ks) g h = (omega (arith, h .0), omega (arith, h .1))
