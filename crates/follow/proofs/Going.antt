@@ -50,6 +50,7 @@ module _ (json : List ℕ) (from : ℕ) (s₀ : State) (i : ℕ) (s : State) (g 
     unfolding reach run
     breaks e =
         record {
+          inside = omega arith;
           at-is = sym (g .reached ∙ omega (arith, ap (λ (x : List ℕ). reach x s) here ∙ ap (λ (x : Option State). onward x (λ u. reach (drop (suc i) json) u)) e));
           whole-is = sym (ap accepted (g .ran ∙ ap (λ (x : List ℕ). run x (some s)) here ∙ ap (run (drop (suc i) json)) e ∙ none-on (drop (suc i) json)));
         }
@@ -60,10 +61,11 @@ module _ (json : List ℕ) (from : ℕ) (s₀ : State) (i : ℕ) (s : State) (g 
       let all : i ≡ length json = omega (arith, g .inside) in
       let none-left : drop i json ≡ [] = ap (λ (k : ℕ). drop k json) all ∙ drop-length json in
       record {
+        inside = omega (arith, g .inside);
         at-is = p ∙ sym (g .reached ∙ ap (λ (x : List ℕ). i + reach x s) none-left ∙ omega arith);
         whole-is = q ∙ sym (ap accepted (g .ran ∙ ap (λ (x : List ℕ). run x (some s)) none-left));
       }
 
   -- what is followed from there is followed from the start
   pub then : (r : End) → Followed json i s r → Followed json from s₀ r
-  then r f = record { at-is = f .at-is ∙ sym (g .reached); whole-is = f .whole-is ∙ sym (ap accepted (g .ran)) }
+  then r f = record { inside = f .inside; at-is = f .at-is ∙ sym (g .reached); whole-is = f .whole-is ∙ sym (ap accepted (g .ran)) }

@@ -36,5 +36,6 @@ pub record Shifted (cells : List ℕ) (s : Stack) (change : ℕ) (cells′ : Lis
 
 -- from a place of the text and a state on
 pub record Followed (json : List ℕ) (from : ℕ) (s : State) (r : End) : Type 0 where
+  pub inside : r .at ≤ length json
   pub at-is : r .at ≡ from + reach (drop from json) s
   pub whole-is : r .whole ≡ accepted (run (drop from json) (some s))
