@@ -1,11 +1,11 @@
 -- Refusals 21 to 26 of a JSON text in code (02, #101): from where the first pass halts, whether the text is JSON, and if it is, the fault that starts first.
 -- Assumes nothing.
-use mathlib.Core.Bool.{Bool, true, false, cond}
+use mathlib.Core.Bool.{true, false, cond}
 use mathlib.Core.List.{List}
 use mathlib.Core.Logic.{_≢_, _⊎_}
 use mathlib.Core.Option.{none, some}
 use mathlib.Core.Path.{_≡_}
-use Prim.Native.Nat.{ℕ, _+_, _*_, _-_, _/_, _≤_, _<_}
+use Prim.Native.Nat.{ℕ, _+_, _*_, _-_, _≤_, _<_}
 use lib.Dec.{eqb, ltb}
 use lib.ListN.{length, getD}
 use Rattle.laws.specs.Lowest.{lowest}
@@ -25,10 +25,8 @@ use Rattle.reader.specs.Faults.{Fault, firstFault}
 use Rattle.survey.specs.declared.Watch.{Watch}
 use Rattle.survey.specs.Watching.{moved}
 use Rattle.survey.specs.Bounds.{Sound}
-use Rattle.tally.specs.Tallying.{Tally}
-use Rattle.tally.specs.Bounds.{UpTo, most}
-use Rattle.tally.proofs.Tallied.{Tallied}
 use Rattle.naming.proofs.Lying.{inThrees}
+use Rattle.laying.specs.Laying.{Countable}
 use Rattle.refusing.specs.declared.Amiss.{Amiss}
 
 -- where the automaton has come to: it died at this byte, or it goes on from there
@@ -57,21 +55,9 @@ pub record Lent (json names words : List ℕ) : Type 0 where
   pub names-long : length json < length names
   pub words-long : (3_072 ≤ length words) ⊎ (3 * length json + 3 ≤ 2 * length words)
 
--- the counters are those of the text's value
-abbrev pub counters : List ℕ → List ℕ → Tally
-counters values texts = record { code = 0; high = false; values = values; texts = texts }
-
-pub record Clean (json values texts : List ℕ) : Type 0 where
-  pub of : Text
-  pub spelled : bytes of ≡ json
-  pub clean : firstFault 0 (textStarts number-max of) ≡ none
-  pub counted : Tallied of (counters values texts)
-  pub values-low : UpTo most values
-  pub texts-low : UpTo most texts
-
--- what is found: no JSON, a fault, or none; its number, or 0, and its place
+-- what is found: no JSON, a fault, or none, and then the counters are the text's; its number, or 0, and its place
 pub data Told (json : List ℕ) (number place : ℕ) (values texts : List ℕ) : Type 0 where
   not-json : number ≡ 21 → accepts json ≡ false → place ≡ reach json start → Told json number place values texts
   faulty : (t : Text) (f : Fault) → bytes t ≡ json → firstFault 0 (textStarts number-max t) ≡ some f → number ≡ f .number → number ≢ 0 → place ≡ length json - length (f .behind)
       → Told json number place values texts
-  fine : number ≡ 0 → Clean json values texts → Told json number place values texts
+  fine : number ≡ 0 → Countable json values texts → Told json number place values texts

@@ -56,8 +56,23 @@ fine-place f [] e i h = absurd (omega arith)
 fine-place f (p ∷ ps) e zero h = left (f p) (everywhere f ps) e
 fine-place f (p ∷ ps) e (suc i) h = fine-place f ps (right (f p) (everywhere f ps) e) i (omega arith)
 
+of-each : (f : Place → Bool) → everywhere f places ≡ true → (p : Place) → f p ≡ true
+of-each f e p = subst (λ (q : Place). f q ≡ true) (place-back p) (fine-place f places e (placeCode p) (place-low p))
+
 each-place : (p : Place) → fine-at p ≡ true
-each-place p = subst (λ (q : Place). fine-at q ≡ true) (place-back p) (fine-place fine-at places all-fine (placeCode p) (place-low p))
+each-place p = of-each fine-at all-fine p
+
+-- within a name no value starts
+no-value : everywhere (λ p. not (inName p && startsValue p)) places ≡ true
+unfolding everywhere
+no-value = refl
+
+pub name-no-value : (p : Place) (b : ℕ) → inName p ≡ true → bracketed p b ≡ true → ⊥
+name-no-value p b n v =
+    let s : startsValue p ≡ true = left (startsValue p) (eqb b 0x5B || eqb b 0x7B) v in
+    let z : _≡_ {A = Bool} true false = sym (of-each (λ q. not (inName q && startsValue q)) no-value p) ∙ rw (n, s) in
+    let y : _≡_ {A = ℕ} 0 1 = cc in
+    omega arith
 
 each-bracket : (p : Place) (k : Option Bracket) → every (fine p) (moves p k) ≡ true
 each-bracket p none = left (every (fine p) (moves p none)) _ (each-place p)

@@ -20,7 +20,7 @@ use Rattle.survey.proofs.Orders.{going, stays}
 use Rattle.naming.specs.Gathering.{Gather, opensName, names, gather}
 use Rattle.trail.specs.Trail.{Kept, keeping, GoesOn, Trail, begins, goes}
 use Rattle.trail.proofs.Places.{isNumber, inEscape, inName, isText, bracketed}
-use Rattle.trail.proofs.Moves.{Leads, leads}
+use Rattle.trail.proofs.Moves.{name-no-value, Leads, leads}
 use Rattle.trail.proofs.Finding.{After, found-after}
 use Rattle.trail.proofs.Naming.{Same, View, a-start, no-start, view}
 
@@ -37,6 +37,7 @@ pub record Ordered (json : List ℕ) (i : ℕ) (p : Place) (ks : List Bracket) (
   pub far : 0 < g .left → length json < i + g .left
   pub named : g .on ≡ true → inName p ≡ true
   pub shallow : w .fault ≡ 0 → length ks < level-refused
+  pub depth : length ks ≤ level-refused
 
 abbrev pub OrderedAt : List ℕ → ℕ → State → Kept → Type 0
 OrderedAt json i (at p ks) x = Ordered json i p ks (x .watch) (x .names)
@@ -102,6 +103,7 @@ module _ (json : List ℕ) (i : ℕ) (p : Place) (ks : List Bracket) (q : Place)
           far = rw l far-on;
           named = n;
           shallow = depth-on w′ a;
+          depth = omega (arith, o .shallow calm, way .few);
         }
 
     -- one starts
@@ -118,6 +120,7 @@ module _ (json : List ℕ) (i : ℕ) (p : Place) (ks : List Bracket) (q : Place)
           far = λ z. omega (arith, lft-is);
           named = λ z. rw in-text;
           shallow = λ z. rw same (o .shallow calm);
+          depth = rw same (o .depth);
         }
 
   -- ---- the name under way
@@ -164,6 +167,7 @@ module _ (json : List ℕ) (i : ℕ) (p : Place) (ks : List Bracket) (q : Place)
         far = rw (same .left-is) far-on;
         named = still-named (gather 0 p ks b bs g) same (closes c);
         shallow = λ z. absurd (bad z);
+        depth = ⊎-elim (λ (v : bracketed p b ≡ true). absurd (name-no-value p b (o .named on) v)) (λ (l : length ls ≤ length ks). omega (arith, o .depth)) (way .deeper);
       }
 
   pub next : (w .fault ≡ 0) ⊎ (g .on ≡ true) → Ordered json (suc i) q ls (watching p ks b bs w) (gather 0 p ks b bs g)
@@ -184,5 +188,6 @@ ordered begins =
       far = λ (z : 0 < 0). absurd (omega arith);
       named = λ y. false-is y;
       shallow = λ z. omega arith;
+      depth = omega arith;
     }
 ordered {json = json} (goes {i} {s = at p ks} {t = at q ls} {x} tr on more e) = next json i p ks q ls (x .watch) (x .names) (ordered tr) more e on
