@@ -4,7 +4,7 @@
 --     writable, laid         the theorems
 -- Assumes nothing.
 use mathlib.Core.List.{List}
-use mathlib.Core.Path.{_≡_, sym, ap, _∙_}
+use mathlib.Core.Path.{_≡_, ap, _∙_}
 use Prim.Native.Nat.{ℕ, suc, _+_, _*_, _≤_, _<_}
 use native.Mathlib.Omega.{arith}
 use lib.ListN.{length, getD}
@@ -13,7 +13,7 @@ use Rattle.breadth.specs.Forest.{Forest, tree}
 use Rattle.breadth.specs.Breadth.{depth}
 use Rattle.breadth.specs.Sheet.{rows, text}
 use Rattle.breadth.specs.Counters.{one, size}
-use Rattle.breadth.specs.Tokens.{Token, tokens, tally}
+use Rattle.breadth.specs.Tokens.{tokens, tally}
 use Rattle.breadth.proofs.Shape.{rows-counted}
 use Rattle.breadth.proofs.Theorems.{rows-needed, bytes-needed}
 use Rattle.placing.specs.Desk as Desk

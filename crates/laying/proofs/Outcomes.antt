@@ -14,7 +14,7 @@ use lib.ListN.{length}
 use Rattle.sheet.specs.Kinds.{number-max}
 use Rattle.sheet.specs.Record.{row-words}
 use Rattle.sheet.specs.Refusals.{Outcome, accepted, refused, firstLine}
-use Rattle.json.specs.Text.{Text, bytes}
+use Rattle.json.specs.Text.{Text}
 use Rattle.json.specs.Starts.{textStarts}
 use Rattle.breadth.specs.Forest.{tree}
 use Rattle.breadth.specs.Sheet.{rows}
@@ -22,9 +22,8 @@ use Rattle.breadth.proofs.Theorems.{words-needed}
 use Rattle.writing.specs.Reading.{Stands}
 use Rattle.reader.specs.Faults.{firstFault}
 use Rattle.reader.specs.Call.{datumOf, textMade, wordsMade, textOutcome, areaAfter}
-use Rattle.laying.specs.declared.Answer.{Answer}
 use Rattle.laying.specs.declared.Answer.the-variants.{Made, Refused}
-use Rattle.laying.specs.Laying.{outcomeOf, Laid}
+use Rattle.laying.specs.Laying.{Laid}
 
 module _ (t : Text) (clean : firstFault 0 (textStarts number-max t) ≡ none) (words room : List ℕ) where
   abbrev outcome : Outcome

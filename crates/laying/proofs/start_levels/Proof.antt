@@ -1,10 +1,10 @@
 -- `laying::start_levels` meets its contract.
 -- Assumes nothing.
-use mathlib.Core.Path.{_≡_, refl, sym, ap, _∙_}
+use mathlib.Core.Path.{_≡_, refl, ap, _∙_}
 use Prim.Native.Nat.{ℕ, suc, _+_, _-_, _≤_, _<_}
 use native.Mathlib.Omega.{arith}
 use borrow.Author.Needs.{needs, fits-under}
-use lib.ListN.{length, getD, length-set}
+use lib.ListN.{length, length-set}
 use Rattle.laying.specs.Laying.{startAt, Started}
 use Rattle.laying.proofs.Starts.{start-low, started-more}
 use Rattle.laying.proofs.start_levels.Statement.{statement}

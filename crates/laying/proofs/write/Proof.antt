@@ -1,13 +1,9 @@
 -- `laying::write` meets its contract.
 -- Assumes nothing.
-use mathlib.Core.List.{List}
-use mathlib.Core.Path.{_≡_, sym, ap, _∙_}
-use Prim.Native.Nat.{ℕ, suc, _+_, _*_, _≤_, _<_}
+use mathlib.Core.Path.{_∙_}
 use native.Mathlib.Omega.{arith}
 use borrow.Author.Needs.{needs, fits-under}
-use lib.ListN.{length}
-use Rattle.writing.specs.Reading.{Writable}
-use Rattle.laying.specs.Laying.{startAt, Started, Countable}
+use Rattle.laying.specs.Laying.{Countable}
 use Rattle.laying.proofs.Outcomes.{words-short, room-short}
 use Rattle.laying.proofs.Counted.{values-long, texts-long, rows-all, bytes-all, rows-few, bytes-few, writable, laid}
 use Rattle.laying.proofs.write.Statement.{statement}
