@@ -34,7 +34,7 @@ fn pushed(o: Open, bracket: u64) -> Open
 }
 
 // The innermost bracket is closed.
-fn popped(o: Open) -> Open
+pub fn popped(o: Open) -> Open
     requires { ⌜ Fits o ⌝ }
     ensures { λ r. ⌜ Turned o 3 r ⌝ }
 {

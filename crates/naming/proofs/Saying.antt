@@ -21,7 +21,7 @@ use Rattle.json.proofs.Strings.{spelled}
 use Rattle.json.proofs.Numbers.{Ending, Stops, at-nought, at-whole, at-part, at-power}
 use Rattle.json.proofs.Doing.{Waits, waits-ahead, waits-first, waits-after, waits-name, waits-first-name, waits-colon, Orderly, tails-do, char-does, pieces-do}
 use Rattle.escapes.specs.Escapes.{hexAt}
-use Rattle.escapes.proofs.Escaped.{hex-read}
+use Rattle.escapes.proofs.Escaped.{hex-read, hex-small}
 use Rattle.naming.specs.Gathering.{Gather, starts, says, unitIs, waitsFor, shortAt, digitOf, lowAhead, escaped, names, gather}
 
 abbrev pub no-finish : List Bracket → Gather → Gather
@@ -122,7 +122,7 @@ short-escapes tabulator g = refl
 
 four-digits : (h i j k : Hex) → digitOf (digitOf (digitOf (digitOf 0 (hex h)) (hex i)) (hex j)) (hex k) ≡ unitCode h i j k
 unfolding digitOf
-four-digits h i j k = rw (hex-read h, hex-read i, hex-read j, hex-read k) (omega arith)
+four-digits h i j k = rw (hex-read h, hex-read i, hex-read j, hex-read k) (omega (arith, hex-small h, hex-small i, hex-small j, hex-small k))
 
 -- the escape that follows is of a low surrogate
 low-ahead : (ps : Str) (rest : List ℕ) → lowAhead (pieces ps (0x22 ∷ rest)) ≡ lowNext ps

@@ -99,8 +99,9 @@ waitsFor w g =
 unfoldable pub shortAt : ℕ → ℕ
 shortAt b = cond (eqb b 0x62) 0x08 (cond (eqb b 0x66) 0x0C (cond (eqb b 0x6E) 0x0A (cond (eqb b 0x72) 0x0D (cond (eqb b 0x74) 0x09 b))))
 
+-- the number of an escape with one digit more; of the number so far no more than three digits are looked at, so that it stays small whatever the bytes are
 unfoldable pub digitOf : ℕ → ℕ → ℕ
-digitOf c b = c * 16 + hexAt b
+digitOf c b = c % 0x1000 * 16 + hexAt b
 
 -- the escape of a low surrogate stands here
 unfoldable pub lowAhead : List ℕ → Bool

@@ -28,7 +28,7 @@ pub struct Ended {
 }
 
 // A byte at a place of the area, if it has that place.
-fn put(area: &mut [u8], at: usize, byte: u8)
+pub fn put(area: &mut [u8], at: usize, byte: u8)
     ensures { λ _. ⌜ now (area .exit) ≡ set (now (area .entry)) at byte ⌝ }
 {
     if at < area.len() {
@@ -37,7 +37,7 @@ fn put(area: &mut [u8], at: usize, byte: u8)
 }
 
 // A character's bytes in UTF-8 from a place on; the place behind them.
-fn append(area: &mut [u8], at: usize, code: u32) -> usize
+pub fn append(area: &mut [u8], at: usize, code: u32) -> usize
     requires { ⌜ (code < 0x200000) × (at < 1_000_000_000_000) ⌝ }
     ensures { λ r. ⌜ (r ≡ at + length (encode code [])) × (now (area .exit) ≡ sets (now (area .entry)) at (encode code [])) ⌝ }
 {
@@ -64,7 +64,7 @@ fn append(area: &mut [u8], at: usize, code: u32) -> usize
 }
 
 // The character of the byte after a backslash.
-fn short_of(byte: u8) -> u8
+pub fn short_of(byte: u8) -> u8
     ensures { λ r. ⌜ r ≡ shortAt byte ⌝ }
 {
     if byte == 0x62 {

@@ -46,7 +46,7 @@ module _ (n b : ℕ) (byte : b < 256) where
   either false x y p q = q
 
   module _ (s : Watch) (h : Bounded n s) where
-    same : Bounded (suc n) s
+    pub same : Bounded (suc n) s
     same = record { kin = kin-more n (suc n) (s .figure) (omega arith) (h .kin); few = h .few; small = h .small }
 
     at-fault : (number left : ℕ) → Bounded (suc n) (found number left s)

@@ -16,7 +16,7 @@ use Rattle.figure.specs.Figure.{wholeMore}
 use Rattle.survey.specs.declared.Watch.{Watch}
 use Rattle.survey.specs.Watching.{digitOr, slashed, parted, codeMore, hexed, coded, moved}
 
-abbrev All : (Place → Type 0) → List Place → Type 0
+abbrev pub All : (Place → Type 0) → List Place → Type 0
 All P [] = Unit {0}
 All P (x ∷ xs) = P x × All P xs
 
@@ -25,7 +25,7 @@ all-at P [] a i h = absurd (omega arith)
 all-at P (x ∷ xs) a zero h = a .0
 all-at P (x ∷ xs) a (suc i) h = all-at P xs (a .1) i (omega arith)
 
-ranged : (P : Place → Type 0) (k m : ℕ) → length (take m (drop k places)) ≡ m → All P (take m (drop k places)) → (n : ℕ) → k ≤ n → n < k + m → P (placeAt n)
+pub ranged : (P : Place → Type 0) (k m : ℕ) → length (take m (drop k places)) ≡ m → All P (take m (drop k places)) → (n : ℕ) → k ≤ n → n < k + m → P (placeAt n)
 ranged P k m l a n low high =
     let i : ℕ = n - k in
     let at-end : k + i ≡ n = omega arith in

@@ -7,8 +7,8 @@ ghost use Rattle.survey.specs.Watching.{moved};
 ghost use Rattle.survey.specs.Bounds.{Sound};
 use figure::Figure;
 
-mod numbers;
-mod strings;
+pub mod numbers;
+pub mod strings;
 mod values;
 
 use crate::numbers::in_exponent;

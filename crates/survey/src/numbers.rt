@@ -29,7 +29,7 @@ pub(crate) fn with_figure(f: Figure, s: Watch) -> Watch
 }
 
 // A number ends, where so many brackets are open.
-pub(crate) fn number_ends(depth: u32, s: Watch) -> Watch
+pub fn number_ends(depth: u32, s: Watch) -> Watch
     requires { ⌜ (depth < 100) × Fair (s .figure) ⌝ }
     ensures { λ r. ⌜ r ≡ ended depth s ⌝ }
 {

@@ -46,13 +46,13 @@ pub(crate) fn surrogate_parts(s: Watch) -> Watch
 }
 
 // Whether the code is a high surrogate, and a low one.
-pub(crate) fn high(code: u32) -> bool
+pub fn high(code: u32) -> bool
     ensures { λ r. ⌜ r ≡ isHigh code ⌝ }
 {
     (0xD800 <= code) & (code <= 0xDBFF)
 }
 
-pub(crate) fn low(code: u32) -> bool
+pub fn low(code: u32) -> bool
     ensures { λ r. ⌜ r ≡ isLow code ⌝ }
 {
     (0xDC00 <= code) & (code <= 0xDFFF)
@@ -111,7 +111,7 @@ pub(crate) fn backslash(left: usize, s: Watch) -> Watch
 }
 
 // What a byte is worth as a hexadecimal digit; of one that is none something small.
-pub(crate) fn hex_worth(byte: u8) -> u32
+pub fn hex_worth(byte: u8) -> u32
     ensures { λ r. ⌜ (r ≡ hexAt byte) × (r < 256) ⌝ }
 {
     if byte <= 0x39 {

@@ -1,3 +1,5 @@
 pub mod Sizes
 pub mod Adding
 pub mod Tallied
+pub mod Counting
+pub mod Bounded

@@ -1,1 +1,3 @@
+-- In reading order.
 pub mod Tallying
+pub mod Bounds

@@ -10,6 +10,7 @@ use Rattle.json.specs.Value.{isHigh, isLow}
 use Rattle.json.specs.Automaton.{Left, hex1, hex2, hex3, hex4, Place, ahead, firstElement, after, name, firstName, colon, word, minus, nought, whole, point, part, letter, sign, power, text, escape, unit, char}
 use Rattle.json.specs.Along.{Act}
 use Rattle.escapes.specs.Escapes.{hexAt, encodedSize}
+use Rattle.tally.specs.declared.Units.{Units}
 
 -- how many levels are counted
 abbrev pub levels : ℕ
@@ -21,6 +22,10 @@ pub record Tally : Type 0 where
   pub high : Bool
   pub values : List ℕ
   pub texts : List ℕ
+
+-- the same, as the code has it
+abbrev pub tallyOf : Units → List ℕ → List ℕ → Tally
+tallyOf u values texts = record { code = u .code; high = u .high; values = values; texts = texts }
 
 abbrev pub noTally : Tally
 noTally = record { code = 0; high = false; values = replicate levels 0; texts = replicate levels 0 }

@@ -2,7 +2,7 @@
 --     code-place, code-change     tells a place and a change
 -- Assumes nothing.
 use mathlib.Core.Option.{Option, none, some}
-use mathlib.Core.Path.{_≡_, refl, sym, _∙_, ap}
+use mathlib.Core.Path.{_≡_}
 use Prim.Native.Nat.{ℕ, _+_, _/_, _%_, _<_}
 use native.Mathlib.Omega.{arith}
 use Rattle.json.specs.Automaton.{square, curly, Change, keep, pop, push, Move, moves, pick}

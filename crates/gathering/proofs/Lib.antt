@@ -1,0 +1,4 @@
+pub mod Bounded
+pub mod Acts
+pub mod Ahead
+pub mod Places

@@ -1,0 +1,4 @@
+pub mod Starts
+pub mod Outcomes
+pub mod Counted
+pub mod Call

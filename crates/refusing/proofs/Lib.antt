@@ -1,0 +1,3 @@
+-- Laws, in reading order.
+pub mod Halting
+pub mod Firsts

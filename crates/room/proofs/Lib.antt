@@ -1,0 +1,4 @@
+pub mod Taken
+pub mod Fitting
+pub mod Numbering
+pub mod Rooms
