@@ -167,7 +167,7 @@ class Exits:
         names = subprocess.run([machine.tool('nm'), '-D', '--defined-only', str(library / 'libamphorust.so')],
                                capture_output=True, text=True).stdout.split()[2::3]
         self.equal('what the shared library exports', names, ['amphorust_check', 'amphorust_judge',
-                                                                  'amphorust_judge_queue', 'amphorust_verdict'])
+                                                                  'amphorust_judge_queue', 'amphorust_read', 'amphorust_verdict'])
         ran = subprocess.run([os.path.join(judges.ROOT, 'install')], capture_output=True, text=True)
         self.equal('./install', (ran.stdout, ran.stderr, ran.returncode), ('', 'usage: ./install PREFIX\n', 2))
 
