@@ -31,13 +31,27 @@ ROOT = os.path.dirname(os.path.dirname(os.path.abspath(__file__)))
 ARCHIVE = os.path.join(ROOT, 'target', 'staticlib', 'libhub.a')
 CALLER = os.path.join(ROOT, 'target', 'c_entry')
 HOST_PRINTS = b'''\
-the rules: in order, 3 schemas
-{"p": 7}: valid, 2 pairs settled
-{"p": 7, "q": 8}: invalid, 3 pairs settled
-    row 1 by schema 1 held
-    row 2 by schema 2 failed
+the rules: in order, 15 schemas
+line 1: valid, 12 pairs settled
+line 2: valid, 10 pairs settled
+line 3: refused, not JSON, or not in UTF-8 (refusal 21, place 121)
+line 4: invalid, 12 pairs settled
+    row 5 by schema 14 failed
+    row 0 by schema 6 failed
+    row 0 by schema 7 failed
+    row 4 by schema 5 failed
+    row 5 by schema 5 failed
     row 0 by schema 0 failed
-{"p": 7, "p": 8}: refused, two children of an object share a name (refusal 3, place 2)
+line 5: invalid, 13 pairs settled
+    row 4 by schema 9 failed
+    row 0 by schema 6 failed
+    row 0 by schema 7 failed
+    row 7 by schema 12 failed
+    row 8 by schema 13 failed
+    row 2 by schema 8 failed
+    row 4 by schema 5 failed
+    row 5 by schema 5 failed
+    row 0 by schema 0 failed
 '''
 
 FROM_C = {'memset', 'memcpy', 'memmove', 'memcmp', 'bcmp'}      # all that the archive may ask of the C library
