@@ -10,13 +10,13 @@ ghost use Rattle.meaning.specs.Rules.{whole, cut};
 ghost use Rattle.meaning.specs.Answer.{numberForC};
 ghost use Rattle.number.specs.Called.{Called, outcomeAnswer};
 ghost use Rattle.queue.specs.Listing.{queuedOutcome};
-ghost use Rattle.reading.specs.Answers.{answerOutcome};
+ghost use Rattle.laying.specs.Laying.{outcomeOf as readOutcome};
 ghost use Rattle.hub.specs.Entry.{QueueCalled, ReadCalled};
+use laying::Answer;
 use number::number_of;
 use number::number_of_count;
 use number::number_of_refusal;
 use queue::Queued;
-use reading::Answer;
 use sheet::refusal::Checked;
 use sheetcheck::ByKind;
 
@@ -110,7 +110,7 @@ pub extern "C" fn amphorust_judge_queue<'a>(
 
 // The number of what reading gives.
 fn number_of_read(answer: Answer) -> u64
-    ensures { λ r. ⌜ r ≡ numberForC (outcomeAnswer (answerOutcome answer)) ⌝ }
+    ensures { λ r. ⌜ r ≡ numberForC (outcomeAnswer (readOutcome answer)) ⌝ }
 {
     match answer {
         Answer::Made(rows) => number_of_count(rows),
