@@ -1,25 +1,26 @@
-"""The benchmark's cases: a record and rules as sheets and, where draft 4 can say the same, as JSON for rapidjson.
+"""The benchmark's cases: a record as JSON and rules as a sheet and, where draft 4 can say the same, a schema for
+rapidjson.
 
-Schemas and records go through the command's converter. Only names that overlap in their text are written word by word,
-as no JSON has them.
+Schemas go through the command's converter, and records are read by the library. Only names and strings that overlap in
+their text are written word by word, as no JSON has them.
 """
 import json
 from collections import namedtuple
 
-from tools import records, schemas, sheets
+from tools import schemas, sheets
 from tools.reading import read_json
 from tools.references import References
 
-# record and rules are sheets; schema and value are the JSON for rapidjson, None if it is not asked.
-Case = namedtuple('Case', 'name record rules schema value')
+# text is the record's JSON, or None where record is its sheet; rules are a sheet; schema is that for rapidjson, None if it
+# is not asked.
+Case = namedtuple('Case', 'name text record rules schema')
 SAME = object()     # rapidjson is asked by the schema that we judge by
 
 
 def case(name, schema, value, draft4=SAME):
     """A case of JSON; draft4 says the same for rapidjson, or is None if that draft cannot."""
     rules = schemas.rules_of(References(read_json(json.dumps(schema).encode())))
-    record = records.record_of(read_json(json.dumps(value).encode()))
-    return Case(name, record.sheet, rules.sheet, schema if draft4 is SAME else draft4, value)
+    return Case(name, json.dumps(value).encode(), None, rules.sheet, schema if draft4 is SAME else draft4)
 
 
 def defined(name):
@@ -204,6 +205,34 @@ def table():
             chain(24)._replace(name='chain of 24, each link twice'), million_pairs()]
 
 
+# ---- texts to be read that are as long as may be, made of one thing
+
+TEXT_SIZES = (4_096, 16_384, 65_536)
+
+
+def filled(size, before, part, after):
+    """A text of about that many bytes."""
+    return before + part * ((size - len(before) - len(after)) // len(part)) + after
+
+
+def spread(size, parts, opening, closing):
+    """A text of about that many bytes: the parts, with blanks between them."""
+    blanks = b' ' * ((size - sum(map(len, parts))) // len(parts) - 1)
+    return opening + (b',' + blanks).join(parts) + closing
+
+
+def texts():
+    """(what they are made of, a text of each of TEXT_SIZES)."""
+    values = lambda size: spread(size, [b'0'] * 1023, b'[', b']')
+    long_names = lambda size: spread(size, [b'"%s%04d":0' % (b'x' * 50, i) for i in range(size // 66)], b'{', b'}')
+    for name, made in (('opening brackets', lambda size: b'[' * size),
+                       ('a string of escapes', lambda size: filled(size, b'"', b'\\u0061', b'"')),
+                       ('a plain string', lambda size: filled(size, b'"', b'a', b'"')),
+                       ('digits of one number', lambda size: filled(size, b'0.', b'7', b'')),
+                       ('1,024 values', values), ('names that begin alike', long_names)):
+        yield name, [made(size) for size in TEXT_SIZES]
+
+
 # ---- names that overlap in their text
 
 NAME_BYTES, TEXT_BYTES, OVERLAPS = 59_000, 65_535, (100, 1000)
@@ -216,9 +245,13 @@ def overlapping():
     return one
 
 
+def record_sheet(rows, text):
+    return sheets.sheet(sheets.flat(rows) + [len(rows), 6 * len(rows), len(text.bytes), 1], text)
+
+
 def overlapping_record(n):
     rows = [(sheets.OBJECT, 1, n, 0, 0, 0)] + [(sheets.NULL, 0, 0, 0, i, NAME_BYTES) for i in range(n)]
-    return sheets.record_sheet(rows, overlapping())
+    return record_sheet(rows, overlapping())
 
 
 def overlapping_rules(n, clauses):
@@ -236,7 +269,7 @@ def overlapping_strings(n, end):
     one = sheets.Text()
     one.bytes += 'ż'.encode() * (TEXT_BYTES // 2) + end
     rows = [(sheets.ARRAY, 1, n, 0, 0, 0)] + [(sheets.STRING, 2 * i, STRING_BYTES, 0, 0, 0) for i in range(n)]
-    return sheets.record_sheet(rows, one)
+    return record_sheet(rows, one)
 
 
 def no_rules():
@@ -249,7 +282,7 @@ def hostile():
             ('both: properties', (schemas.PROPERTIES,)),
             ('both: and additionalProperties', (schemas.PROPERTIES, schemas.SCHEMAS['additionalProperties']))]
     for name, clauses in ways:
-        yield name, [Case('%s, %d' % (name, n), overlapping_record(n),
-                          overlapping_rules(n, clauses) if clauses else no_rules(), None, None) for n in OVERLAPS]
+        yield name, [Case('%s, %d' % (name, n), None, overlapping_record(n),
+                          overlapping_rules(n, clauses) if clauses else no_rules(), None) for n in OVERLAPS]
     for name, end in (('strings, UTF-8', b''), ('strings, and a byte that is none', b'\xff')):
-        yield name, [Case('%s, %d' % (name, n), overlapping_strings(n, end), no_rules(), None, None) for n in OVERLAPS]
+        yield name, [Case('%s, %d' % (name, n), None, overlapping_strings(n, end), no_rules(), None) for n in OVERLAPS]

@@ -14,27 +14,29 @@ LIMIT = 20      # seconds that a hostile case may take
 
 HEADING = '''The smallest times; both sheets are checked in each call, 'verdict' is the call for the verdict only, and
 'checks' is what the two checks take as calls of their own. rapidjson: its time as a multiple of ours, with its
-schema compiled and the record parsed beforehand, where draft 4 can say the case. Slopes: how the time grows from size to size, 1.0 in proportion,
-2.0 by the square. Overlapping names: of {:,} bytes each, in {:,} bytes of text.
+schema compiled and the record parsed beforehand, where draft 4 can say the case; of reading and judging, its time to
+parse and validate at once. Slopes: how the time grows from size to size, 1.0 in proportion, 2.0 by the square.
+Overlapping names: of {:,} bytes each, in {:,} bytes of text.
 '''
 
 # answer is the C entry's number, ours a call's nanoseconds, checks those of both checks alone and only those of the
-# verdict only, theirs rapidjson's
-# (None: not asked), agrees whether its verdict is ours.
-Measured = namedtuple('Measured', 'rows schemas answer ours checks only theirs agrees')
+# verdict only; size is the JSON's bytes, read the nanoseconds of reading it and both those of reading and judging (None
+# for a case without JSON); theirs is rapidjson's time and theirs_both that with parsing (None: not asked), agrees whether
+# its verdict is ours.
+Measured = namedtuple('Measured', 'rows schemas answer ours checks only size read both theirs theirs_both agrees')
 
 
 def write(folder, name, case):
     """The files of a case, and where they stand."""
     path = os.path.join(folder, name)
-    with open(path + '.bundle', 'wb') as out:
-        out.write(sheets.bundle(case.record, case.rules))
-    for suffix, value in (('.schema', case.schema), ('.record', case.value)):
+    schema = None if case.schema is None else json.dumps(case.schema).encode()
+    bundle = sheets.bundle(case.record or sheets.Sheet(b'', b''), case.rules)
+    for suffix, data in (('.bundle', bundle), ('.json', case.text), ('.schema', schema)):
         if os.path.exists(path + suffix):
             os.remove(path + suffix)
-        if case.schema is not None:
-            with open(path + suffix, 'w') as out:
-                json.dump(value, out)
+        if data is not None:
+            with open(path + suffix, 'wb') as out:
+                out.write(data)
     return path
 
 
@@ -46,10 +48,11 @@ def measured(folder, found):
 
 
 def read_line(line):
-    rows, schemas, answer, ours, checks, only, verdict, theirs = line.split()
-    asked = verdict != '-'
+    rows, schemas, answer, ours, checks, only, size, read, both, verdict, *theirs = line.split()
+    asked, has_text = verdict != '-', size != '-'
     return Measured(int(rows), int(schemas), int(answer), float(ours), float(checks), float(only),
-                    float(theirs) if asked else None, asked and int(answer) % 256 == int(verdict))
+                    *(int(size), float(read), float(both)) if has_text else (None,) * 3,
+                    *map(float, theirs) if asked else (None,) * 2, asked and int(answer) % 256 == int(verdict))
 
 
 def measured_alone(folder, case):
@@ -77,11 +80,15 @@ def duration(ns):
 
 def multiple(one):
     """rapidjson's time as a multiple of ours."""
-    if one.theirs is None:
+    return multiple_of(one, one.theirs, one.ours)
+
+
+def multiple_of(one, theirs, ours):
+    if theirs is None:
         return ''
     if not one.agrees:
         return 'disagrees'
-    times = one.theirs / one.ours
+    times = theirs / ours
     return '{:,.0f}'.format(times) if times >= 9.95 else '%.1f' % times if times >= 0.95 else '%.2g' % times
 
 
@@ -121,6 +128,28 @@ def print_cases(found, times):
                        duration(one.only), duration(one.checks), duration(one.ours / max(pairs, 1)), multiple(one), said(one)))
 
 
+def print_readings(found, times):
+    """What reading the same records takes, alone and with judging."""
+    shape = '%-30s %7s %10s %10s %10s %10s'
+    print('\n' + shape % ('reading', 'bytes', 'read', 'a byte', 'and judge', 'rapidjson'))
+    for case, one in zip(found, times):
+        print(shape % (case.name, '{:,}'.format(one.size), duration(one.read), '%.1f ns' % (one.read / one.size),
+                       duration(one.both), multiple_of(one, one.theirs_both, one.both)))
+
+
+def print_texts(folder):
+    """Reading of texts that are made of one thing, by their size."""
+    print(sizes_line('reading texts of', cases.TEXT_SIZES))
+    for name, texts in cases.texts():
+        paths = [os.path.join(folder, 'text-%d' % i) for i, _ in enumerate(texts)]
+        for path, text in zip(paths, texts):
+            with open(path, 'wb') as out:
+                out.write(text)
+        ran = subprocess.run([os.path.join(folder, 'measure'), 'read'] + paths, stdout=subprocess.PIPE, text=True, check=True)
+        sizes, answers, times = zip(*(map(float, one.split()) for one in ran.stdout.splitlines()))
+        print(line(name, map(duration, times), slopes(sizes, times)) + said_of(int(answers[-1])))
+
+
 def print_families(families):
     """families: (sizes, cases, times). Below each its rapidjson, where that was asked more than once."""
     before = None
@@ -149,11 +178,13 @@ def print_queue(folder, case):
     """The case's record 512 times: nanoseconds a record, in one call, in as many calls, and by rapidjson."""
     path = write(folder, 'queue', case)
     ran = subprocess.run([os.path.join(folder, 'measure'), 'queue', path], stdout=subprocess.PIPE, text=True, check=True)
-    answer, last, whole, single, theirs = ran.stdout.split()
+    answer, last, whole, single, theirs, both, theirs_both = ran.stdout.split()
+    beside = lambda time, ours: '' if time == '-' else '; rapidjson %s (%.1f times)' % (
+        duration(float(time)), float(time) / float(ours))
     print('\na queue of %d: %s, %s a record; in single calls %s (%.2f of it)%s%s' % (
         int(answer) // 256, case.name, duration(float(whole)), duration(float(single)), float(whole) / float(single),
-        '' if theirs == '-' else '; rapidjson %s (%.1f times)' % (duration(float(theirs)), float(theirs) / float(whole)),
-        said_of(int(last))))
+        beside(theirs, whole), said_of(int(last))))
+    print('the same read first, %s a record%s' % (duration(float(both)), beside(theirs_both, both)))
 
 
 def main(folder):
@@ -161,9 +192,12 @@ def main(folder):
     families = [(sizes, [family(n) for n in sizes]) for family, sizes in cases.FAMILIES]
     times = iter(measured(folder, table + [case for _, found in families for case in found]))
     print(HEADING.format(cases.NAME_BYTES, cases.TEXT_BYTES))
-    print_cases(table, [next(times) for _ in table])
+    of_table = [next(times) for _ in table]
+    print_cases(table, of_table)
+    print_readings(table, of_table)
     print_queue(folder, table[0])
     print_families([(sizes, found, [next(times) for _ in found]) for sizes, found in families])
+    print_texts(folder)
     sys.stdout.flush()
     print_hostile(folder)
 

@@ -1,11 +1,11 @@
 /* amphorust.h: judges a record by rules, JSON Schema (Draft 2020-12) as sheets of words.
  *
- * A sheet is an array of 32-bit words with its text in bytes: a record or rules. `amphorust_check` says
- * whether one is in order. `amphorust_judge` takes a record and rules, and two areas that it writes: the
- * cells and the settling list; it checks both sheets itself. `amphorust_verdict` does only what the verdict
- * needs, and has no list. `amphorust_judge_queue` judges up to 512 records, one after the other. Each
- * answers by one 64-bit number, for every input whatever; what it gives and leaves is proved, for all of
- * them.
+ * A sheet is an array of 32-bit words with its text in bytes: a record or rules. `amphorust_read` makes a
+ * record of JSON. `amphorust_check` says whether a sheet is in order. `amphorust_judge` takes a record and
+ * rules, and two areas that it writes: the cells and the settling list; it checks both sheets itself.
+ * `amphorust_verdict` does only what the verdict needs, and has no list. `amphorust_judge_queue` judges up
+ * to 512 records, one after the other. Each answers by one 64-bit number, for every input whatever; what it
+ * gives and leaves is proved, for all of them.
  *
  * `./install PREFIX` gives libamphorust.a and libamphorust.so to link with, beside the C library; in a clone they are
  * target/staticlib/libhub.a and target/lib/libamphorust.so (`./amphorust build`). x86-64 only. `examples/host.c` and
@@ -26,7 +26,8 @@ extern "C" {
  * followed out of its array.
  *   - An array of length 0 may have a null pointer.
  *   - Arrays of words stand at addresses divisible by 4, and answers at one divisible by 8.
- *   - `cells`, `list` and `answers` overlap no other array. Those that are only read may overlap.
+ *   - `cells`, `list` and `answers`, and the areas of reading, overlap no other array. Those that are only
+ *     read may overlap.
  *   - Nothing else writes any of them while the call runs.
  *
  * A call keeps no state, allocates nothing, ends on every input, and may run in several threads at once,
@@ -34,6 +35,36 @@ extern "C" {
  * thread that makes a call a stack of AMPHORUST_STACK bytes, besides what the thread needs itself. */
 
 #define AMPHORUST_STACK 524288 /* the deepest recursion was measured to need 408 KiB */
+
+/* Reads JSON (RFC 8259, in UTF-8, without a byte order mark) into a record sheet and its text. The value of
+ * the text is the record: rows breadth first, names and strings with their escapes decoded, numbers by
+ * their value, at the smallest scale. What is read needs no check, and is not refused by one.
+ *
+ * The sheet's words stand at the start of `words` and the text's bytes at the start of `text`
+ * (`amphorust_words_read` and `amphorust_text_read` say how many); what lies behind them stays. A text that
+ * is refused, by 20 to 28, writes nothing. Areas of `amphorust_words_for` and `amphorust_text_for` places
+ * are enough for a text of so many bytes, and AMPHORUST_WORDS_MAX and AMPHORUST_TEXT_MAX for every text. */
+uint64_t amphorust_read(const uint8_t *json, size_t json_length,
+                        uint32_t *words, size_t words_length,
+                        uint8_t *text, size_t text_length);
+
+#define AMPHORUST_JSON_MAX 65536 /* bytes of a JSON text */
+#define AMPHORUST_WORDS_MAX 6148 /* of a record sheet that was read: 6 x 1,024 + 4 */
+#define AMPHORUST_TEXT_MAX 65535 /* bytes of a sheet's text */
+
+/* A text of n values has at least 2n - 1 bytes: a value with none in it at least one, and one with m values
+ * in it two brackets and m - 1 commas besides theirs. */
+static inline size_t amphorust_words_for(size_t json_length)
+{
+    size_t values = json_length / 2 + json_length % 2;
+    return 6 * (values < 1024 ? values : 1024) + 4;
+}
+
+/* Names and strings take no more bytes than they are written with, quotes not counted. */
+static inline size_t amphorust_text_for(size_t json_length)
+{
+    return json_length < AMPHORUST_TEXT_MAX ? json_length : AMPHORUST_TEXT_MAX;
+}
 
 /* Checks a sheet. The last word says its kind: 1 for a record, 2 for rules. */
 uint64_t amphorust_check(const uint32_t *words, size_t words_length,
@@ -97,10 +128,10 @@ static inline void amphorust_list_record(uint32_t *listing, size_t k, uint32_t s
 
 /* ---- The answer
  *
- * The lowest byte is 0 for valid or, of a check, in order or, of a queue, answered; 1 for invalid; and 10
- * more than the refusal's number for refused. What stands above it is, for valid and invalid, the number
- * of settled pairs; in order, the number of rows of a record or of schemas of rules; of a queue, the
- * number of records answered; for refused, the place. */
+ * The lowest byte is 0 for valid or, of a check and of reading, in order or, of a queue, answered; 1 for
+ * invalid; and 10 more than the refusal's number for refused. What stands above it is, for valid and
+ * invalid, the number of settled pairs; in order, the number of rows of a record or of schemas of rules; of
+ * a queue, the number of records answered; for refused, the place. */
 
 static inline int amphorust_is_in_order(uint64_t answer) { return answer % 256 == 0; }
 
@@ -117,10 +148,23 @@ static inline size_t amphorust_count(uint64_t answer)
     return amphorust_is_refused(answer) ? 0 : (size_t)(answer / 256);
 }
 
-/* The rows of the record, or the schemas of the rules, that a check found in order; 0 if it was refused. */
+/* The rows of the record, or the schemas of the rules, that a check found in order or that reading made; 0
+ * if it was refused. */
 static inline uint32_t amphorust_size(uint64_t answer)
 {
     return amphorust_is_refused(answer) ? 0 : (uint32_t)(answer / 256);
+}
+
+/* How many words and how many bytes of the text reading wrote, by its answer and the words; 0 if it was
+ * refused. */
+static inline size_t amphorust_words_read(uint64_t answer)
+{
+    return amphorust_is_refused(answer) ? 0 : 6 * (size_t)amphorust_size(answer) + 4;
+}
+
+static inline size_t amphorust_text_read(uint64_t answer, const uint32_t *words)
+{
+    return amphorust_is_refused(answer) ? 0 : words[6 * (size_t)amphorust_size(answer) + 2];
 }
 
 /* How many records of a queue were answered; 0 if the queue was refused. */
@@ -129,7 +173,7 @@ static inline size_t amphorust_answered(uint64_t answer)
     return amphorust_is_refused(answer) ? 0 : (size_t)(answer / 256);
 }
 
-/* The refusal's number, 1 to 13 or 30 to 32; 0 if the call was not refused. */
+/* The refusal's number, 1 to 13, 20 to 28 or 30 to 32; 0 if the call was not refused. */
 static inline unsigned amphorust_refusal(uint64_t answer)
 {
     return amphorust_is_refused(answer) ? (unsigned)(answer % 256 - 10) : 0;
@@ -146,9 +190,9 @@ static inline uint32_t amphorust_place(uint64_t answer)
  * They are tested in order over whole sheets, and the first that applies is given: by a check 12, then 1,
  * 2, 3, 13, 4 of a record or 5, 6, 7, 13, 8, 9 of rules; by judging the record's, the rules', 10 and (not
  * for the verdict only) 11, and never 12: there a sheet of another kind is refused 1 or 5; by a queue 30, 31
- * and 32 alone. A refused call leaves the areas as they were. Rows, schemas, clauses and entries count from
- * 0; a place in the rules counts the schemas, then the
- * clauses, then the entries. */
+ * and 32 alone. Reading gives 20, then 21, then of 22 to 26 what starts first in the text, then 27 and 28. A
+ * refused call leaves the areas as they were. Rows, schemas, clauses, entries and bytes count from 0; a
+ * place in the rules counts the schemas, then the clauses, then the entries. */
 static inline const char *amphorust_refusal_text(unsigned refusal)
 {
     switch (refusal) {
@@ -173,6 +217,19 @@ static inline const char *amphorust_refusal_text(unsigned refusal)
     case 12: return "no words, or a last word that is no kind of sheet";
     /* the lowest such row, or the lowest such entry */
     case 13: return "a name or a string is not UTF-8";
+    /* place 0 */
+    case 20: return "more than 65,536 bytes of JSON";
+    /* the first byte at which no JSON text can go on, or the length of one that is cut short */
+    case 21: return "not JSON, or not in UTF-8";
+    /* the byte at which the value, the name (of 25, the later one) or the escape starts */
+    case 22: return "more than 1,024 values";
+    case 23: return "a number of more than nine digits, or of more than nine behind the point";
+    case 24: return "a value is deeper than level 32";
+    case 25: return "two members of an object share a name";
+    case 26: return "an escape of a surrogate that is alone";
+    /* the words, the bytes that are needed */
+    case 27: return "too few words";
+    case 28: return "too short a text";
     /* place 0 */
     case 30: return "a listing that four does not divide, or of more than 512 records";
     /* the lowest such record */

@@ -5,8 +5,10 @@
  *     c_entry check    checks sheets
  *     c_entry verdict  judges for the verdict only
  *     c_entry queue    judges queues
+ *     c_entry read     reads JSON
  *     c_entry BYTES    judges, each on a thread whose stack has that many bytes, nothing mapped below it
  *     c_entry verdict BYTES    judges for the verdict only on such threads
+ *     c_entry read BYTES       reads JSON on such threads
  *     c_entry past N   calls nothing: reads a byte past array N, which must kill it
  *     c_entry into N   calls nothing: writes array N, which must kill it if the calls only read that
  *
@@ -17,7 +19,10 @@
  * to check is the first two lengths and arrays. What came of it is the answer, whether it is in order and
  * refused, the size, the refusal and the place. A call to judge a queue is eight (words, bytes, listing, rules, rule text, cells, list,
  * answers). What came of it is the answer, whether it is refused, how many were answered, the refusal
- * and the place, and then the cells, the list and the answers.
+ * and the place, and then the cells, the list and the answers. A call to read is three (JSON, words, text).
+ * What came of it is the answer, whether it is in order and refused, the size, the refusal, the place, the
+ * words and the bytes that it wrote and those that the header says to be enough, and then the words and the
+ * text.
  *
  * Each array ends where its last mapped page does. Arrays that the call only reads can only be read. */
 #define _GNU_SOURCE
@@ -35,6 +40,7 @@
 #define UNTOUCHED 0xA5
 
 enum { RECORD, RECORD_TEXT, RULES, RULE_TEXT, CELLS, LIST };
+enum { JSON, READ_WORDS, READ_TEXT };
 enum { WORDS, BYTES, LISTING, QUEUE_RULES, QUEUE_RULE_TEXT, QUEUE_CELLS, QUEUE_LIST, ANSWERS, PARTS };
 
 /* What a call is given: how many arrays, the first of those that it writes, and their elements' sizes. */
@@ -46,6 +52,7 @@ struct shape {
 static const struct shape checking = {2, 2, {4, 1}};
 static const struct shape judging = {6, CELLS, {4, 1, 4, 1, 1, 4}};
 static const struct shape judging_verdict = {5, CELLS, {4, 1, 4, 1, 1}};
+static const struct shape reading = {3, READ_WORDS, {1, 4, 1}};
 static const struct shape judging_queue = {8, QUEUE_CELLS, {4, 1, 4, 4, 1, 1, 4, 8}};
 
 struct part {
@@ -102,10 +109,11 @@ static int read_call(void)
     return 1;
 }
 
-static void check(void)
+static void *check(void *unused)
 {
     answer = amphorust_check((const uint32_t *)parts[RECORD].array, parts[RECORD].length,
                              parts[RECORD_TEXT].array, parts[RECORD_TEXT].length);
+    return unused;
 }
 
 static void *judge(void *unused)
@@ -129,7 +137,7 @@ static void *judge_verdict(void *unused)
     return unused;
 }
 
-static void judge_queue(void)
+static void *judge_queue(void *unused)
 {
     answer = amphorust_judge_queue((const uint32_t *)parts[WORDS].array, parts[WORDS].length,
                                    parts[BYTES].array, parts[BYTES].length,
@@ -139,9 +147,18 @@ static void judge_queue(void)
                                    parts[QUEUE_CELLS].array, parts[QUEUE_CELLS].length,
                                    (uint32_t *)parts[QUEUE_LIST].array, parts[QUEUE_LIST].length,
                                    (uint64_t *)parts[ANSWERS].array, parts[ANSWERS].length);
+    return unused;
 }
 
-static void judge_on_thread(void *(*how)(void *), size_t stack)
+static void *read_json(void *unused)
+{
+    answer = amphorust_read(parts[JSON].array, parts[JSON].length,
+                            (uint32_t *)parts[READ_WORDS].array, parts[READ_WORDS].length,
+                            parts[READ_TEXT].array, parts[READ_TEXT].length);
+    return unused;
+}
+
+static void on_thread(void *(*how)(void *), size_t stack)
 {
     uint8_t *region = map(BELOW + stack, PROT_READ | PROT_WRITE);
     pthread_attr_t attributes;
@@ -166,6 +183,16 @@ static void write_answered(void)
     const uint64_t told[] = {
         answer, amphorust_is_refused(answer), amphorust_answered(answer), amphorust_refusal(answer),
         amphorust_place(answer)};
+    fwrite(told, sizeof told, 1, stdout);
+}
+
+static void write_read(void)
+{
+    const uint64_t told[] = {
+        answer, amphorust_is_in_order(answer), amphorust_is_refused(answer), amphorust_size(answer),
+        amphorust_refusal(answer), amphorust_place(answer), amphorust_words_read(answer),
+        amphorust_text_read(answer, (const uint32_t *)parts[READ_WORDS].array),
+        amphorust_words_for(parts[JSON].length), amphorust_text_for(parts[JSON].length)};
     fwrite(told, sizeof told, 1, stdout);
 }
 
@@ -202,31 +229,48 @@ static void trespass(const char *how, const struct part *part)
         end[-1] = 0;
 }
 
+/* What a word on the command line asks for: what a call is given, how it is made and what is told of it. */
+struct way {
+    const char *word;
+    const struct shape *shape;
+    void *(*call)(void *);
+    void (*tell)(void);
+};
+
+static const struct way ways[] = {
+    {"check", &checking, check, write_checked},
+    {"queue", &judging_queue, judge_queue, write_answered},
+    {"verdict", &judging_verdict, judge_verdict, write_judged},
+    {"read", &reading, read_json, write_read},
+};
+static const struct way judges = {"", &judging, judge, write_judged};
+
+static const struct way *asked_for(const char *word)
+{
+    for (size_t i = 0; i < sizeof ways / sizeof ways[0]; i++)
+        if (strcmp(word, ways[i].word) == 0)
+            return &ways[i];
+    return &judges;
+}
+
 int main(int count, char **arguments)
 {
-    int checks = count == 2 && strcmp(arguments[1], "check") == 0;
-    int queues = count == 2 && strcmp(arguments[1], "queue") == 0;
-    int verdicts = count >= 2 && strcmp(arguments[1], "verdict") == 0;
-    void *(*how)(void *) = verdicts ? judge_verdict : judge;
-    shape = checks ? checking : queues ? judging_queue : verdicts ? judging_verdict : judging;
-    if (verdicts) {
+    const struct way *way = count > 1 ? asked_for(arguments[1]) : &judges;
+    shape = *way->shape;
+    if (way != &judges) {
         count--;
         arguments++;
     }
     while (read_call()) {
         if (count > 2)
             trespass(arguments[1], &parts[strtoul(arguments[2], NULL, 10)]);
-        else if (checks)
-            check();
-        else if (queues)
-            judge_queue();
         else if (count > 1)
-            judge_on_thread(how, strtoul(arguments[1], NULL, 10));
+            on_thread(way->call, strtoul(arguments[1], NULL, 10));
         else
-            how(NULL);
+            way->call(NULL);
         for (int i = 0; i < shape.given; i++)
             look_before(&parts[i]);
-        checks ? write_checked() : queues ? write_answered() : write_judged();
+        way->tell();
         write_areas();
         for (int i = 0; i < shape.given; i++)
             if (parts[i].pages != NULL)

@@ -4,8 +4,9 @@
 Builds the archive and the example host (examples/build-host), then tests/c_entry.c with the archive. That program
 places each array directly before an unmapped page and makes the four that are only read unwritable. Cases are the
 samples, the limits, texts of 65,535 and 65,536 bytes, sheets cut short and random ones; each is called with areas of
-several lengths, full of random bytes, and again for the verdict only. Checks of sheets (tests/c_check.py) and queues
-(tests/c_queue.py) are compared too. Finds the smallest stack at which the deepest recursion works.
+several lengths, full of random bytes, and again for the verdict only. Checks of sheets (tests/c_check.py), queues
+(tests/c_queue.py) and readings of JSON (tests/c_read.py) are compared too. Finds the smallest stacks at which the
+deepest recursion and the deepest text work.
 
 Ends with 'N passed, M failed'. COUNT and SEED may be given."""
 import itertools
@@ -20,6 +21,7 @@ import sys
 
 import c_check
 import c_queue
+import c_read
 import judged
 import machine
 import second
@@ -29,13 +31,27 @@ ROOT = os.path.dirname(os.path.dirname(os.path.abspath(__file__)))
 ARCHIVE = os.path.join(ROOT, 'target', 'staticlib', 'libhub.a')
 CALLER = os.path.join(ROOT, 'target', 'c_entry')
 HOST_PRINTS = b'''\
-the rules: in order, 3 schemas
-{"p": 7}: valid, 2 pairs settled
-{"p": 7, "q": 8}: invalid, 3 pairs settled
-    row 1 by schema 1 held
-    row 2 by schema 2 failed
+the rules: in order, 15 schemas
+line 1: valid, 12 pairs settled
+line 2: valid, 10 pairs settled
+line 3: refused, not JSON, or not in UTF-8 (refusal 21, place 121)
+line 4: invalid, 12 pairs settled
+    row 5 by schema 14 failed
+    row 0 by schema 6 failed
+    row 0 by schema 7 failed
+    row 4 by schema 5 failed
+    row 5 by schema 5 failed
     row 0 by schema 0 failed
-{"p": 7, "p": 8}: refused, two children of an object share a name (refusal 3, place 2)
+line 5: invalid, 13 pairs settled
+    row 4 by schema 9 failed
+    row 0 by schema 6 failed
+    row 0 by schema 7 failed
+    row 7 by schema 12 failed
+    row 8 by schema 13 failed
+    row 2 by schema 8 failed
+    row 4 by schema 5 failed
+    row 5 by schema 5 failed
+    row 0 by schema 0 failed
 '''
 
 FROM_C = {'memset', 'memcpy', 'memmove', 'memcmp', 'bcmp'}      # all that the archive may ask of the C library
@@ -230,6 +246,18 @@ def run_caller(sent, *arguments):
     return subprocess.run(machine.call(CALLER, *arguments), input=sent, capture_output=True)
 
 
+def in_batches(calls):
+    """The calls in lists that one run of the caller gets."""
+    batch, size = [], 0
+    for call in calls:
+        batch.append(call)
+        size += len(call.sent())
+        if size > BATCH:
+            yield batch
+            batch, size = [], 0
+    yield batch
+
+
 def compare(results, calls, *arguments):
     """Checks a batch of calls. A call that does not return is a failure, and the next is tried."""
     while calls:
@@ -272,11 +300,13 @@ def check_calls(results, rng, count, seed):
 
 def check_guards(results):
     """The emulator keeps to the caller's pages: a byte past an array kills it, and a write where it may only read."""
-    sent = Call('guards', [0] * 4, b'x', [0] * 6, b'x', b'x', [0]).sent()
-    for how, arrays in (('past', range(6)), ('into', range(4))):
-        for array in arrays:
-            ended = run_caller(sent, how, str(array)).returncode
-            results.check(ended == -signal.SIGSEGV, '%s array %d: ended with %d' % (how, array, ended))
+    judging = Call('guards', [0] * 4, b'x', [0] * 6, b'x', b'x', [0]).sent()
+    reading = c_read.Read('guards', b'0', [0] * 10, b'x').sent()
+    for call, sent, given, lent in (([], judging, 6, 4), (['read'], reading, 3, 1)):
+        for how, arrays in (('past', range(given)), ('into', range(lent))):
+            for array in arrays:
+                ended = run_caller(sent, *call, how, str(array)).returncode
+                results.check(ended == -signal.SIGSEGV, '%s %s array %d: ended with %d' % (call, how, array, ended))
 
 
 # ---- what the header says of the archive ----
@@ -316,19 +346,28 @@ def deep_cases():
 
 
 def check_stack(results):
-    """The smallest stack at which each deep case is answered rightly is not above what the header asks for."""
+    """No deep case needs a larger stack than the header asks for."""
     with open(os.path.join(ROOT, 'include', 'amphorust.h')) as header:
         said = int(re.search(r'^#define AMPHORUST_STACK (\d+)', header.read(), re.M)[1])
     for label, *parts in deep_cases():
         for call, how in ((Call(label, *parts, bytes(1024), [0] * 1024), []), (VerdictCall(label, *parts, bytes(1024)), ['verdict'])):
-            low, high = 0, STACK_MOST // STACK_STEP
-            while high - low > 1:
-                middle = (low + high) // 2
-                works = run_caller(call.sent(), *how, str(middle * STACK_STEP)).stdout == call.wanted()
-                low, high = (low, middle) if works else (middle, high)
-            smallest = high * STACK_STEP
+            smallest = smallest_stack(call, how)
             print('32 levels by chains of 32 through %s: the smallest stack is %d KiB' % (call.label, smallest // 1024))
             results.check(smallest <= said, 'deep %s: needs a stack of %d' % (call.label, smallest))
+    for call in c_read.deepest():
+        smallest = smallest_stack(call, ['read'])
+        print('%s: the smallest stack is %d KiB' % (call.label, smallest // 1024))
+        results.check(smallest <= said, '%s: needs a stack of %d' % (call.label, smallest))
+
+
+def smallest_stack(call, how):
+    """The smallest stack at which the call is answered rightly, in bytes."""
+    low, high, wanted = 0, STACK_MOST // STACK_STEP, call.wanted()
+    while high - low > 1:
+        middle = (low + high) // 2
+        works = run_caller(call.sent(), *how, str(middle * STACK_STEP)).stdout == wanted
+        low, high = (low, middle) if works else (middle, high)
+    return high * STACK_STEP
 
 
 def main(count=1500, seed=1):
@@ -340,6 +379,9 @@ def main(count=1500, seed=1):
     check_calls(results, rng, count, seed)
     compare(results, list(c_check.calls(seed, count)), 'check')
     compare(results, list(c_queue.calls(seed, count // 5)), 'queue')
+    for batch in in_batches(c_read.calls(seed, 4 * count)):
+        compare(results, batch, 'read')
+    results.check(c_read.least(seed, 4 * count), "the areas that the header says are too small, or never needed")
     check_archive(results)
     check_stack(results)
     print('%d passed, %d failed' % (results.passed, results.failed))

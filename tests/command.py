@@ -83,7 +83,7 @@ class Tests(Runs):
             '(#/anyOf/1)\n'
             'queue.jsonl:5: invalid: /chip: "A30F917" has 7 characters, must have at least 8 '
             '(#/$defs/read/properties/chip/minLength), the nearest of 2 alternatives (#/anyOf/0), and 2 more\n',
-            warned + 'queue.jsonl:3: column 104: not JSON: unterminated string\n', 2))
+            warned + 'queue.jsonl:3: column 122: not JSON: it ends too early\n', 2))
 
     def documents(self):
         """What README.md and docs/GUIDE.md show is what is printed, both outputs together."""
@@ -120,7 +120,7 @@ class Tests(Runs):
         good, bad = self.write('good.json', '{}'), self.write('bad.json', '{"a b":1}')
         self.equal('standard input', self.run('check', 's.json', '-', stdin=b'[]'), ('-: valid\n', '', 0))
         self.equal('standard input, not JSON', self.run('check', 's.json', '-', stdin=b'['),
-                   ('', '-: line 1, column 2: not JSON: expecting value\n', 2))
+                   ('', '-: line 1, column 2: not JSON: it ends too early\n', 2))
         for files, status in (([good, good], 0), ([good, bad], 1), ([bad, 'none.json', good], 2), (['none.json'], 2)):
             self.equal(('-q', files), self.run('check', '-q', 's.json', *files), ('', '', status))
         self.equal('no such file', self.run('check', 's.json', 'none.json'),
@@ -246,6 +246,8 @@ class Tests(Runs):
             self.write('s.json', schema)
             ran = subprocess.run([self.command, 'bundle', 's.json', 'r.json'], cwd=self.files, capture_output=True)
             self.equal(schema, (ran.stdout, ran.stderr, ran.returncode), (second.bundle(*record, *rules), b'', 0))
+        self.equal('bundle of no JSON', self.run('bundle', 's.json', self.write('r.json', '{"p" 7}')),
+                   ('', "r.json: line 1, column 6: not JSON: '7' cannot stand here\n", 2))
         self.equal('bundle of no file', self.run('bundle', 's.json', 'none.json'),
                    ('', 'none.json: no such file or directory\n', 2))
 

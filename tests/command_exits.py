@@ -154,22 +154,30 @@ class Exits:
         self.equal('pkg-config', ('prefix=%s\n' % prefix in settings, 'Version: %s\n' % version in settings), (True, True))
         library = prefix / 'lib'
         host = self.built('host.c', '-L', str(library), '-lamphorust', '-Wl,-rpath,%s' % library)
-        ran = subprocess.run(machine.call(host), capture_output=True)
-        self.equal('a host with the shared library', (ran.stdout.decode().splitlines()[:2], ran.returncode),
-                   (['the rules: in order, 3 schemas', '{"p": 7}: valid, 2 pairs settled'], 0))
+        bundle = self.runs.folder / 'passage.bundle'
+        bundle.write_bytes(self.bundle('passage.json'))
+        for lines, told in ((2, ['line 1: valid, 12 pairs settled', 'line 2: valid, 10 pairs settled']),
+                            (1300, ['line %d: valid, %d pairs settled' % (i, 12 if i % 2 else 10) for i in range(1, 1301)])):
+            queue = (EXAMPLES / 'queue.jsonl').read_bytes().splitlines(True)[:2] * (lines // 2)
+            ran = subprocess.run(machine.call(host, str(bundle)), input=b''.join(queue), capture_output=True)
+            self.equal('a host with the shared library', (ran.stdout.decode().splitlines() ==
+                                                          ['the rules: in order, 15 schemas'] + told, ran.returncode), (True, 0))
         book = self.built('book.c', str(library / 'libamphorust.a'))
         for record, told in (('passage.json', (b'booked\n', 0)),
                              ('passage-misspelt.json', (b'not booked: the record does not keep the rules\n', 1))):
-            bundle = subprocess.run([self.runs.command, 'bundle', 'passage.schema.json', record], cwd=EXAMPLES,
-                                    stdout=subprocess.PIPE, stderr=subprocess.DEVNULL).stdout
-            ran = subprocess.run(machine.call(book), input=bundle, capture_output=True)
+            ran = subprocess.run(machine.call(book), input=self.bundle(record), capture_output=True)
             self.equal('booking with the archive', (ran.stdout, ran.returncode), told)
         names = subprocess.run([machine.tool('nm'), '-D', '--defined-only', str(library / 'libamphorust.so')],
                                capture_output=True, text=True).stdout.split()[2::3]
         self.equal('what the shared library exports', names, ['amphorust_check', 'amphorust_judge',
-                                                                  'amphorust_judge_queue', 'amphorust_verdict'])
+                                                                  'amphorust_judge_queue', 'amphorust_read', 'amphorust_verdict'])
         ran = subprocess.run([os.path.join(judges.ROOT, 'install')], capture_output=True, text=True)
         self.equal('./install', (ran.stdout, ran.stderr, ran.returncode), ('', 'usage: ./install PREFIX\n', 2))
+
+    def bundle(self, record):
+        """The bundle of an example record with the passage's rules."""
+        return subprocess.run([self.runs.command, 'bundle', 'passage.schema.json', record], cwd=EXAMPLES,
+                              stdout=subprocess.PIPE, stderr=subprocess.DEVNULL).stdout
 
     def built(self, source, *with_library):
         """The path of an example in C, built with what is installed."""

@@ -27,7 +27,7 @@ class Inputs:
         self.write('s.json', {'type': 'object', 'maxProperties': 1})
         text = b'{}\r\n\n{"a":1,"b":2}\n  \n[\n{"a":1}'
         told = ('%s:1: valid\n%s:3: invalid: has 2 members, must have at most 1 (#/maxProperties)\n%s:6: valid\n',
-                '%s:5: column 2: not JSON: expecting value\n')
+                '%s:5: column 2: not JSON: it ends too early\n')
         for name in ('q.jsonl', 'q.ndjson'):
             self.write(name, text)
             self.equal(name, self.run('check', 's.json', name), (told[0].replace('%s', name), told[1] % name, 2))
@@ -40,10 +40,10 @@ class Inputs:
         units = [json.loads(line) for line in out.splitlines()]
         self.equal('--json of lines', ([(unit['file'], unit['line'], unit.get('valid')) for unit in units], err, status),
                    ([('q.jsonl', 1, True), ('q.jsonl', 3, False), ('q.jsonl', 5, None), ('q.jsonl', 6, True)], '', 2))
-        self.write('q.jsonl', '[]\n' + '[' * 100_000 + '\n{}\n')
-        self.equal('nested deeply, after a cause was told', self.run('check', 's.json', 'q.jsonl'), (
-            'q.jsonl:1: invalid: is [], must be object (#/type)\nq.jsonl:3: valid\n',
-            'q.jsonl:2: nested too deeply to be read: a record has at most 32 levels\n', 2))
+        self.write('q.jsonl', '[]\n' + '[' * 60_000 + '\n' + ' ' * 100_000 + '1\n{}\n')
+        self.equal('nested deeply, and a long line', self.run('check', 's.json', 'q.jsonl'), (
+            'q.jsonl:1: invalid: is [], must be object (#/type)\nq.jsonl:4: valid\n',
+            'q.jsonl:2: column 60001: not JSON: it ends too early\nq.jsonl:3: refused (20): more than 65536 bytes of JSON\n', 2))
         self.equal('no lines', self.run('check', 's.json', self.write('e.jsonl', '\n')), ('', '', 0))
 
     def many_lines(self):
@@ -64,10 +64,10 @@ class Inputs:
         sorts = (lambda i: ('{"bib":%d}' % i, 'valid') if i <= 700 else
                            ('{"bib":%d}' % i, 'invalid: /bib: is %d, must be at most 700 (#/properties/bib/maximum)' % i),
                  lambda i: ('{"bib":"%d"}' % i, 'invalid: /bib: is "%d", must be integer (#/properties/bib/type)' % i),
-                 lambda i: ('[' * 33 + ']' * 33, '/0' * 32 + ': refused (4): more than 32 levels deep'),
-                 lambda i: ('[%d' % i, "column %d: not JSON: expecting ',' delimiter" % (2 + len(str(i)))),
-                 lambda i: ('{"a":%de9}' % (i + 1), '/a: the number %de9 is out of range: at most 9 digits, and 9 places '
-                            'after the point' % (i + 1)))
+                 lambda i: ('[' * 33 + ']' * 33, 'column 33: refused (24): more than 32 levels deep'),
+                 lambda i: ('[%d' % i, 'column %d: not JSON: it ends too early' % (2 + len(str(i)))),
+                 lambda i: ('{"a":%de9}' % (i + 1), 'column 6: refused (23): the number %de9 is out of range: at most 9 '
+                            'digits, and 9 places after the point' % (i + 1)))
         rng = random.Random(3)
         made = [rng.choice(sorts)(i) if i not in (0, 511, 512, 1023, 1024) else sorts[0](i) for i in range(1300)]
         self.write('q.jsonl', ''.join(line + '\n' for line, _ in made))
@@ -175,10 +175,10 @@ class Inputs:
             huge.truncate(1 << 30)
         os.link(self.runs.files / 'huge.json', self.runs.files / 'huge.jsonl')
         start = time.monotonic()
-        too_long = ': more than 4194304 bytes of JSON\n'
+        too_long = ': refused (20): more than 65536 bytes of JSON\n'
         self.equal('a record', self.run('check', 's.json', 'huge.json'), ('', 'huge.json' + too_long, 2))
         self.equal('a line', self.run('check', 's.json', 'huge.jsonl'), ('', 'huge.jsonl:1' + too_long, 2))
-        self.equal('a schema', self.run('check', 'huge.json'), ('', 'huge.json' + too_long, 2))
+        self.equal('a schema', self.run('check', 'huge.json'), ('', 'huge.json: more than 4194304 bytes of JSON\n', 2))
         self.equal('a device', self.run('check', 's.json', '/dev/zero'), ('', '/dev/zero' + too_long, 2))
         self.equal('the time', time.monotonic() - start < 20, True)
 
@@ -220,13 +220,6 @@ class Inputs:
         self.equal('names twice', self.run('check', 's.json'), (
             '', 's.json: #/a: two members of this name\ns.json: #/a/b: two members of this name\n'
             's.json: #/a/c: two members of this name\ns.json: #/d: a lone surrogate, which UTF-8 cannot hold\n', 2))
-        self.write('s.json', True)
-        self.write('r.json', '[1e10, {"a": 1e-10}, 1e11]')
-        line = 'r.json: %s: the number %s is out of range: at most 9 digits, and 9 places after the point'
-        self.equal('a record with several faults', self.run('check', 's.json', 'r.json'),
-                   ('', line % ('/0', '1e10') + ', and 2 more\n', 2))
-        self.equal('all faults of a record', self.run('check', '-v', 's.json', 'r.json'), (
-            '', ''.join(line % one + '\n' for one in (('/0', '1e10'), ('/2', '1e11'), ('/1/a', '1e-10'))), 2))
 
     def slips(self):
         """Unknown keywords that are nearly known ones, and format, are warned of; --strict makes them errors."""

@@ -23,7 +23,7 @@ SUITE, REMOTES, SERVER = HOME / 'tests/draft2020-12', HOME / 'remotes/draft2020-
 # A case is left out by the first of these that the command's error matches; a keyword is told by its own name.
 REASONS = (
     (r'the judge has no (.*)', None),
-    (r'the number .* is out of range.*', 'numbers of more than nine digits'),
+    (r'(?:refused \(23\): )?the number .* is out of range.*', 'numbers of more than nine digits'),
     (r'refers to no document that is given.*', '$ref to another document'),
     (r'only Draft 2020-12 is read.*', '$schema of another dialect'),
 )

@@ -119,7 +119,7 @@ def tell(teller, judge, rules, one, answer):
     try:
         if one.fault is not None:
             raise one.fault
-        refusals.refuse_record(answer, one.record)
+        refusals.refuse_record(answer)
         if answer.word == 'valid':
             teller.valid(one.source)
             return ALL_VALID
@@ -133,9 +133,9 @@ def tell(teller, judge, rules, one, answer):
 
 def tell_causes(teller, judge, rules, one):
     """Judges the record by itself: a queue leaves the cells of its last record only."""
-    cells = judge.judge(one.record.sheet).cells
+    cells = judge.judge(one.sheet).cells
     with explain.deep_calls():
-        causes = explain.causes_of(one.record, rules, cells, teller.most_causes())
+        causes = explain.causes_of(record_of(one.sheet), rules, cells, teller.most_causes())
         teller.invalid(one.source, causes, rules.references)
 
 
@@ -143,8 +143,11 @@ def bundle(options):
     teller, (file, record_file) = telling.Teller(options), options.files
     try:
         rules = read_rules(file, options, teller)
+        building.make_ready(teller.say, teller.say_for_now)
         file = record_file
-        written = sheets.bundle(record_of(inputs.read_document(file)).sheet, rules.sheet)
+        record, = queues.read(library.opened(), [inputs.record_in(file)])
+        refuse_if_any([record.fault] if record.fault else [])
+        written = sheets.bundle(record.sheet, rules.sheet)
         if len(written) > sheets.BUNDLE_MAX:
             raise CannotJudge('with its schema %d bytes of sheets, and the bench program reads at most %d'
                               % (len(written), sheets.BUNDLE_MAX))

@@ -6,13 +6,16 @@ from collections import namedtuple
 from contextlib import contextmanager
 
 from tools.fault import CannotJudge
-from tools.reading import BYTES_MAX, read_json, read_some, too_long
+from tools.library import JSON_MAX
+from tools.reading import BYTES_MAX, read_json, read_some, without_mark
 
 LINES = ('.jsonl', '.ndjson')       # names of files that hold a record on each line
 NAMES = ('.json',) + LINES          # names of files that a folder is searched for
 PIECE = 1 << 16                     # bytes that are read at once
+MOST = JSON_MAX + 4                 # bytes of a file that is one record, with a mark and one too many
 
-# data: the bytes of a record, or a CannotJudge; line: its line's number, in a file of lines.
+# data: the JSON text of a record, as far as JSON_MAX + 1 bytes, or a CannotJudge; line: its line's number, in a file of
+# lines.
 Source = namedtuple('Source', 'file data line', defaults=(None,))
 WAIT = None                         # in place of a source: the next one may be long in coming
 
@@ -23,17 +26,17 @@ def read_document(file):
         return read_json(read_some(data))
 
 
-def record_in(source):
-    """The JSON value of a source."""
-    if isinstance(source.data, CannotJudge):
-        raise source.data
+def record_in(file):
+    """The source that a file is as a whole."""
     try:
-        return read_json(source.data)
+        with opened(file) as data:
+            return source_of(file, data.read(MOST))
     except CannotJudge as fault:
-        for one in fault.faults:
-            if source.line and one.place.startswith('line 1, '):
-                one.place = one.place[len('line 1, '):]
-        raise
+        return Source(file, fault)
+
+
+def source_of(file, data, line=None):
+    return Source(file, without_mark(data)[:JSON_MAX + 1], line)
 
 
 def sources(files, by_lines, but):
@@ -64,12 +67,12 @@ def in_file(file, by_lines):
     """One source, or one for each line that is not blank."""
     if not os.path.isfile(file):
         yield WAIT
+    if not by_lines and not file.endswith(LINES):
+        yield record_in(file)
+        return
     try:
         with opened(file) as data:
-            if by_lines or file.endswith(LINES):
-                yield from lines_in(file, data)
-            else:
-                yield Source(file, read_some(data))
+            yield from lines_in(file, data)
     except CannotJudge as fault:
         yield Source(file, fault)
 
@@ -83,11 +86,10 @@ def lines_in(file, data):
         *lines, rest = (rest + piece).split(b'\n')
         for line in lines + [rest] * (len(rest) > BYTES_MAX or not piece):
             number += 1
-            if len(line) > BYTES_MAX:
-                yield Source(file, too_long(), number)
-                return              # where such a line ends nobody knows
             if line.strip():
-                yield Source(file, line.rstrip(b'\r'), number)
+                yield source_of(file, line.rstrip(b'\r'), number)
+        if len(rest) > BYTES_MAX:
+            return                  # where such a line ends nobody knows
 
 
 def pieces_in(data):

@@ -1,7 +1,8 @@
 """The calls of the proved library, and the only module that knows them: loaded into this process by ctypes, or, on a
 machine that cannot load it, made by a worker process. Both give the same answers.
 
-A judge is asked about rules once, and then about any number of records, in queues or one by one.
+A judge is asked about rules once, and then about any number of records, in queues or one by one; records are read by
+the library too.
 """
 import ctypes
 import struct
@@ -15,10 +16,12 @@ from tools.fault import CannotJudge
 ROWS_MAX, SCHEMAS_MAX, CLAUSES_MAX, ENTRIES_MAX, TEXT_MAX = 1024, 1024, 4096, 4096, 65_535
 ROOM_MAX = ROWS_MAX * SCHEMAS_MAX
 QUEUE_MAX = 512         # records
+JSON_MAX = 65_536       # bytes of a JSON text
+WORDS_MAX = 6 * ROWS_MAX + 4            # of a record
 CELL_HELD, CELL_FAILED, CELL_MARKED = 1, 2, 4
 
-# word: 'valid' (of rules: in order), 'invalid' or 'refused', then with number and place; cells only of the invalid that
-# were judged in whole.
+# word: 'valid' (of rules and of a text that is read: in order), 'invalid' or 'refused', then with number and place; cells
+# only of the invalid that were judged in whole.
 Answer = namedtuple('Answer', 'word number place cells', defaults=(None, None, None))
 
 
@@ -67,10 +70,12 @@ class Loaded:
         except OSError as fault:
             raise CannotJudge('cannot be loaded: %s' % fault, file=building.named(building.LIBRARY))
         sheet = [ctypes.c_void_p, ctypes.c_size_t] * 2
+        self.call('amphorust_read', sheet[:2] * 3)
         self.call('amphorust_check', sheet)
         self.call('amphorust_judge', sheet * 3)
         self.call('amphorust_verdict', sheet * 2 + sheet[:2])
         self.call('amphorust_judge_queue', sheet * 4)
+        self.words, self.text = (ctypes.c_uint32 * WORDS_MAX)(), (ctypes.c_uint8 * TEXT_MAX)()
         self.cells, self.list = (ctypes.c_uint8 * ROOM_MAX)(), (ctypes.c_uint32 * ROOM_MAX)()
         self.schemas, self.rules = 0, ()
 
@@ -81,6 +86,18 @@ class Loaded:
             raise CannotJudge('has no %s: build it again, by ./amphorust build' % name,
                               file=building.named(building.LIBRARY))
         function.argtypes, function.restype = arguments, ctypes.c_uint64
+
+    def read(self, texts):
+        """Of each JSON text its record sheet, or the answer that refuses it."""
+        return [self.read_one(text) for text in texts]
+
+    def read_one(self, text):
+        number = self.library.amphorust_read(text, len(text), self.words, WORDS_MAX, self.text, TEXT_MAX)
+        answer = answer_in(number, None)
+        if answer.word == 'refused':
+            return answer
+        words = ctypes.string_at(self.words, sheets.record_size(number // 256))
+        return sheets.Sheet(words, ctypes.string_at(self.text, sheets.text_size(words)))
 
     def check(self, rules):
         """The answer on rules, by which records are judged from now on."""
@@ -115,7 +132,7 @@ def lent(sheet):
 class Worker:
     """The library in a process of its own: tools/worker.c says what is written and read."""
 
-    RULES, RECORD, VERDICT, QUEUE = 1, 2, 3, 4
+    RULES, RECORD, VERDICT, QUEUE, TEXTS = 1, 2, 3, 4, 5
 
     def __init__(self):
         try:
@@ -125,13 +142,25 @@ class Worker:
             raise CannotJudge('does not run: %s' % fault.strerror.lower(), file=building.named(building.WORKER))
         self.schemas = 0
 
+    def read(self, texts):
+        self.write(request(self.TEXTS, sheets.Sheet(sheets.to_bytes(map(len, texts)), b''.join(texts))))
+        return [self.read_one() for _ in texts]
+
+    def read_one(self):
+        number, = self.numbers(1)
+        answer = answer_in(number, None)
+        if answer.word == 'refused':
+            return answer
+        words = self.read_bytes(sheets.record_size(number // 256))
+        return sheets.Sheet(words, self.read_bytes(sheets.text_size(words)))
+
     def check(self, rules):
         self.schemas = sheets.schemas(rules)
         return answer_in(self.asked(self.RULES, rules), None)
 
     def judge(self, record):
         number = self.asked(self.RECORD, record)
-        return answer_in(number, lambda: self.read(sheets.rows(record) * self.schemas))
+        return answer_in(number, lambda: self.read_bytes(sheets.rows(record) * self.schemas))
 
     def judge_queue(self, records):
         number = self.asked(self.QUEUE, *queued(records))
@@ -154,9 +183,9 @@ class Worker:
             raise self.gone()
 
     def numbers(self, count):
-        return struct.unpack('<%dQ' % count, self.read(8 * count))
+        return struct.unpack('<%dQ' % count, self.read_bytes(8 * count))
 
-    def read(self, count):
+    def read_bytes(self, count):
         data = self.process.stdout.read(count)
         if len(data) < count:
             raise self.gone()

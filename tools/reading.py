@@ -1,4 +1,5 @@
-"""JSON text, read exactly: numbers as written, no repeated member names, nothing that UTF-8 cannot hold.
+"""The JSON text of a schema, read exactly: numbers as written, no repeated member names, nothing that UTF-8 cannot hold.
+Records are read by the library.
 
 A value is None, True, False, a Number, a str, a list or an Object.
 """
@@ -8,7 +9,7 @@ from collections import deque
 
 from tools.fault import CannotJudge, pointer, refuse_if_any
 
-BYTES_MAX = 4 << 20     # of a JSON text: one that the judge takes is shorter, unless it is mostly blanks
+BYTES_MAX = 4 << 20     # of a schema document: one that the judge takes is shorter, unless it is mostly blanks
 MARK_OF_UTF8 = b'\xef\xbb\xbf'
 STRING_OR_CONSTANT = re.compile(r'"(?:[^"\\]|\\.)*"|NaN|-?Infinity', re.DOTALL)
 
@@ -77,17 +78,18 @@ def read_some(file):
     """The bytes of an open file, refused as soon as they are too many."""
     data = file.read(BYTES_MAX + 1)
     if len(data) > BYTES_MAX:
-        raise too_long()
+        raise CannotJudge('more than %d bytes of JSON' % BYTES_MAX)
     return data
 
 
-def too_long():
-    return CannotJudge('more than %d bytes of JSON' % BYTES_MAX)
+def without_mark(data):
+    """The bytes without the mark that some programs put before UTF-8."""
+    return data[len(MARK_OF_UTF8):] if data.startswith(MARK_OF_UTF8) else data
 
 
 def read_json(data):
     """The value that the bytes are the JSON text of."""
-    text = decoded(data[len(MARK_OF_UTF8):] if data.startswith(MARK_OF_UTF8) else data)
+    text = decoded(without_mark(data))
     try:
         value = json.loads(text, parse_int=Number, parse_float=Number, parse_constant=no_value,
                            object_pairs_hook=Object)
@@ -97,7 +99,7 @@ def read_json(data):
     except ConstantFound as fault:
         raise not_json('%s is no JSON value' % fault, *line_and_column(text, constant_at(text)))
     except RecursionError:
-        raise CannotJudge('nested too deeply to be read: a record has at most 32 levels')
+        raise CannotJudge('nested too deeply to be read')
     refuse_names_and_strings(value)
     return value
 

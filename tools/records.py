@@ -1,58 +1,42 @@
-"""A JSON value as a record sheet: a row for each value, children after their owner and side by side."""
+"""A record sheet as JSON values, by its rows: what a cause is told by."""
+import struct
 from collections import namedtuple
+from fractions import Fraction
 
-from tools import library, sheets
-from tools.fault import CannotJudge, pointer, refuse_if_any
+from tools import sheets
+from tools.reading import Number
+from tools.words import number
 
 # Row j is rows[j]; values[j] is the JSON value and places[j] the tokens of its pointer.
-Record = namedtuple('Record', 'sheet rows values places')
-Node = namedtuple('Node', 'value owner label tokens')
+Record = namedtuple('Record', 'rows values places')
+SIMPLE = {sheets.NULL: None, sheets.FALSE: False, sheets.TRUE: True}
 
 
-def record_of(value):
-    values = values_in(value)
-    if values > library.ROWS_MAX:
-        raise CannotJudge('%d values, and the judge takes at most %d' % (values, library.ROWS_MAX))
-    text, faults = sheets.Text(), []
-    nodes, rows = [Node(value, 0, (0, 0), ())], []
-    for j, node in enumerate(nodes):        # nodes grows by the children of each
-        children = children_of(node, j, text)
-        row = fields(node, children, len(nodes), text)
-        if row is None:
-            faults.append(CannotJudge(node.value.out_of_range(), pointer(node.tokens)))
-        else:
-            rows.append(row + (node.owner,) + node.label)
-        nodes.extend(children)
-    refuse_if_any(faults)
-    if len(text.bytes) > library.TEXT_MAX:
-        raise CannotJudge('%d bytes of names and strings, and the judge takes at most %d'
-                          % (len(text.bytes), library.TEXT_MAX))
-    values, places = [node.value for node in nodes], [node.tokens for node in nodes]
-    return Record(sheets.record_sheet(rows, text), rows, values, places)
+def record_of(sheet):
+    rows = list(struct.iter_unpack('<6I', sheet.words[:-16]))
+    names = [text_at(sheet, *row[4:]) for row in rows]
+    values = [None] * len(rows)
+    for j in reversed(range(len(rows))):            # children stand after their owner
+        values[j] = value_of(sheet, rows[j], names, values)
+    places = [()]
+    for j, row in enumerate(rows[1:], 1):
+        kind, first = rows[row[3]][:2]
+        places.append(places[row[3]] + (names[j] if kind == sheets.OBJECT else str(j - first),))
+    return Record(rows, values, places)
 
 
-def values_in(value):
-    """How many values there are, itself and all below it."""
-    count, waiting = 1, [value]
-    while waiting:
-        value = waiting.pop()
-        if isinstance(value, (list, dict)):
-            count += len(value)
-            waiting.extend(value.values() if isinstance(value, dict) else value)
-    return count
+def value_of(sheet, row, names, values):
+    """The value of a row, those of its children being known."""
+    kind, first, count = row[:3]
+    if kind == sheets.NUMBER:
+        return Number(number(Fraction(first - (first >> 31 << 32), 10 ** count)))
+    if kind == sheets.STRING:
+        return text_at(sheet, first, count)
+    children = range(first, first + count)
+    if kind == sheets.ARRAY:
+        return [values[k] for k in children]
+    return {names[k]: values[k] for k in children} if kind == sheets.OBJECT else SIMPLE[kind]
 
 
-def children_of(node, j, text):
-    if isinstance(node.value, list):
-        return [Node(item, j, (0, 0), node.tokens + (str(place),)) for place, item in enumerate(node.value)]
-    if isinstance(node.value, dict):
-        return [Node(member, j, text.place(name), node.tokens + (name,)) for name, member in node.value.items()]
-    return []
-
-
-def fields(node, children, next_row, text):
-    """Kind, first and count of the row, its children to be the next rows; None for a number out of range."""
-    if isinstance(node.value, (list, dict)):
-        kind = sheets.ARRAY if isinstance(node.value, list) else sheets.OBJECT
-        return kind, next_row if children else 0, len(children)
-    return sheets.leaf(node.value, text)
+def text_at(sheet, start, length):
+    return sheet.text[start:start + length].decode('utf-8')

@@ -1,13 +1,20 @@
-"""What the judge refuses, in words, with the place in the user's file."""
-from tools.fault import CannotJudge, fault_at, pointer
-from tools.keywords import UNGUARDED
+"""What the library refuses, in words, with the place in the user's file."""
+import re
 
-RECORD_WORDS = {
-    1: "the record sheet's trailer is wrong",
-    2: 'a row breaks the layout of a record sheet',
-    3: 'a second member of this name',
-    4: 'more than 32 levels deep',
-    13: 'a name or a string here is not UTF-8',
+from tools.fault import CannotJudge, fault_at
+from tools.keywords import UNGUARDED
+from tools.library import JSON_MAX, ROWS_MAX
+from tools.reading import Number, line_and_column
+from tools.words import cut
+
+REFUSED = 'refused (%d): %s'
+TOO_LONG, NOT_JSON = 20, 21
+NUMBER, STRING = re.compile(rb'[-+.0-9eE]+'), re.compile(rb'"(?:[^"\\]|\\.)*"')
+TEXT_WORDS = {
+    20: 'more than %d bytes of JSON' % JSON_MAX,
+    22: 'more than %d values' % ROWS_MAX,
+    24: 'more than 32 levels deep',
+    26: 'a lone surrogate, which UTF-8 cannot hold',
 }
 RULE_WORDS = {
     5: "the rule sheet's trailer is wrong",
@@ -19,10 +26,38 @@ RULE_WORDS = {
 }
 
 
-def refuse_record(answer, record):
-    """Says why there is no verdict on a record, if there is none."""
+def text_fault(answer, text, is_line):
+    """Why a JSON text is no record: in words, with line and column, of a line the column."""
+    before = text[:answer.place].decode('utf-8', 'ignore')         # may end within a character
+    line, column = line_and_column(before, len(before))
+    place = 'column %d' % column if is_line else 'line %d, column %d' % (line, column)
+    if answer.number == NOT_JSON:
+        return CannotJudge('not JSON: ' + byte_words(text, answer.place), place)
+    words = {23: number_words, 25: name_words}.get(answer.number, lambda rest: TEXT_WORDS[answer.number])
+    return CannotJudge(REFUSED % (answer.number, words(text[answer.place:])), place if answer.number != TOO_LONG else '')
+
+
+def byte_words(text, at):
+    """What stands where no JSON text goes on."""
+    if at == len(text):
+        return 'it ends too early'
+    if text[at] in b'\r\n':
+        return 'the line ends too early'
+    return '%s cannot stand here' % (repr(chr(text[at])) if 0x20 < text[at] < 0x7F else 'byte 0x%02x' % text[at])
+
+
+def number_words(rest):
+    return Number(NUMBER.match(rest)[0].decode('ascii')).out_of_range()
+
+
+def name_words(rest):
+    return 'a second member named %s' % cut(STRING.match(rest)[0].decode('utf-8'))
+
+
+def refuse_record(answer):
+    """Says that there is no verdict on a record, if there is none: what was read is not refused."""
     if answer.word == 'refused':
-        raise CannotJudge(words_of(answer, RECORD_WORDS), pointer(record.places[answer.place]))
+        raise CannotJudge(REFUSED % (answer.number, 'at place %d' % answer.place))
 
 
 def refuse_rules(answer, rules):
@@ -32,7 +67,7 @@ def refuse_rules(answer, rules):
 
 
 def words_of(answer, words):
-    return 'refused (%d): %s' % (answer.number, words.get(answer.number, 'at place %d' % answer.place))
+    return REFUSED % (answer.number, words.get(answer.number, 'at place %d' % answer.place))
 
 
 def rule_place(answer, rules):

@@ -35,10 +35,6 @@ def leaf(value, text):
     return scaled and (NUMBER,) + scaled
 
 
-def record_sheet(rows, text):
-    return sheet(flat(rows) + [len(rows), 6 * len(rows), len(text.bytes), 1], text)
-
-
 def rule_sheet(schemas, clauses, entries, text):
     words = flat(schemas) + flat(clauses) + flat(entries)
     return sheet(words + [len(schemas), len(clauses), len(entries), len(words), len(text.bytes), 2], text)
@@ -53,6 +49,16 @@ def rows(record):
     return struct.unpack_from('<I', record.words, len(record.words) - 16)[0]
 
 
+def record_size(count):
+    """Bytes of the words of a record sheet with so many rows."""
+    return 4 * (6 * count + 4)
+
+
+def text_size(words):
+    """Bytes of the text of a record sheet, by its words."""
+    return struct.unpack_from('<I', words, len(words) - 8)[0]
+
+
 def schemas(rules):
     """How many schemas a rule sheet has."""
     return struct.unpack_from('<I', rules.words, len(rules.words) - 24)[0]
@@ -63,7 +69,8 @@ def flat(lines):
 
 
 def to_bytes(words):
-    return struct.pack('<%dI' % len(words), *[word % 2 ** 32 for word in words])
+    words = [word % 2 ** 32 for word in words]
+    return struct.pack('<%dI' % len(words), *words)
 
 
 def bundle(record, rules):

@@ -7,6 +7,8 @@
  *     2  a record: the answer is that of amphorust_judge by the rules kept, and for an invalid record the cells follow
  *     3  a record: the answer is that of amphorust_verdict by the rules kept
  *     4  a queue: the answer is that of amphorust_judge_queue by the rules kept, and the records' answers follow
+ *     5  JSON texts, one after the other in the text, their lengths in the words: the answers are those of
+ *        amphorust_read, and each that is no refusal is followed by the record's words and its text
  * Only a queue has a listing.
  * The end of the input ends it, with 0; anything that is no request, with 1. */
 #include "amphorust.h"
@@ -15,8 +17,8 @@
 extern long read(int file, void *to, size_t count);
 extern long write(int file, const void *from, size_t count);
 
-#define WORDS_MAX (1 << 19) /* of a queue: tools/queues.py ends one with the record that brings it to 1 MiB */
-#define TEXT_MAX (1 << 21)
+#define WORDS_MAX (AMPHORUST_QUEUE_MAX * AMPHORUST_WORDS_MAX)
+#define TEXT_MAX (1 << 21) /* of a queue: tools/queues.py ends one with the text that brings it to 1 MiB */
 
 struct sheet {
     uint32_t words[WORDS_MAX];
@@ -24,7 +26,9 @@ struct sheet {
     size_t words_length, text_length;
 };
 
-static struct sheet rules, record; /* or a queue's records */
+static struct sheet rules, record; /* or a queue's records, or JSON texts */
+static uint32_t read_words[AMPHORUST_WORDS_MAX];
+static uint8_t read_text[AMPHORUST_TEXT_MAX];
 static uint32_t listing[4 * AMPHORUST_QUEUE_MAX];
 static uint64_t answers[AMPHORUST_QUEUE_MAX];
 static uint8_t cells[AMPHORUST_ROOM_MAX];
@@ -104,6 +108,26 @@ static int answer_queue(const uint32_t *request)
     return give(&answer, sizeof answer) && give(answers, amphorust_answered(answer) * sizeof answers[0]);
 }
 
+static int answer_text(const uint8_t *json, size_t length)
+{
+    uint64_t answer = amphorust_read(json, length, read_words, AMPHORUST_WORDS_MAX, read_text, AMPHORUST_TEXT_MAX);
+    return give(&answer, sizeof answer) && give(read_words, amphorust_words_read(answer) * sizeof read_words[0])
+           && give(read_text, amphorust_text_read(answer, read_words));
+}
+
+static int answer_texts(const uint32_t *request)
+{
+    if (!take_sheet(&record, request))
+        return 0;
+    size_t at = 0;
+    for (size_t i = 0; i < record.words_length; i++) {
+        if (record.words[i] > record.text_length - at || !answer_text(record.text + at, record.words[i]))
+            return 0;
+        at += record.words[i];
+    }
+    return 1;
+}
+
 static int answered(const uint32_t *request)
 {
     switch (request[0]) {
@@ -115,6 +139,8 @@ static int answered(const uint32_t *request)
         return answer_verdict(request);
     case 4:
         return answer_queue(request);
+    case 5:
+        return answer_texts(request);
     default:
         return 0;
     }

@@ -32,7 +32,7 @@ small-cond : (b : Bool) (o p : Outcome) → Small o → Small p → Small (cond 
 small-cond true o p s t = s
 small-cond false o p s t = t
 
-small-refused : (number place : ℕ) → number < 246 → Small (refused number place)
+pub small-refused : (number place : ℕ) → number < 246 → Small (refused number place)
 small-refused number place h n p e = let same : number ≡ n = cc in omega arith
 
 abbrev pub small-line : Line → Bool

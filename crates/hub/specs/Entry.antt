@@ -1,5 +1,5 @@
--- The promises to C (paper 01, "What the judge does"; paper 02, #103, #105 and #107): one 64-bit number for the specification's answer, by one definition for every call
--- (`numberForC`), and of judging the specification's areas (`Called` in crate `number`, and here of a queue); and what they come to.
+-- The promises to C (paper 01, "What the judge does"; paper 02, #101, #103, #105 and #107): one 64-bit number for the specification's answer, by one definition for every
+-- call (`numberForC`), and of judging and reading the specification's areas (`Called` in crate `number`, and here of a queue and of a text); and what they come to.
 -- Assumes nothing.
 use mathlib.Core.List.{List, [], _∷_, _++_}
 use mathlib.Core.Path.{_≡_}
@@ -14,6 +14,8 @@ use Rattle.meaning.specs.Demands.{Demands}
 use Rattle.number.specs.Called.{outcomeAnswer}
 use Rattle.queue.specs.Listing.{recordsIn, wordsAt, textAt, queueOutcome}
 use Rattle.queue.specs.Queue.{judgeQueue}
+use Rattle.reader.specs.Call.{Reads}
+use Rattle.reader.specs.Made.{Made}
 
 -- ---- a queue
 
@@ -23,6 +25,14 @@ pub record QueueCalled (ws bs listing rs us cells₀ list₀ answers₀ cells li
   pub cells-are : cells ≡ judgeQueue ws bs listing rs us cells₀ list₀ answers₀ .cells
   pub list-is : list ≡ judgeQueue ws bs listing rs us cells₀ list₀ answers₀ .list
   pub answers-are : answers ≡ judgeQueue ws bs listing rs us cells₀ list₀ answers₀ .answers
+
+-- ---- reading
+
+-- the number is that of what reading gives, and both areas are as it leaves them; there is one such outcome (`read-one` in `proofs/Readings.antt`)
+pub record ReadCalled (json words₀ text₀ words text : List ℕ) (r : ℕ) : Type 0 where
+  pub outcome : Outcome
+  pub reads : Reads json words₀ text₀ (record { outcome = outcome; words = words; room = text })
+  pub number-is : r ≡ numberForC (outcomeAnswer outcome)
 
 -- ---- what the number tells
 
@@ -54,3 +64,10 @@ pub record QueueDemands (ws bs listing rs us cells₀ list₀ answers₀ cells l
       → (length numbers ≡ recordsIn listing) × (answers ≡ numbers ++ drop (recordsIn listing) answers₀)
   pub each : queueOutcome (length ws) (length bs) (length answers₀) listing ≡ accepted (recordsIn listing)
       → EachMeets ws bs listing rs us (range 0 (recordsIn listing)) cells₀ list₀ numbers cells list
+
+-- the number tells what reading gives; a refused text leaves the areas as they were, any other a sheet that passes the record check and means the text's value
+pub record ReadDemands (json words₀ text₀ words text : List ℕ) (r : ℕ) : Type 0 where
+  pub outcome : Outcome
+  pub tells : Tells r (outcomeAnswer outcome)
+  pub refused-same : (number place : ℕ) → outcome ≡ refused number place → (words ≡ words₀) × (text ≡ text₀)
+  pub made : (n : ℕ) → outcome ≡ accepted n → Made json words₀ text₀ (record { outcome = outcome; words = words; room = text }) n

@@ -1,5 +1,5 @@
-// The entries for the hub's host program, which is written in C: checking a sheet, judging a record,
-// only the verdict, and judging a queue, each answer as one number.
+// The entries for the hub's host program, which is written in C: reading JSON, checking a sheet,
+// judging a record, only the verdict, and judging a queue, each answer as one number.
 //
 // `include/amphorust.h` says the same to a C programmer. The contracts cite `specs/Entry.antt`.
 ghost use mathlib.Core.List.{[]};
@@ -10,13 +10,26 @@ ghost use Rattle.meaning.specs.Rules.{whole, cut};
 ghost use Rattle.meaning.specs.Answer.{numberForC};
 ghost use Rattle.number.specs.Called.{Called, outcomeAnswer};
 ghost use Rattle.queue.specs.Listing.{queuedOutcome};
-ghost use Rattle.hub.specs.Entry.{QueueCalled};
+ghost use Rattle.laying.specs.Laying.{outcomeOf as readOutcome};
+ghost use Rattle.hub.specs.Entry.{QueueCalled, ReadCalled};
+use laying::Answer;
 use number::number_of;
 use number::number_of_count;
 use number::number_of_refusal;
 use queue::Queued;
 use sheet::refusal::Checked;
 use sheetcheck::ByKind;
+
+// Reads JSON into a record sheet and its text, whatever the bytes and the areas. The number's lowest
+// byte is 0 for a text that is read, and 10 more than the refusal's number for refused; what stands
+// above it is the number of rows or, of a refusal, the place.
+#[no_mangle]
+pub extern "C" fn amphorust_read(json: &[u8], words: &mut [u32], text: &mut [u8]) -> u64
+    ensures { λ r. ⌜ ReadCalled (now (json .entry)) (now (words .entry)) (now (text .entry)) (now (words .exit)) (now (text .exit)) r ⌝ }
+{
+    let answer = reading::read(json, words, text);
+    number_of_read(answer)
+}
 
 // Checks a sheet, whatever the words and the text. The number's lowest byte is 0 for a sheet in
 // order, and 10 more than the refusal's number for refused; what stands above it is the number of
@@ -93,6 +106,16 @@ pub extern "C" fn amphorust_judge_queue<'a>(
         answers,
     );
     number_of_queued(queued)
+}
+
+// The number of what reading gives.
+fn number_of_read(answer: Answer) -> u64
+    ensures { λ r. ⌜ r ≡ numberForC (outcomeAnswer (readOutcome answer)) ⌝ }
+{
+    match answer {
+        Answer::Made(rows) => number_of_count(rows),
+        Answer::Refused(number, place) => number_of_refusal(number, place),
+    }
 }
 
 // The number of what the check of a known kind gives.
