@@ -1,8 +1,9 @@
 -- Where the first pass halts.
 --     come       the automaton died there, or goes on from there
---     whole      in a JSON text: what it has come to, told of the text as a whole
+--     whole      in a JSON text it halts at the end or behind a fault
+--     died, lives, last-number, last-other    what the functions ask
 -- Assumes nothing.
-use mathlib.Core.Bool.{true, false, _&&_}
+use mathlib.Core.Bool.{true, false, cond, _&&_}
 use mathlib.Core.List.{List, []}
 use mathlib.Core.Logic.{_≢_, _⊎_, inl, inr, ⊎-elim}
 use mathlib.Core.Option.{Option, none, some}
@@ -10,14 +11,23 @@ use mathlib.Core.Path.{_≡_, refl, sym, _∙_, ap, subst}
 use Prim.Native.Nat.{ℕ, zero, suc, _/_, _≤_, _<_}
 use native.Mathlib.Numerals.{add-one}
 use native.Mathlib.Omega.{arith}
+use borrow.Author.Tests.{eq-eqb}
+use lib.Dec.{eqb}
 use lib.ListN.{length, getD, drop}
 use lib.Seq.{drop-length}
 use Rattle.laws.proofs.Tests.{left}
 use Rattle.json.specs.Automaton.{Bracket, Place, State, at, step, start, run, ended, noneOpen, accepting, accepted, accepts}
 use Rattle.grammar.specs.Codes.{placeAt}
-use Rattle.brackets.specs.Brackets.{bracketsOf, brackets}
+use Rattle.brackets.specs.declared.Open.{Open}
+use Rattle.brackets.specs.Brackets.{bracketsOf, brackets, Fits}
 use Rattle.follow.specs.Following.{Followed}
+use Rattle.follow.proofs.Ends.{other-places}
 use Rattle.follow.proofs.Going.{Going, sets-out, on, breaks}
+use Rattle.breadth.proofs.Lists.{same-or-not}
+use Rattle.survey.proofs.Ranges.{ranged}
+use Rattle.survey.specs.declared.Watch.{Watch}
+use Rattle.survey.specs.Watching as Watching
+use Rattle.survey.specs.Watching.{moved}
 use Rattle.trail.specs.Trail.{Kept, Trail, begins, goes}
 use Rattle.trail.proofs.Ordered.{ordered}
 use Rattle.trail.proofs.Whole.{Stopped, at-fault, at-end}
@@ -58,7 +68,7 @@ module _ (json : List ℕ) (a₀ : Areas) (r : Halt) (a : Areas) where
   not-dead : {A : Type 0} → (f : Followed json 0 start (record { at = r .at; whole = false })) → accepts json ≡ true → A
   not-dead f y = absurd (let e : false ≡ true = f .whole-is ∙ y in let z : _≡_ {A = ℕ} 0 1 = cc in omega arith)
 
-  how-many : (bits d : ℕ) → length (bracketsOf bits d) ≡ d
+  pub how-many : (bits d : ℕ) → length (bracketsOf bits d) ≡ d
   unfolding bracketsOf
   how-many bits zero = refl
   how-many bits (suc d) = ap suc (how-many (bits / 2) d)
@@ -73,3 +83,54 @@ module _ (json : List ℕ) (a₀ : Areas) (r : Halt) (a : Areas) where
         stopped = at-fault (λ z. e (ap (λ w. w .fault) (sym (c .watch-is)) ∙ z)) (ap (λ n. n .on) (sym (c .names-are .numbers-are)) ∙ o);
       }
   whole (Scanning.deep c l) y = absurd (omega (arith, how-many (r .scan .opened .bits) (r .scan .opened .depth), ordered (c .trail) .depth))
+
+-- ---- the automaton behind the halt
+
+dead-low : {A : Type 0} (place : ℕ) → place ≡ 63 → place < 50 → A
+dead-low place e l = absurd (omega arith)
+
+pub died : {json : List ℕ} {i place : ℕ} {opened : Open} → Come json i place opened → place ≡ 63 → Followed json 0 start (record { at = i; whole = false })
+died (Refusing.breaks d f) e = f
+died {place = place} (Refusing.goes-on k f g) e = dead-low place e k
+
+pub record Lives (json : List ℕ) (i place : ℕ) (opened : Open) : Type 0 where
+  pub known : place < 50
+  pub fits : Fits opened
+  pub going : Going json 0 start i (at (placeAt place) (brackets opened))
+
+pub lives : {json : List ℕ} {i place : ℕ} {opened : Open} → Come json i place opened → (place ≡ 63 → ⊥) → Lives json i place opened
+lives (Refusing.breaks d f) e = absurd (e d)
+lives (Refusing.goes-on k f g) e = record { known = k; fits = f; going = g }
+
+-- ---- the end of the text
+
+false-is : {A : Type 0} → false ≡ true → A
+false-is e = absurd (let z : _≡_ {A = ℕ} 0 1 = cc in omega arith)
+
+-- in a number it ends
+pub last-number : (place k : ℕ) (w : Watch) → 16 ≤ place → place < 24 → w .fault ≡ 0 → (r : Watch) → r ≡ Watching.ended k w
+    → (w .fault ≢ 0) ⊎ (ended (placeAt place) ≡ true) → r ≡ cond (eqb (w .fault) 0) (moved (placeAt place) k 0x20 1 w) w
+last-number place k w low high calm r q h =
+    ⊎-elim
+    (λ (z : w .fault ≢ 0). absurd (z calm))
+    (λ (z : ended (placeAt place) ≡ true).
+    rw (eq-eqb (w .fault) 0 calm)
+    (q
+    ∙ sym
+    (ranged (λ p. ended p ≡ true → moved p k 0x20 1 w ≡ Watching.ended k w) 16 8 refl
+    ((λ e. false-is e), ((λ e. refl), ((λ e. refl), ((λ e. false-is e), ((λ e. refl), ((λ e. false-is e), ((λ e. false-is e), ((λ e. refl), tt)))))))) place low high z)))
+    h
+
+-- at another nothing is moved
+pub last-other : (place k : ℕ) (w : Watch) → place < 50 → (place ≡ 17 → ⊥) → (place ≡ 18 → ⊥) → (place ≡ 20 → ⊥) → (place ≡ 23 → ⊥) → w .fault ≡ 0
+    → (w .fault ≢ 0) ⊎ (ended (placeAt place) ≡ true) → w ≡ cond (eqb (w .fault) 0) (moved (placeAt place) k 0x20 1 w) w
+last-other place k w low a b c d calm h =
+    ⊎-elim
+    (λ (z : w .fault ≢ 0). absurd (z calm))
+    (λ (z : ended (placeAt place) ≡ true).
+    rw (eq-eqb (w .fault) 0 calm)
+    (⊎-elim
+    (λ (e : place ≡ 2). ap (λ (x : ℕ). moved (placeAt x) k 0x20 1 w) (sym e))
+    (λ (e : place ≡ 2 → ⊥). absurd (let f : false ≡ true = sym (other-places place low e a b c d) ∙ z in let y : _≡_ {A = ℕ} 0 1 = cc in omega arith))
+    (same-or-not place 2)))
+    h

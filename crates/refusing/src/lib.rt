@@ -30,7 +30,9 @@ pub struct Refusal {
     pub place: u32,
 }
 
-fn wide(x: u32) -> usize {
+fn wide(x: u32) -> usize
+    ensures { λ r. ⌜ r ≡ x ⌝ }
+{
     x as usize
 }
 
@@ -56,10 +58,13 @@ fn last_watch(place: u8, depth: u32, watch: Watch) -> Watch
     if watch.fault != 0 {
         return watch;
     }
-    match place {
-        17 | 18 | 20 | 23 => number_ends(depth, watch),
-        _ => watch,
+    if place < 16 {
+        return watch;
     }
+    if 23 < place {
+        return watch;
+    }
+    number_ends(depth, watch)
 }
 
 // The first name that an earlier one repeats, of those that lie in three words each, or else the

@@ -1,28 +1,41 @@
+-- `refusing::last_watch` meets its contract. Assumes nothing.
+use mathlib.Core.Path.{_≡_}
+use native.Mathlib.Omega.{arith}
+use borrow.Author.Tests.{ne-eqb}
+use Rattle.refusing.proofs.Halting.{last-number, last-other}
 use Rattle.refusing.proofs.last_watch.Statement.{statement}
 use Rattle.refusing.proofs.last_watch.Tie as tie
-use Rattle.refusing.proofs.last_watch.Reads as reads
-use Rattle.refusing.proofs.last_watch.Lts as lts
-use Rattle.survey.proofs.numbers.number_ends.Reads as number-ends-reads
 
--- src/lib.rt:57:9
 returns : tie.Need-returns
-returns c = ?
+returns c = λ h. rw (ne-eqb (c .before .before .args .watch .fault) 0 (c .if1 .taken))
 
--- src/lib.rt:60:30
-number-ends-requires : tie.Need-number-ends-requires
-number-ends-requires c κs = ?
-
--- src/lib.rt:52:1
 returns-2 : tie.Need-returns-2
-returns-2 c = ?
+returns-2 c =
+    let start = c .before .before .before in
+    let a = start .args in
+    let calm : a .watch .fault ≡ 0 = omega (arith, c .before .if1 .left) in
+    last-other (a .place) (a .depth) (a .watch) (start .pre .known) (λ e. omega arith) (λ e. omega arith) (λ e. omega arith) (λ e. omega arith) calm
 
--- src/lib.rt:52:1
 returns-3 : tie.Need-returns-3
-returns-3 c = ?
+returns-3 c =
+    let start = c .before .before .before .before in
+    let a = start .args in
+    let calm : a .watch .fault ≡ 0 = omega (arith, c .before .before .if1 .left) in
+    last-other (a .place) (a .depth) (a .watch) (start .pre .known) (λ e. omega arith) (λ e. omega arith) (λ e. omega arith) (λ e. omega arith) calm
 
--- src/lib.rt:52:1
+number-ends-requires : tie.Need-number-ends-requires
+number-ends-requires c κs =
+    let start = c .before .before .before .before in
+    let a = start .args in
+    let calm : a .watch .fault ≡ 0 = omega (arith, c .before .before .if1 .left) in
+    (start .pre .low calm, start .pre .sound .fair)
+
 returns-4 : tie.Need-returns-4
-returns-4 c = ?
+returns-4 c =
+    let start = c .before .before .before .before .before in
+    let a = start .args in
+    let calm : a .watch .fault ≡ 0 = omega (arith, c .before .before .before .if1 .left) in
+    last-number (a .place) (a .depth) (a .watch) (omega arith) (omega arith) calm (c .number-ends .result) (c .number-ends .ensures)
 
 pub last-watch-spec : {M : Type 1} → statement M
-last-watch-spec = tie.close (tie.spec returns number-ends-requires returns-2 returns-3 returns-4)
+last-watch-spec = tie.close (tie.spec returns returns-2 returns-3 number-ends-requires returns-4)
