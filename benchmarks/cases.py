@@ -7,7 +7,7 @@ their text are written word by word, as no JSON has them.
 import json
 from collections import namedtuple
 
-from tools import schemas, sheets
+from tools import keywords, schemas, sheets
 from tools.reading import read_json
 from tools.references import References
 
@@ -256,8 +256,8 @@ def overlapping_record(n):
 
 def overlapping_rules(n, clauses):
     """Schema 0 has the clauses, over n names that come in the other order than the record's; schema 1 allows all."""
-    entries = [(i, NAME_BYTES, 1 if clauses[0] == schemas.PROPERTIES else 0) for i in reversed(range(n))]
-    listed = [(code, 0, n) if code in (schemas.REQUIRED, schemas.PROPERTIES) else (code, 1, 0) for code in clauses]
+    entries = [(i, NAME_BYTES, 1 if clauses[0] == keywords.PROPERTIES else 0) for i in reversed(range(n))]
+    listed = [(code, 0, n) if code in (keywords.REQUIRED, keywords.PROPERTIES) else (code, 1, 0) for code in clauses]
     return sheets.rule_sheet([(0, len(clauses)), (len(clauses), 0)], listed, entries, overlapping())
 
 
@@ -278,9 +278,9 @@ def no_rules():
 
 def hostile():
     """(what has such names or strings, cases of OVERLAPS)."""
-    ways = [('the record alone', None), ('both: required', (schemas.REQUIRED,)),
-            ('both: properties', (schemas.PROPERTIES,)),
-            ('both: and additionalProperties', (schemas.PROPERTIES, schemas.SCHEMAS['additionalProperties']))]
+    ways = [('the record alone', None), ('both: required', (keywords.REQUIRED,)),
+            ('both: properties', (keywords.PROPERTIES,)),
+            ('both: and additionalProperties', (keywords.PROPERTIES, keywords.SCHEMAS['additionalProperties']))]
     for name, clauses in ways:
         yield name, [Case('%s, %d' % (name, n), None, overlapping_record(n),
                           overlapping_rules(n, clauses) if clauses else no_rules(), None) for n in OVERLAPS]
