@@ -4,14 +4,14 @@
 -- Assumes nothing.
 use mathlib.Core.Bool.{Bool, true, false, cond}
 use mathlib.Core.List.{List, [], _∷_, _++_}
-use mathlib.Core.Logic.{_≢_, _⊎_, inl, inr, ⊎-elim}
+use mathlib.Core.Logic.{_≢_, _⊎_, ⊎-elim}
 use mathlib.Core.Option.{Option, none, some}
 use mathlib.Core.Path.{_≡_, refl, sym, _∙_, ap, subst}
 use Prim.Native.Nat.{ℕ, zero, suc, _+_, _*_, _/_, _≤_, _<_}
 use native.Mathlib.Omega.{arith}
 use borrow.Author.Tests.{eq-eqb, ne-eqb, ltb-true, lt-ltb}
 use lib.Dec.{eqb, ltb}
-use lib.ListN.{length, getD, take, drop, take-append-drop}
+use lib.ListN.{length, getD}
 use Rattle.laws.specs.Lowest.{lowest}
 use Rattle.laws.proofs.Searches.{alike}
 use Rattle.names.specs.Names.{names-max, nameAt, repeatsBy, repeatsAt, Lying}
@@ -23,19 +23,18 @@ use Rattle.json.specs.Text.{spaces, value, Text, bytes}
 use Rattle.json.specs.Sightings.{What, aValue, aName, anEscape}
 use Rattle.json.specs.Starts.{Start, textStarts}
 use Rattle.json.proofs.Trimming.{by-zero}
-use Rattle.reader.specs.Faults.{valueFault, faultBy, countBy, Fault, orElse, firstFault}
+use Rattle.reader.specs.Faults.{valueFault, Fault, orElse, firstFault}
 use Rattle.reader.proofs.Lengths.{spaces-long}
 use Rattle.survey.specs.declared.Watch.{Watch}
 use Rattle.survey.specs.Told.{told, unnamed}
 use Rattle.survey.proofs.Strung.{verdict}
 use Rattle.naming.specs.Members.{Named, textNames, tagged}
-use Rattle.naming.specs.Gathering.{textFrom, wordsFrom, before, Gather}
+use Rattle.naming.specs.Gathering.{textFrom, wordsFrom, before}
 use Rattle.naming.proofs.Repeated.{no-name, taggedAt, foundIn}
 use Rattle.naming.proofs.Lying.{inThrees, name-is, names-lie, left-at}
 use Rattle.naming.proofs.Order.{Falling, f-none, f-more, starts-fall}
 use Rattle.naming.proofs.Earlier.{leftAt, repeatedAt, earlier, otherFault, namesBefore, first-fault}
 use Rattle.naming.proofs.Fewness.{few-names}
-use Rattle.trail.proofs.Whole.{Seen}
 use Rattle.refusing.specs.declared.Amiss.{Amiss}
 use Rattle.refusing.specs.Refusing.{firstOf}
 

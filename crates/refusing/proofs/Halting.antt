@@ -5,18 +5,18 @@
 -- Assumes nothing.
 use mathlib.Core.Bool.{true, false, cond, _&&_}
 use mathlib.Core.List.{List, []}
-use mathlib.Core.Logic.{_≢_, _⊎_, inl, inr, ⊎-elim}
-use mathlib.Core.Option.{Option, none, some}
+use mathlib.Core.Logic.{_≢_, _⊎_, ⊎-elim}
+use mathlib.Core.Option.{some}
 use mathlib.Core.Path.{_≡_, refl, sym, _∙_, ap, subst}
 use Prim.Native.Nat.{ℕ, zero, suc, _/_, _≤_, _<_}
 use native.Mathlib.Numerals.{add-one}
 use native.Mathlib.Omega.{arith}
 use borrow.Author.Tests.{eq-eqb}
 use lib.Dec.{eqb}
-use lib.ListN.{length, getD, drop}
+use lib.ListN.{length, drop}
 use lib.Seq.{drop-length}
 use Rattle.laws.proofs.Tests.{left}
-use Rattle.json.specs.Automaton.{Bracket, Place, State, at, step, start, run, ended, noneOpen, accepting, accepted, accepts}
+use Rattle.json.specs.Automaton.{Bracket, Place, State, at, start, run, ended, noneOpen, accepted, accepts}
 use Rattle.grammar.specs.Codes.{placeAt}
 use Rattle.brackets.specs.declared.Open.{Open}
 use Rattle.brackets.specs.Brackets.{bracketsOf, brackets, Fits}
@@ -33,7 +33,7 @@ use Rattle.trail.proofs.Ordered.{ordered}
 use Rattle.trail.proofs.Whole.{Stopped, at-fault, at-end}
 use Rattle.scan.specs.declared.Halt.{Halt}
 use Rattle.scan.specs.Scanning as Scanning
-use Rattle.scan.specs.Scanning.{Areas, stateOf, Carried, Halted}
+use Rattle.scan.specs.Scanning.{Areas, Carried, Halted}
 use Rattle.refusing.specs.Refusing as Refusing
 use Rattle.refusing.specs.Refusing.{Come}
 

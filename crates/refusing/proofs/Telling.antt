@@ -6,9 +6,9 @@
 use mathlib.Core.Bool.{Bool, true, false, cond}
 use mathlib.Core.List.{List, [], _∷_, _++_}
 use mathlib.Core.Logic.{_≢_, _⊎_, inl, inr, ⊎-elim}
-use mathlib.Core.Option.{none, some}
+use mathlib.Core.Option.{none}
 use mathlib.Core.Path.{_≡_, refl, sym, _∙_, ap, subst}
-use Prim.Native.Nat.{ℕ, zero, suc, _+_, _*_, _-_, _/_, _≤_, _<_}
+use Prim.Native.Nat.{ℕ, _+_, _*_, _-_, _/_, _≤_}
 use native.Mathlib.Omega.{arith}
 use borrow.Author.Tests.{ne-eqb}
 use lib.Dec.{eqb, ltb}
@@ -17,14 +17,13 @@ use Rattle.laws.specs.Lowest.{lowest}
 use Rattle.names.specs.Names.{repeatsAt}
 use Rattle.sheet.specs.Kinds.{number-max}
 use Rattle.json.specs.Text.{Text, bytes}
-use Rattle.json.specs.Automaton.{ended, accepts}
+use Rattle.json.specs.Automaton.{ended}
 use Rattle.json.specs.Starts.{textStarts}
 use Rattle.grammar.specs.Codes.{placeAt}
 use Rattle.brackets.specs.Brackets.{brackets}
 use Rattle.reader.specs.Faults.{firstFault}
 use Rattle.survey.specs.declared.Watch.{Watch}
 use Rattle.survey.specs.Watching.{moved, watching}
-use Rattle.tally.specs.Tallying.{Tally}
 use Rattle.tally.proofs.Tallied.{Tallied}
 use Rattle.naming.specs.Members.{Named, tagged}
 use Rattle.naming.specs.Gathering.{textFrom, wordsFrom}
@@ -35,11 +34,11 @@ use Rattle.trail.proofs.Ordered.{ordered}
 use Rattle.trail.proofs.Whole.{Stopped, at-fault, at-end, Seen, seen, counts}
 use Rattle.room.proofs.Rooms.{text-fits, text-held, words-held}
 use Rattle.scan.specs.declared.Halt.{Halt}
-use Rattle.scan.specs.Scanning.{Areas, Carried, Halted}
+use Rattle.scan.specs.Scanning.{Areas}
 use Rattle.laying.specs.Laying.{Countable}
 use Rattle.refusing.specs.declared.Amiss.{Amiss}
 use Rattle.refusing.specs.Refusing.{Ended, Endable, firstOf, Lent, Told, faulty, fine}
-use Rattle.refusing.proofs.Halting.{Whole, whole, how-many}
+use Rattle.refusing.proofs.Halting.{Whole, how-many}
 use Rattle.refusing.proofs.Firsts.{Tells, amiss, none-amiss, Stand, first-is, words-long, within-text}
 
 -- each name has two bytes at least

@@ -4,10 +4,10 @@
 -- Assumes nothing.
 use mathlib.Core.Bool.{Bool, true, false, cond, _&&_, _||_, not}
 use mathlib.Core.Logic.{_≢_}
-use mathlib.Core.Path.{_≡_, refl, sym, _∙_, ap}
+use mathlib.Core.Path.{_≡_, refl, sym, _∙_}
 use Prim.Native.Nat.{ℕ, suc, _-_, _<_}
 use native.Mathlib.Omega.{arith}
-use borrow.Author.Tests.{eqb-true, eqb-false, ltb-true, eq-eqb, ne-eqb, lt-ltb}
+use borrow.Author.Tests.{eqb-true, eqb-false, eq-eqb, lt-ltb}
 use lib.Dec.{eqb, ltb}
 use Rattle.json.specs.Value.{isHigh, isLow}
 use Rattle.json.specs.Automaton.{Left, hex1, hex2, hex3, hex4, Place, ahead, firstElement, after, name, firstName, colon, word, minus, nought, whole, point, part, letter, sign, power, text, escape, unit, char}
@@ -15,9 +15,9 @@ use Rattle.sheet.specs.Record.{rows-max}
 use Rattle.sheet.specs.Faults.{level-refused}
 use Rattle.figure.specs.declared.Figure.{Figure}
 use Rattle.figure.specs.Figure.{wholeMore, partMore, powerBack, powerMore, figured}
-use Rattle.laws.proofs.Tests.{left, right, either}
+use Rattle.laws.proofs.Tests.{right}
 use Rattle.survey.specs.declared.Watch.{Watch}
-use Rattle.survey.specs.Watching.{found, withFigure, withEscapes, noEscapes, isDigit, numeric, counted, begun, ended, parted, waitFor, coded, slashed, codeMore, hexed, hexDone, opened, digited, isEnd, digitOr, moved}
+use Rattle.survey.specs.Watching.{found, withFigure, withEscapes, noEscapes, isDigit, numeric, counted, begun, ended, parted, coded, slashed, codeMore, hexed, hexDone, opened, digited, isEnd, digitOr, moved}
 use Rattle.trail.proofs.Places.{isNumber, inEscape, isText, startsValue, numbered, escaping, bracketed}
 
 -- the places that are kept after a byte, and that no bracket is opened on level 33

@@ -3,7 +3,7 @@
 --     none-behind  behind it
 -- Assumes nothing.
 use mathlib.Core.Bool.{Bool, true, false, cond, _&&_, not}
-use mathlib.Core.List.{List, [], _∷_, _++_, append-nil}
+use mathlib.Core.List.{List, [], _∷_, append-nil}
 use mathlib.Core.Option.{Option, none, some}
 use mathlib.Core.Path.{_≡_, refl, sym, _∙_, ap}
 use Prim.Native.Nat.{ℕ, suc, _+_, _-_, _≤_, _<_}
@@ -13,12 +13,12 @@ use lib.Dec.{eqb, ltb}
 use lib.ListN.{length, getD, drop, length-drop}
 use Rattle.json.specs.Value.{isHigh, joined}
 use Rattle.json.specs.Utf8.{encode}
-use Rattle.json.specs.Automaton.{Bracket, Role, asValue, asName, Left, hex1, hex2, hex3, hex4, Place, ahead, firstElement, after, name, firstName, colon, word, minus, nought, whole, point, part, letter, sign, power, text, escape, unit, char, State, at, step, start}
+use Rattle.json.specs.Automaton.{Bracket, asValue, asName, Left, hex1, hex2, hex3, hex4, Place, ahead, firstElement, after, name, firstName, colon, word, minus, nought, whole, point, part, letter, sign, power, text, escape, unit, char, State, at, step, start}
 use Rattle.json.specs.Along.{along}
 use Rattle.naming.specs.Gathering.{Gather, nothing-yet, starts, says, opensName, shutsName, unitIs, waitsFor, escaped, lowAhead, shortAt, digitOf, hexMore, names, gather}
 use Rattle.trail.specs.Trail.{Kept, Trail, begins, goes}
 use Rattle.trail.proofs.Naming.{View, a-start, no-start, view}
-use Rattle.trail.proofs.Ordered.{Ordered, ordered}
+use Rattle.trail.proofs.Ordered.{ordered}
 use Rattle.trail.proofs.Along.{one-more}
 
 -- ---- before

@@ -8,14 +8,14 @@ use mathlib.Core.Bool.{Bool, true, false, cond, _&&_, _||_, not}
 use mathlib.Core.List.{List, [], _∷_}
 use mathlib.Core.Logic.{_⊎_, inl, inr, ⊎-elim}
 use mathlib.Core.Option.{Option, none, some}
-use mathlib.Core.Path.{_≡_, refl, sym, _∙_, ap, subst}
+use mathlib.Core.Path.{_≡_, refl, sym, _∙_, subst}
 use Prim.Native.Nat.{ℕ, zero, suc, _≤_, _<_}
 use native.Mathlib.Omega.{arith}
 use borrow.Author.Tests.{eqb-true, eq-eqb, ltb-true, lt-ltb, leb-true}
 use lib.Dec.{eqb, leb, ltb}
 use lib.ListN.{length, getD}
 use Rattle.json.specs.Automaton.{Bracket, square, curly, Place, after, at, Change, keep, pop, push, Move, moves, pick, innermost, changed, follow, step}
-use Rattle.grammar.specs.Codes.{places, placeAt, placeCode}
+use Rattle.grammar.specs.Codes.{places, placeCode}
 use Rattle.grammar.proofs.Places.{place-back, place-low}
 use Rattle.laws.proofs.Tests.{left, right, either}
 use Rattle.trail.proofs.Places.{isNumber, inName, inEscape, isText, startsValue, pushes, numbered, escaping, bracketed}

@@ -5,16 +5,14 @@ use mathlib.Core.Bool.{Bool, true, false, cond, _&&_, not}
 use mathlib.Core.List.{List, [], _∷_}
 use mathlib.Core.Option.{some}
 use mathlib.Core.Path.{_≡_, refl, sym, _∙_}
-use Prim.Native.Nat.{ℕ, suc, _+_, _-_, _<_}
+use Prim.Native.Nat.{ℕ, _-_}
 use native.Mathlib.Omega.{arith}
-use borrow.Author.Tests.{eq-eqb}
 use lib.Dec.{eqb, ltb}
-use lib.ListN.{length, getD}
 use Rattle.json.specs.Value.{isHigh}
-use Rattle.json.specs.Automaton.{Bracket, Role, asValue, asName, Left, hex1, hex2, hex3, hex4, Place, ahead, firstElement, after, name, firstName, colon, word, minus, nought, whole, point, part, letter, sign, power, text, escape, unit, char, at, pick, step}
+use Rattle.json.specs.Automaton.{Bracket, asValue, asName, Left, hex1, hex2, hex3, hex4, Place, ahead, firstElement, after, name, firstName, colon, word, minus, nought, whole, point, part, letter, sign, power, text, escape, unit, char, at, pick, step}
 use Rattle.survey.specs.declared.Watch.{Watch}
 use Rattle.survey.specs.Watching.{noEscapes, withEscapes, moved}
-use Rattle.naming.specs.Gathering.{Gather, starts, says, opensName, shutsName, unitIs, waitsFor, escaped, lowAhead, shortAt, digitOf, hexMore, textMore, charMore, escapeMore, unitMore, names, gather}
+use Rattle.naming.specs.Gathering.{Gather, starts, says, shutsName, unitIs, waitsFor, escaped, lowAhead, shortAt, digitOf, hexMore, names, gather}
 use Rattle.trail.proofs.Places.{inName, isText}
 
 -- the same name is under way, or none any more

@@ -1,14 +1,14 @@
 -- After some bytes of a text: a fault that was found starts before the next byte and behind the last name, and so do the places that are kept for one.
 --     ordered    the theorem
 -- Assumes nothing.
-use mathlib.Core.Bool.{Bool, true, false, cond}
-use mathlib.Core.List.{List, [], _∷_}
-use mathlib.Core.Logic.{_≢_, _⊎_, inl, inr, ⊎-elim}
-use mathlib.Core.Option.{Option, some}
+use mathlib.Core.Bool.{Bool, true, false}
+use mathlib.Core.List.{List}
+use mathlib.Core.Logic.{_≢_, _⊎_, ⊎-elim}
+use mathlib.Core.Option.{some}
 use mathlib.Core.Path.{_≡_, refl, sym, _∙_, ap, subst}
 use Prim.Native.Nat.{ℕ, suc, _+_, _-_, _≤_, _<_}
 use native.Mathlib.Omega.{arith}
-use borrow.Author.Tests.{eqb-true, eqb-false, eq-eqb, ne-eqb}
+use borrow.Author.Tests.{eqb-true}
 use lib.Dec.{eqb}
 use lib.ListN.{length, getD, drop, length-drop}
 use Rattle.json.specs.Automaton.{Bracket, asName, Place, text, State, at, step}
@@ -18,7 +18,7 @@ use Rattle.survey.specs.declared.Watch.{Watch}
 use Rattle.survey.specs.Watching.{noEscapes, withEscapes, moved, watching}
 use Rattle.survey.proofs.Orders.{going, stays}
 use Rattle.naming.specs.Gathering.{Gather, opensName, names, gather}
-use Rattle.trail.specs.Trail.{Kept, keeping, GoesOn, Trail, begins, goes}
+use Rattle.trail.specs.Trail.{Kept, Trail, begins, goes}
 use Rattle.trail.proofs.Places.{isNumber, inEscape, inName, isText, bracketed}
 use Rattle.trail.proofs.Moves.{name-no-value, Leads, leads}
 use Rattle.trail.proofs.Finding.{After, found-after}

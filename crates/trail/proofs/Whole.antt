@@ -4,11 +4,11 @@
 --     counts     the counters, at the end
 -- Assumes nothing.
 use mathlib.Core.Bool.{Bool, true, false, cond}
-use mathlib.Core.List.{List, [], _∷_, _++_}
-use mathlib.Core.Logic.{_≢_, _⊎_, inl, inr, ⊎-elim}
+use mathlib.Core.List.{List, []}
+use mathlib.Core.Logic.{_≢_, _⊎_, ⊎-elim}
 use mathlib.Core.Option.{Option, none, some}
 use mathlib.Core.Path.{_≡_, refl, sym, _∙_, ap, subst}
-use Prim.Native.Nat.{ℕ, suc, _+_, _-_, _≤_, _<_}
+use Prim.Native.Nat.{ℕ, suc, _-_, _≤_, _<_}
 use native.Mathlib.Omega.{arith}
 use borrow.Author.Tests.{eq-eqb, ne-eqb}
 use lib.Dec.{eqb}
@@ -16,11 +16,9 @@ use lib.ListN.{length, drop, length-drop}
 use lib.Seq.{drop-length}
 use Rattle.laws.proofs.Tests.{decide}
 use Rattle.json.specs.Text.{Text, bytes}
-use Rattle.json.specs.Automaton.{Bracket, Place, ahead, firstElement, after, name, firstName, colon, word, minus, nought, whole, point, part, letter, sign, power, text, escape, unit, char, State, at, start, ended}
+use Rattle.json.specs.Automaton.{Bracket, Place, ahead, firstElement, after, name, firstName, colon, word, minus, nought, whole, point, part, letter, sign, power, text, escape, unit, char, at, start, ended}
 use Rattle.json.specs.Along.{along}
-use Rattle.json.specs.Starts.{textStarts}
 use Rattle.json.proofs.Trimming.{by-zero}
-use Rattle.sheet.specs.Kinds.{number-max}
 use Rattle.sheet.specs.Faults.{level-refused}
 use Rattle.figure.specs.Figure.{figured}
 use Rattle.reader.specs.Faults.{Fault, firstFault}
@@ -33,14 +31,13 @@ use Rattle.survey.proofs.Strung.{verdict}
 use Rattle.survey.proofs.Watched.{watched}
 use Rattle.tally.specs.Tallying.{Tally, noTally, tallying}
 use Rattle.tally.proofs.Tallied.{Tallied, tallied}
-use Rattle.naming.specs.Members.{textNames}
 use Rattle.naming.specs.Gathering.{textFrom, wordsFrom, before, Gather, nothing-yet, gather}
 use Rattle.naming.proofs.Gathered.{text-gathers}
 use Rattle.naming.proofs.Earlier.{leftAt, otherFault, namesBefore}
 use Rattle.naming.proofs.Levels.{held-text}
 use Rattle.trail.specs.Trail.{Kept, Trail}
 use Rattle.trail.proofs.Places.{isNumber, inName}
-use Rattle.trail.proofs.Ordered.{Recent, Ordered, ordered}
+use Rattle.trail.proofs.Ordered.{ordered}
 use Rattle.trail.proofs.Along.{unmoved-on, watch-along, tally-along}
 use Rattle.trail.proofs.Limits.{limited, none-behind}
 

@@ -6,7 +6,7 @@ use lib.ListN.{length-set}
 use Rattle.json.specs.Automaton.{changed, outer}
 use Rattle.grammar.specs.Codes.{changeAt}
 use Rattle.brackets.specs.Brackets.{brackets}
-use Rattle.follow.specs.Following.{stacked, allOpen}
+use Rattle.follow.specs.Following.{allOpen}
 use Rattle.follow.proofs.Stacking.{bottom, fewer, more}
 use borrow.Author.Needs.{needs}
 use Rattle.follow.proofs.shifted.Statement.{statement}

@@ -1,16 +1,10 @@
 -- `refusing::refusal_of` meets its contract. Assumes nothing.
-use mathlib.Core.Bool.{true, false}
-use mathlib.Core.List.{List}
-use mathlib.Core.Logic.{_≢_}
-use mathlib.Core.Path.{_≡_, refl, sym, _∙_, ap, subst}
-use Prim.Native.Nat.{ℕ, _≤_}
+use mathlib.Core.Path.{refl, sym, _∙_}
 use native.Mathlib.Omega.{arith}
 use borrow.Author.Needs.{needs}
-use lib.ListN.{length}
-use Rattle.scan.specs.Scanning.{areas}
 use Rattle.refusing.specs.Refusing.{not-json}
 use Rattle.refusing.proofs.Halting.{come}
-use Rattle.refusing.proofs.Calls.{refuted, upheld, Called, called-end, called-lies, called-left, called-none, called-some}
+use Rattle.refusing.proofs.Calls.{refuted, upheld, called-end, called-lies, called-left, called-none, called-some}
 use Rattle.refusing.proofs.refusal_of.Statement.{statement}
 use Rattle.refusing.proofs.refusal_of.Tie as tie
 
