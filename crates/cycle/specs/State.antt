@@ -21,7 +21,7 @@ use Rattle.clause.specs.Read.{RecordRead, RulesRead}
 use Rattle.areas.specs.Cells.{cellAt, verd, Unsettled, bit, settledAs, column}
 use Rattle.areas.specs.Writers.{Writes, Marked, handedOn, HandsOn}
 use Rattle.steps.specs.declared.turn.Turn.{Turn}
-use Rattle.plan.specs.Plan.{stepsOf, finishOf, stopsBy, afterMiss}
+use Rattle.plan.specs.Plan.{finishOf, stopsBy, afterMiss}
 use Rattle.steps.specs.Read.{Started}
 use Rattle.steps.specs.Turns.{Turned}
 use Rattle.cycle.specs.declared.cycle.Done.{Done}
@@ -205,10 +205,6 @@ pub record ReadsClause (words texts : List (RefT (List ℕ))) (forms : List ℕ)
 -- clause i of p applies schemas
 abbrev pub Applying : Case → Pair → ℕ → Type 0
 Applying T p i = (t : Test) → clauseAt T p i ≡ asserts t → ⊥
-
--- the steps of clause i of p
-abbrev pub manySteps : Case → Pair → ℕ → ℕ
-manySteps T p i = stepsOf (T .doc) p (beforeOf T p i) (clauseAt T p i)
 
 -- what is asked of the cells, and of what the clauses before tell, where clause i of p stands
 pub record Turns (T : Case) (p : Pair) (i from : ℕ) (cells : List ℕ) : Type 0 where

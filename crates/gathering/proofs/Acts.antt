@@ -23,10 +23,6 @@ sets-end l a b =
     ap (λ (k : ℕ). sets (sets l 0 a) k b) e ∙ sym (sets-append l a b 0)
 
 module _ (text words objects : List ℕ) (n : Gathered) where
-  -- nothing is done
-  pub nothing-does : Does (λ g. g) text words objects n text words objects n
-  nothing-does t w g h = h
-
   pub unit-does : (c : ℕ)
       → Does (unitIs c) text words objects n text words objects
       (record { size = n .size; filled = n .filled; values = n .values; on = n .on; begun = n .begun; left = n .left; unit = c; waits = n .waits })

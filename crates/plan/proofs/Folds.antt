@@ -1,8 +1,8 @@
 -- What the first n steps come to, from their end and from their start.
 --     picked-first, picked-same, picked-none     the pairs picked, by the first step; by tests and aims that agree; none
---     all-picked, kept-picked            a list of all, and of some, of a run of rows
+--     kept-picked, run-picked            some of a run of rows, and all of it
 --     done-picked                        settling them in turn
---     count-hits, any-hits, all-hits     what their verdicts say, by the number of hits
+--     count-hits, all-hits, any-count     what their verdicts say, by the number of hits
 --     unions-marks, these-marks, held-marks, marks-later     their marks
 --     tally-told, tally-misses, tally-hits, tally-few        what is carried: by the steps that went, steps that fail, steps that hold, never more than there were
 --     three-picked, some-picked, holding-picked  a condition with its branch; those of a list that pass a test; those that hold
@@ -82,12 +82,6 @@ pub picked-none : (go : ℕ → Bool) (aim : ℕ → Pair) (n : ℕ) → ((i : �
 unfolding picked
 picked-none go aim zero f = refl
 picked-none go aim (suc n) f = rw (picked-none go aim n (λ i h. f i (omega arith)), f n (omega arith))
-
--- all of a list
-pub list-picked : {A : Type 0} (f : A → Pair) (xs : List A) (d : A) → map f xs ≡ picked (λ i. true) (λ i. f (getD xs i d)) (length xs)
-unfolding picked
-list-picked f [] d = refl
-list-picked f (x ∷ xs) d = ap (λ l. f x ∷ l) (list-picked f xs d) ∙ sym (picked-first (λ i. true) (λ i. f (getD (x ∷ xs) i d)) (length xs))
 
 -- those of a run of rows that pass a test
 pub kept-picked : (f : ℕ → Pair) (g : ℕ → Bool) (n x : ℕ) → map f (keep g (range x n)) ≡ picked (λ i. g (x + i)) (λ i. f (x + i)) n

@@ -76,9 +76,6 @@ module _ (R : ℕ → Type 0) (k b lft : ℕ) (here : R lft) (w : Watch) (calm :
         low = λ z. o;
       }
 
-  not-numeric : (n : ℕ) → (n ≡ 0x5B) → numeric n ≡ false
-  not-numeric n e = rw e
-
   bracket-plain : eqb b 0x5B || eqb b 0x7B ≡ true → numeric b ≡ false
   bracket-plain o = go (eqb b 0x5B) refl o
     where
