@@ -3,10 +3,10 @@
 --     marked-same, marked-none              nothing is written, or nothing is to be
 --     marked-more, marked-later             one row more, and a row that was not reached
 --     marked-as                             the same marks in other words
---     merged-read                           the marks of both columns, as they were read
+--     merged-marked, merged-unmarked, merged-later, unmarked, one-row     one row's marks in both columns, and in one, as they were read
 --     kept-all, kept-none                   the marks of a pair that holds, and of one that fails
 --     merged-handed, marked-child           what is handed on: a pair's marks, or the child that it is of
---     cell-below, writes-row                one of the rows that may be written
+--     cell-below, writes-one, writes-row    one of the rows that may be written
 -- Assumes nothing.
 use mathlib.Core.Bool.{Bool, true, false, _||_, or-true, or-false}
 use mathlib.Core.List.{List}
@@ -85,13 +85,32 @@ marked-as p f = record { len = p .len; verdicts = p .verdicts; small = p .small;
 
 -- ---- what is written
 
-pub merged-read : {m first i s : ℕ} {to : Marks} {c₀ c₁ : List ℕ} {k from x y : ℕ} {a b : Bool} → Marked m first i s to c₀ c₁ → s < m → from < m → k ≡ first + i
-    → x ≡ cellOf m k s → a ≡ bit (getD c₁ x 0) → y ≡ cellOf m k from → b ≡ bit (getD c₁ y 0) → (a || b) ≡ merged m c₀ s from k
+-- a row is marked in column s too if it is in column `from`
+module _ (m k s from : ℕ) (c₀ : List ℕ) {b : Bool} (v : b ≡ bit (getD c₀ (cellOf m k from) 0)) where
+  here-from : (x : ℕ) → k ≤ x → x < k + 1 → column m c₀ from x ≡ b
+  here-from x l h = let e : x ≡ k = omega arith in ap (λ (t : ℕ). bit (getD c₀ (cellOf m t from) 0)) e ∙ sym v
+
+  pub merged-marked : {c₁ : List ℕ} → b ≡ true → Marked m k 1 s (λ x. true) c₀ c₁ → Marked m k 1 s (merged m c₀ s from) c₀ c₁
+  unfolding merged
+  merged-marked t M = marked-as M (λ x l h. sym (rw (here-from x l h, t) (or-true (column m c₀ s x))))
+
+  pub merged-unmarked : b ≡ false → Marked m k 1 s (merged m c₀ s from) c₀ c₀
+  unfolding merged
+  merged-unmarked t = marked-same c₀ (λ x l h. sym (rw (here-from x l h, t) (or-false (column m c₀ s x))))
+
+pub merged-later : {m first i s : ℕ} {to : Marks} {c₀ c₁ : List ℕ} {from k : ℕ} → Marked m first i s to c₀ c₁ → s < m → from < m → k ≡ first + i
+    → merged m c₁ s from k ≡ merged m c₀ s from k
 unfolding merged
-merged-read {m} {s = s} {c₁ = c₁} {k = k} {from = from} p g h q d u d′ v =
-    let α = u ∙ ap (λ (t : ℕ). bit (getD c₁ t 0)) d ∙ ap bit (marked-later p k s g (omega arith)) in
-    let β = v ∙ ap (λ (t : ℕ). bit (getD c₁ t 0)) d′ ∙ ap bit (marked-later p k from h (omega arith)) in
-    rw (α, β)
+merged-later {m} {s = s} {from = from} {k = k} p g h q =
+    rw (ap bit (marked-later p k s g (omega arith)), ap bit (marked-later p k from h (omega arith)))
+
+-- a row without a mark has none to lose
+pub unmarked : (m k s : ℕ) (cells : List ℕ) {b : Bool} → b ≡ bit (getD cells (cellOf m k s) 0) → b ≡ false → Marked m k 1 s (λ x. false) cells cells
+unmarked m k s cells v t = marked-same cells (λ x l h. here-from m k s s cells v x l h ∙ t)
+
+-- one row's marks, wherever it stands among them
+pub one-row : {m k s : ℕ} {to : Marks} {c₀ c₁ : List ℕ} → Marked m k 1 s to c₀ c₁ → Marked m k 1 s (λ x. to k) c₀ c₁
+one-row {k = k} {to = to} M = marked-as M (λ x l h. let e : x ≡ k = omega arith in ap to e)
 
 -- a pair that holds keeps its marks, and one that fails has none
 module _ (m : ℕ) (cells : List ℕ) (s : ℕ) (ok : Bool) (k : ℕ) where
@@ -132,10 +151,15 @@ module _ {m first many s from : ℕ} {cells : List ℕ} (w : Writes m first many
   pub cell-below : (i : ℕ) → i < many → (t : ℕ) → t < m → cellOf m (first + i) t < length cells
   cell-below i h t g = let a = w .rows-in (first + i) (omega arith) (omega arith) in omega arith
 
-  pub writes-row : {k : ℕ} {after : List ℕ} → length after ≡ length cells → first ≤ k → k < first + many → Writes m k 1 s s after
-  writes-row e a b =
+  pub writes-one : {k : ℕ} {after : List ℕ} → length after ≡ length cells → first ≤ k → k < first + many → Writes m k 1 s from after
+  writes-one e a b =
       record {
         rule-in = w .rule-in;
-        from-in = w .rule-in;
+        from-in = w .from-in;
         rows-in = λ x u v. let z = w .rows-in x (omega arith) (omega arith) in omega arith;
       }
+
+  pub writes-row : {k : ℕ} {after : List ℕ} → length after ≡ length cells → first ≤ k → k < first + many → Writes m k 1 s s after
+  writes-row {k} {after} e a b =
+      let one : Writes m k 1 s from after = writes-one e a b in
+      record { rule-in = w .rule-in; from-in = w .rule-in; rows-in = one .rows-in }

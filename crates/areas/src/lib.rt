@@ -7,11 +7,12 @@
 // `write_mark`, which writes marks.
 //
 // Its contracts cite specs/, in reading order: `Cells`, `Writers`.
+ghost use mathlib.Core.Bool.{false};
 ghost use mathlib.Core.Path.{_≡_};
 ghost use Prim.Native.Nat.{_+_, _<_};
 ghost use lib.ListN.{length, getD, set};
 ghost use Rattle.areas.specs.Cells.{pairIs, cellAt, verd, bit, four, settledAs, plus, Cleared, markedBy};
-ghost use Rattle.areas.specs.Writers.{Open, Shut, Writes, Marked, merged, kept, handedOn, HandsOn};
+ghost use Rattle.areas.specs.Writers.{Open, Shut, Writes, Marked, merged};
 use sheet::record::Children;
 use sheet::record::Pair;
 use sheet::record::RecordRow;
@@ -112,7 +113,7 @@ fn four_of(marked: bool) -> u8
 }
 
 // Marks the row in column s, or takes its mark away.
-fn write_mark(cells: &mut [u8], m: usize, row: RecordRow, s: RuleRow, on: bool)
+pub fn write_mark(cells: &mut [u8], m: usize, row: RecordRow, s: RuleRow, on: bool)
     requires { ⌜ Writes m (row .0) 1 (s .0) (s .0) (now cells) ⌝ }
     ensures { λ r. ⌜ Marked m (row .0) 1 (s .0) (λ k. on) (now (cells .entry)) (now (cells .exit)) ⌝ }
 {
@@ -121,56 +122,56 @@ fn write_mark(cells: &mut [u8], m: usize, row: RecordRow, s: RuleRow, on: bool)
     cells[k] = x + four_of(on);
 }
 
+// Marks the row in column s too if it is marked in column `from`.
+fn add_mark(cells: &mut [u8], m: usize, row: RecordRow, s: RuleRow, from: RuleRow)
+    requires { ⌜ Writes m (row .0) 1 (s .0) (from .0) (now cells) ⌝ }
+    ensures { λ r. ⌜ Marked m (row .0) 1 (s .0) (merged m (now (cells .entry)) (s .0) (from .0)) (now (cells .entry)) (now (cells .exit)) ⌝ }
+{
+    if is_marked(
+        cells,
+        m,
+        Pair {
+            row: row,
+            rule: from,
+        },
+    ) {
+        write_mark(cells, m, row, s, true);
+    }
+}
+
 // To the marks of the rows in column s adds those in column `from`.
-fn add_marks(cells: &mut [u8], m: usize, kids: Children, s: RuleRow, from: RuleRow)
+pub fn add_marks(cells: &mut [u8], m: usize, kids: Children, s: RuleRow, from: RuleRow)
     requires { ⌜ Writes m (kids .first) (kids .count) (s .0) (from .0) (now cells) ⌝ }
     requires { ⌜ kids .first + kids .count < 4294967296 ⌝ }
     ensures { λ r. ⌜ Marked m (kids .first) (kids .count) (s .0) (merged m (now (cells .entry)) (s .0) (from .0)) (now (cells .entry)) (now (cells .exit)) ⌝ }
 {
     let mut i = 0;
     while i < kids.count {
-        let row = RecordRow(kids.first + i);
-        let old = is_marked(cells, m, Pair { row: row, rule: s });
-        let new = is_marked(
-            cells,
-            m,
-            Pair {
-                row: row,
-                rule: from,
-            },
-        );
-        write_mark(cells, m, row, s, old | new);
+        add_mark(cells, m, RecordRow(kids.first + i), s, from);
         i += 1;
     }
 }
 
-// Takes the marks of the rows in column s away, unless the pair that they are of holds.
-pub fn shut_marks(cells: &mut [u8], m: usize, kids: Children, s: RuleRow, ok: bool)
+// Takes the row's mark in column s away, if it has one.
+fn take_mark(cells: &mut [u8], m: usize, row: RecordRow, s: RuleRow)
+    requires { ⌜ Writes m (row .0) 1 (s .0) (s .0) (now cells) ⌝ }
+    ensures { λ r. ⌜ Marked m (row .0) 1 (s .0) (λ k. false) (now (cells .entry)) (now (cells .exit)) ⌝ }
+{
+    if is_marked(cells, m, Pair { row: row, rule: s }) {
+        write_mark(cells, m, row, s, false);
+    }
+}
+
+// Takes the marks of the rows in column s away.
+pub fn take_marks(cells: &mut [u8], m: usize, kids: Children, s: RuleRow)
     requires { ⌜ Writes m (kids .first) (kids .count) (s .0) (s .0) (now cells) ⌝ }
     requires { ⌜ kids .first + kids .count < 4294967296 ⌝ }
-    ensures { λ r. ⌜ Marked m (kids .first) (kids .count) (s .0) (kept m (now (cells .entry)) (s .0) ok) (now (cells .entry)) (now (cells .exit)) ⌝ }
+    ensures { λ r. ⌜ Marked m (kids .first) (kids .count) (s .0) (λ k. false) (now (cells .entry)) (now (cells .exit)) ⌝ }
 {
-    if ok {
-        return;
-    }
     let mut i = 0;
     while i < kids.count {
-        write_mark(cells, m, RecordRow(kids.first + i), s, false);
+        take_mark(cells, m, RecordRow(kids.first + i), s);
         i += 1;
-    }
-}
-
-// HandsOn on to the pair p, whose row's children these are, what the pair q has to give: its marks if
-// it is of the row itself, and else the child that it is of.
-pub fn hand_on(cells: &mut [u8], m: usize, kids: Children, p: Pair, q: Pair)
-    requires { ⌜ HandsOn m (kids .first) (kids .count) (p .row .0) (p .rule .0) (q .row .0) (q .rule .0) (now cells) ⌝ }
-    requires { ⌜ kids .first + kids .count < 4294967296 ⌝ }
-    ensures { λ r. ⌜ Marked m (kids .first) (kids .count) (p .rule .0) (handedOn m (now (cells .entry)) (p .row .0) (p .rule .0) (q .row .0) (q .rule .0)) (now (cells .entry)) (now (cells .exit)) ⌝ }
-{
-    if q.row.0 == p.row.0 {
-        add_marks(cells, m, kids, p.rule, q.rule);
-    } else {
-        write_mark(cells, m, q.row, p.rule, true);
     }
 }
 

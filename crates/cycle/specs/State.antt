@@ -17,7 +17,8 @@ use Rattle.rulesheet.specs.Sheet.{schemasWord, schemaAt, rulesOf}
 use Rattle.meaning.specs.Rules.{Pair, Marks, _∪_, Result, answer, applied, Way, whole, cut, clause, depth, truth}
 use Rattle.meaning.specs.Settling.{samePair, listed, inTurn, settle, shown}
 use Rattle.meaning.specs.Fit.{Fit, Inside, rank}
-use Rattle.clause.specs.Read.{RecordRead, RulesRead}
+use Rattle.rulesheet.specs.declared.form.ClauseRow.{ClauseRow}
+use Rattle.clause.specs.Read.{RecordRead, RulesRead, PassedFirst}
 use Rattle.areas.specs.Cells.{cellAt, verd, Unsettled, bit, settledAs, column}
 use Rattle.areas.specs.Writers.{Writes, Marked, handedOn, HandsOn}
 use Rattle.steps.specs.declared.turn.Turn.{Turn}
@@ -128,6 +129,14 @@ clauseAt T p i = getD (clausesOf T p) i (asserts never)
 
 abbrev pub beforeOf : Case → Pair → ℕ → List Clause
 beforeOf T p i = take i (clausesOf T p)
+
+-- the words of clause i of p's schema
+abbrev pub rowOf : List (RefT (List ℕ)) → Pair → ℕ → ClauseRow
+rowOf words p i = S.clauseAt (lent words 1) (schemaAt (lent words 1) (p .rule) .first + i)
+
+-- the first r of the n clauses of p's schema are tests that its row passes
+abbrev pub PassesFirst : Case → Pair → ℕ → ℕ → Type 0
+PassesFirst T p n r = PassedFirst (T .doc) (p .row) (clauseAt T p) n r
 
 -- ---- the areas
 

@@ -3,6 +3,10 @@
 // goes down in the record or along an unguarded chain: the rank of a pair is levels left x 33 + its
 // schema's longest unguarded chain.
 //
+// Most pairs have tests only, and the row's own words tell that it passes them: such a pair is settled
+// where it is applied, and no frame is made for it. The root is judged by `judge_root`, so that
+// `judge_pair` has two callers and `apply` becomes part of `judge_clause`.
+//
 // 1,024 pairs can be open at once, so an open pair keeps little: sheets, texts and forms lie behind one
 // address each, and what is read of them is read in `read`, where no pair is open.
 //
@@ -10,25 +14,29 @@
 // asked of `read::next_clause` and `read::next_step`.
 //
 // The contracts cite `specs/State.antt`.
+ghost use mathlib.Core.Path.{_≡_};
 ghost use Prim.Native.Nat.{_+_, _<_};
 ghost use Rattle.rulesheet.specs.Sheet.{schemaAt};
 ghost use Rattle.areas.specs.Cells.{pairIs, Unsettled};
-ghost use Rattle.cycle.specs.State.{lent, lentCase, Lent, rankOf, Ready, Judged, ClauseJudged, Applying};
+ghost use Rattle.cycle.specs.State.{lent, lentCase, Lent, rankOf, rowOf, Ready, PassesFirst, Judged, ClauseJudged, Applying};
 use crate::read::RULES;
+use crate::read::clause_row;
 use crate::read::clauses_of;
 use crate::read::finish;
 use crate::read::give;
+use crate::read::holds;
 use crate::read::moved;
 use crate::read::next_clause;
 use crate::read::next_step;
+use crate::read::plain;
 use crate::read::schemas_of;
 use crate::read::shut;
 use crate::read::start;
-use crate::read::tried;
 use crate::read::turn;
 use crate::read::verdict_of;
 use areas::settle;
-use clause::test::Tried;
+use rulesheet::few::applies;
+use rulesheet::form::ClauseRow;
 use sheet::record::Pair;
 
 // What judging a clause gives: whether it holds, and how many pairs are settled by then.
@@ -47,7 +55,7 @@ pub struct Verdict {
 
 // Applies a pair: its cell answers if it is settled, and else it is judged. The answer is how many
 // pairs are settled then.
-pub fn apply<'a, 'b>(
+fn apply<'a, 'b>(
     sheets: &'a [&'b [u32]; 2],
     texts: &'a [&'b [u8]; 2],
     forms: &'a [usize; 9],
@@ -63,10 +71,16 @@ pub fn apply<'a, 'b>(
     if verdict_of(forms, cells, p) != 0 {
         return count;
     }
-    judge_pair(sheets, texts, forms, cells, list, count, p)
+    let many = clauses_of(sheets[RULES], forms, p.rule);
+    let passed = plain(sheets, texts, forms, cells, p, many);
+    if passed == many {
+        return settle(cells, list, schemas_of(forms), p, true, count);
+    }
+    judge_pair(sheets, texts, forms, cells, list, count, p, passed)
 }
 
-// Judges the clauses of a pair that is not settled, and settles it.
+// Judges the clauses of a pair that is not settled, of which the first `passed` are tests that its row
+// passes, and settles it.
 fn judge_pair<'a, 'b>(
     sheets: &'a [&'b [u32]; 2],
     texts: &'a [&'b [u8]; 2],
@@ -75,26 +89,26 @@ fn judge_pair<'a, 'b>(
     list: &mut [u32],
     count: usize,
     p: Pair,
+    passed: u32,
 ) -> usize
     requires { ⌜ Lent (now sheets) (now texts) (now forms) ⌝ }
     requires { ⌜ Ready (lentCase (now sheets) (now texts) (now forms)) (rankOf (lentCase (now sheets) (now texts) (now forms)) (pairIs p) + 1) (pairIs p) (now cells) (now list) count ⌝ }
     requires { ⌜ Unsettled (lentCase (now sheets) (now texts) (now forms) .m) (pairIs p) (now cells) ⌝ }
+    requires { ⌜ PassesFirst (lentCase (now sheets) (now texts) (now forms)) (pairIs p) (schemaAt (lent (now sheets) 1) (p .rule .0) .count) passed ⌝ }
     ensures { λ r. ⌜ Judged (lentCase (now (sheets .entry)) (now (texts .entry)) (now (forms .entry))) (pairIs p) (now (cells .entry)) (now (list .entry)) count (now (cells .exit)) (now (list .exit)) r ⌝ }
 {
     let many = clauses_of(sheets[RULES], forms, p.rule);
     let mut ok = true;
     let mut now = count;
-    let mut i = 0;
+    let mut i = passed;
     while i < many {
-        match tried(sheets, texts, forms, cells, p, i) {
-            Tried::Passed(so) => {
-                ok = ok & so;
-            }
-            Tried::Applies => {
-                let d = judge_clause(sheets, texts, forms, cells, list, now, p, i);
-                now = d.count;
-                ok = ok & d.ok;
-            }
+        let row = clause_row(sheets, texts, forms, p, i);
+        if applies(row) {
+            let d = judge_clause(sheets, texts, forms, cells, list, now, p, i, row);
+            now = d.count;
+            ok = ok & d.ok;
+        } else {
+            ok = ok & holds(sheets, texts, forms, cells, p, i);
         }
         i = next_clause(forms, many, i, ok);
     }
@@ -102,7 +116,8 @@ fn judge_pair<'a, 'b>(
     settle(cells, list, schemas_of(forms), p, ok, now)
 }
 
-// Judges clause i of a pair that is not settled, which applies schemas: one pair after the other.
+// Judges clause i of a pair that is not settled, which applies schemas and has the words `row`: one pair
+// after the other.
 fn judge_clause<'a, 'b>(
     sheets: &'a [&'b [u32]; 2],
     texts: &'a [&'b [u8]; 2],
@@ -112,11 +127,13 @@ fn judge_clause<'a, 'b>(
     count: usize,
     p: Pair,
     i: u32,
+    row: ClauseRow,
 ) -> Done
     requires { ⌜ Lent (now sheets) (now texts) (now forms) ⌝ }
     requires { ⌜ Ready (lentCase (now sheets) (now texts) (now forms)) (rankOf (lentCase (now sheets) (now texts) (now forms)) (pairIs p)) (pairIs p) (now cells) (now list) count ⌝ }
     requires { ⌜ Unsettled (lentCase (now sheets) (now texts) (now forms) .m) (pairIs p) (now cells) ⌝ }
     requires { ⌜ (i < schemaAt (lent (now sheets) 1) (p .rule .0) .count) × Applying (lentCase (now sheets) (now texts) (now forms)) (pairIs p) i ⌝ }
+    requires { ⌜ row ≡ rowOf (now sheets) (pairIs p) i ⌝ }
     ensures { λ r. ⌜ ClauseJudged (lentCase (now (sheets .entry)) (now (texts .entry)) (now (forms .entry))) (pairIs p) i (now (cells .entry)) (now (list .entry)) count (now (cells .exit)) (now (list .exit)) r ⌝ }
 {
     let from = start(sheets, texts, forms, p, i);
@@ -124,10 +141,10 @@ fn judge_clause<'a, 'b>(
     let mut now = count;
     let mut x = 0;
     loop {
-        let at = turn(sheets, texts, forms, cells, p, i, from, x, tally);
+        let at = turn(sheets, texts, forms, cells, p, i, row, from, x, tally);
         if !at.go {
             return Done {
-                ok: finish(sheets, texts, forms, p, i, tally),
+                ok: finish(sheets, texts, forms, p, i, row, tally),
                 count: now,
             };
         }
@@ -135,6 +152,25 @@ fn judge_clause<'a, 'b>(
         let held = verdict_of(forms, cells, at.pair) == 1;
         tally = moved(at.hits, at.branch, at.step, tally, held);
         give(sheets, texts, forms, cells, p, at.pair, !at.hits | held);
-        x = next_step(sheets, texts, forms, p, i, at.step, tally);
+        x = next_step(sheets, texts, forms, p, i, row, at.step, tally);
     }
+}
+
+// Judges the root pair, or any other that is not settled where none is.
+pub fn judge_root<'a, 'b>(
+    sheets: &'a [&'b [u32]; 2],
+    texts: &'a [&'b [u8]; 2],
+    forms: &'a [usize; 9],
+    cells: &mut [u8],
+    list: &mut [u32],
+    p: Pair,
+) -> usize
+    requires { ⌜ Lent (now sheets) (now texts) (now forms) ⌝ }
+    requires { ⌜ Ready (lentCase (now sheets) (now texts) (now forms)) (rankOf (lentCase (now sheets) (now texts) (now forms)) (pairIs p) + 1) (pairIs p) (now cells) (now list) 0 ⌝ }
+    requires { ⌜ Unsettled (lentCase (now sheets) (now texts) (now forms) .m) (pairIs p) (now cells) ⌝ }
+    ensures { λ r. ⌜ Judged (lentCase (now (sheets .entry)) (now (texts .entry)) (now (forms .entry))) (pairIs p) (now (cells .entry)) (now (list .entry)) 0 (now (cells .exit)) (now (list .exit)) r ⌝ }
+{
+    let many = clauses_of(sheets[RULES], forms, p.rule);
+    let passed = plain(sheets, texts, forms, cells, p, many);
+    judge_pair(sheets, texts, forms, cells, list, 0, p, passed)
 }

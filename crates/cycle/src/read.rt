@@ -12,16 +12,20 @@ ghost use Rattle.rulesheet.specs.Read.{RulesFormed};
 ghost use Rattle.rulesheet.specs.Sheet.{schemaAt};
 ghost use Rattle.areas.specs.Cells.{pairIs, cellAt, verd, Unsettled};
 ghost use Rattle.areas.specs.Writers.{kept};
-ghost use Rattle.clause.specs.Read.{Tries};
+ghost use Rattle.rulesheet.specs.Ruleset.{Test, asserts};
+ghost use Rattle.meaning.specs.Rules.{passes};
 ghost use Rattle.plan.specs.Plan as P;
 ghost use Rattle.steps.specs.Read.{Started};
-ghost use Rattle.cycle.specs.State.{lentCase, wayBy, wayWord, wayLent, goesOn, nextAt, formsOf, recordFormIn, ruleFormIn, FormsFit, clauseAt, beforeOf, Reads, ReadsClause, Applying};
+ghost use Rattle.cycle.specs.State.{lent, lentCase, rowOf, PassesFirst, wayBy, wayWord, wayLent, goesOn, nextAt, formsOf, recordFormIn, ruleFormIn, FormsFit, clauseAt, beforeOf, Reads, ReadsClause, Applying};
 ghost use Rattle.cycle.specs.State.{Turns, TurnsTo, finishAt, WritesMarks, Hands, givenOn, MarksWritten};
-use areas::hand_on;
-use areas::shut_marks;
-use clause::test::Tried;
-use clause::test::try_clause;
+use areas::add_marks;
+use areas::take_marks;
+use areas::write_mark;
+use clause::plain::plainly_passed;
+use clause::test::passes_clause;
+use rulesheet::form::ClauseRow;
 use rulesheet::form::RuleForm;
+use rulesheet::form::clause_at;
 use rulesheet::form::schema_at;
 use sheet::record::Pair;
 use sheet::record::RecordForm;
@@ -152,17 +156,18 @@ pub(crate) fn next_step<'a, 'b>(
     forms: &'a [usize; 9],
     p: Pair,
     i: u32,
+    row: ClauseRow,
     step: u32,
     tally: u32,
 ) -> u32
-    requires { ⌜ ReadsClause (now sheets) (now texts) (now forms) (pairIs p) i × (step < 4294967295) ⌝ }
+    requires { ⌜ ReadsClause (now sheets) (now texts) (now forms) (pairIs p) i × (row ≡ rowOf (now sheets) (pairIs p) i) × (step < 4294967295) ⌝ }
     ensures { λ r. ⌜ r ≡ nextAt (lentCase (now (sheets .entry)) (now (texts .entry)) (now (forms .entry))) (pairIs p) i step tally ⌝ }
 {
     if goes_on(forms, tally == 0) {
         return step + 1;
     }
     let rule_form = rules_form(forms);
-    after_miss(sheets[RULES], texts[RULES], rule_form, p.rule, i, step)
+    after_miss(sheets[RULES], texts[RULES], rule_form, p.rule, i, row, step)
 }
 
 // ---- a pair
@@ -183,22 +188,67 @@ pub(crate) fn clauses_of(rules: &[u32], forms: &[usize; 9], s: RuleRow) -> u32
     schema_at(rules, rules_form(forms), s).count
 }
 
-// What trying clause i of the pair tells.
-pub(crate) fn tried<'a, 'b>(
+// How many of the first clauses of the pair's schema, which has `many`, are tests that its row's own
+// words tell it to pass.
+pub(crate) fn plain<'a, 'b>(
+    sheets: &'a [&'b [u32]; 2],
+    texts: &'a [&'b [u8]; 2],
+    forms: &'a [usize; 9],
+    cells: &[u8],
+    p: Pair,
+    many: u32,
+) -> u32
+    requires { ⌜ Reads (now sheets) (now texts) (now forms) (pairIs p) × (many ≡ schemaAt (lent (now sheets) 1) (p .rule .0) .count) ⌝ }
+    requires { ⌜ Unsettled (lentCase (now sheets) (now texts) (now forms) .m) (pairIs p) (now cells) ⌝ }
+    ensures { λ r. ⌜ PassesFirst (lentCase (now (sheets .entry)) (now (texts .entry)) (now (forms .entry))) (pairIs p) many r ⌝ }
+{
+    let form = record_form(forms);
+    let rule_form = rules_form(forms);
+    plainly_passed(
+        sheets[RECORD],
+        texts[RECORD],
+        form,
+        sheets[RULES],
+        texts[RULES],
+        rule_form,
+        cells,
+        p,
+        many,
+    )
+}
+
+// The words of clause i of the pair's schema.
+pub(crate) fn clause_row<'a, 'b>(
+    sheets: &'a [&'b [u32]; 2],
+    texts: &'a [&'b [u8]; 2],
+    forms: &'a [usize; 9],
+    p: Pair,
+    i: u32,
+) -> ClauseRow
+    requires { ⌜ ReadsClause (now sheets) (now texts) (now forms) (pairIs p) i ⌝ }
+    ensures { λ r. ⌜ r ≡ rowOf (now (sheets .entry)) (pairIs p) i ⌝ }
+{
+    let rule_form = rules_form(forms);
+    let rules = sheets[RULES];
+    clause_at(rules, rule_form, schema_at(rules, rule_form, p.rule).first + i)
+}
+
+// Whether the pair's row passes clause i of its schema, which is a test.
+pub(crate) fn holds<'a, 'b>(
     sheets: &'a [&'b [u32]; 2],
     texts: &'a [&'b [u8]; 2],
     forms: &'a [usize; 9],
     cells: &[u8],
     p: Pair,
     i: u32,
-) -> Tried
+) -> bool
     requires { ⌜ ReadsClause (now sheets) (now texts) (now forms) (pairIs p) i ⌝ }
     requires { ⌜ Unsettled (lentCase (now sheets) (now texts) (now forms) .m) (pairIs p) (now cells) ⌝ }
-    ensures { λ r. ⌜ Tries (lentCase (now (sheets .entry)) (now (texts .entry)) (now (forms .entry)) .doc) (p .row .0) (clauseAt (lentCase (now (sheets .entry)) (now (texts .entry)) (now (forms .entry))) (pairIs p) i) r ⌝ }
+    ensures { λ r. ⌜ ((t : Test) → clauseAt (lentCase (now (sheets .entry)) (now (texts .entry)) (now (forms .entry))) (pairIs p) i ≡ asserts t → r ≡ passes (lentCase (now (sheets .entry)) (now (texts .entry)) (now (forms .entry)) .doc) (p .row .0) t) ⌝ }
 {
     let form = record_form(forms);
     let rule_form = rules_form(forms);
-    try_clause(
+    passes_clause(
         sheets[RECORD],
         texts[RECORD],
         form,
@@ -236,11 +286,12 @@ pub(crate) fn turn<'a, 'b>(
     cells: &[u8],
     p: Pair,
     i: u32,
+    row: ClauseRow,
     from: u32,
     x: u32,
     tally: u32,
 ) -> Turn
-    requires { ⌜ ReadsClause (now sheets) (now texts) (now forms) (pairIs p) i ⌝ }
+    requires { ⌜ ReadsClause (now sheets) (now texts) (now forms) (pairIs p) i × (row ≡ rowOf (now sheets) (pairIs p) i) ⌝ }
     requires { ⌜ Turns (lentCase (now sheets) (now texts) (now forms)) (pairIs p) i from (now cells) ⌝ }
     ensures { λ r. ⌜ TurnsTo (lentCase (now (sheets .entry)) (now (texts .entry)) (now (forms .entry))) (pairIs p) i x tally (now (cells .entry)) r ⌝ }
 {
@@ -256,6 +307,7 @@ pub(crate) fn turn<'a, 'b>(
         cells,
         p,
         i,
+        row,
         from,
         x,
         tally,
@@ -276,10 +328,16 @@ pub(crate) fn give<'a, 'b>(
     requires { ⌜ Hands (lentCase (now sheets) (now texts) (now forms)) (pairIs p) (pairIs q) (now cells) ⌝ }
     ensures { λ r. ⌜ MarksWritten (lentCase (now (sheets .entry)) (now (texts .entry)) (now (forms .entry))) (pairIs p) (givenOn keeps (lentCase (now (sheets .entry)) (now (texts .entry)) (now (forms .entry)) .m) (now (cells .entry)) (p .row .0) (p .rule .0) (q .row .0) (q .rule .0)) (now (cells .entry)) (now (cells .exit)) ⌝ }
 {
-    if keeps {
+    if !keeps {
+        return;
+    }
+    let m = schemas_of(forms);
+    if q.row.0 == p.row.0 {
         let form = record_form(forms);
         let kids = children_of(sheets[RECORD], form, p.row);
-        hand_on(cells, schemas_of(forms), kids, p, q);
+        add_marks(cells, m, kids, p.rule, q.rule);
+    } else {
+        write_mark(cells, m, q.row, p.rule, true);
     }
 }
 
@@ -290,9 +348,10 @@ pub(crate) fn finish<'a, 'b>(
     forms: &'a [usize; 9],
     p: Pair,
     i: u32,
+    row: ClauseRow,
     tally: u32,
 ) -> bool
-    requires { ⌜ ReadsClause (now sheets) (now texts) (now forms) (pairIs p) i × Applying (lentCase (now sheets) (now texts) (now forms)) (pairIs p) i ⌝ }
+    requires { ⌜ ReadsClause (now sheets) (now texts) (now forms) (pairIs p) i × (row ≡ rowOf (now sheets) (pairIs p) i) × Applying (lentCase (now sheets) (now texts) (now forms)) (pairIs p) i ⌝ }
     ensures { λ r. ⌜ r ≡ finishAt (lentCase (now (sheets .entry)) (now (texts .entry)) (now (forms .entry))) (pairIs p) i tally ⌝ }
 {
     let form = record_form(forms);
@@ -305,6 +364,7 @@ pub(crate) fn finish<'a, 'b>(
         rule_form,
         p,
         i,
+        row,
         tally,
     )
 }
@@ -322,7 +382,10 @@ pub(crate) fn shut<'a, 'b>(
     requires { ⌜ WritesMarks (lentCase (now sheets) (now texts) (now forms)) (pairIs p) (now cells) ⌝ }
     ensures { λ r. ⌜ MarksWritten (lentCase (now (sheets .entry)) (now (texts .entry)) (now (forms .entry))) (pairIs p) (kept (lentCase (now (sheets .entry)) (now (texts .entry)) (now (forms .entry)) .m) (now (cells .entry)) (p .rule .0) ok) (now (cells .entry)) (now (cells .exit)) ⌝ }
 {
+    if ok {
+        return;
+    }
     let form = record_form(forms);
     let kids = children_of(sheets[RECORD], form, p.row);
-    shut_marks(cells, schemas_of(forms), kids, p.rule, ok);
+    take_marks(cells, schemas_of(forms), kids, p.rule);
 }

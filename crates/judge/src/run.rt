@@ -6,7 +6,7 @@ ghost use Rattle.judge.specs.Whole.{Exact, Roomy, leftBy, judgedOf};
 use areas::clear;
 use areas::marked_of;
 use cycle::cycle::Verdict;
-use cycle::cycle::apply;
+use cycle::cycle::judge_root;
 use cycle::read::forms_of;
 use cycle::read::verdict_of;
 use rulesheet::form::RuleForm;
@@ -48,7 +48,7 @@ fn run_exact<'a>(
         rule: RuleRow(0),
     };
     let forms = forms_of(form, rule_form, cut);
-    let count = apply(&sheets, &texts, &forms, cells, list, 0, root);
+    let count = judge_root(&sheets, &texts, &forms, cells, list, root);
     let ok = verdict_of(&forms, cells, root) == 1;
     let kids = children_of(record, form, RecordRow(0));
     let marked = marked_of(cells, wide(rule_form.m), kids);

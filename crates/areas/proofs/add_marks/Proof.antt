@@ -3,7 +3,7 @@ use mathlib.Core.Path.{_≡_, refl}
 use Prim.Native.Nat.{_-_, _≤_}
 use native.Mathlib.Omega.{arith}
 use Rattle.areas.specs.Writers.{Marked, merged}
-use Rattle.areas.proofs.Writers.{marked-none, marked-more, merged-read, cell-below, writes-row}
+use Rattle.areas.proofs.Writers.{marked-none, marked-more, merged-later, one-row, writes-one}
 use Rattle.areas.proofs.add_marks.Statement.{statement}
 use Rattle.areas.proofs.add_marks.Tie as tie
 
@@ -17,16 +17,10 @@ loop-holds : tie.Need-loop-holds Inv-loop μ-loop
 loop-holds c = (omega arith, marked-none _ _ _ _ _)
 
 add-t11 : tie.Need-add-t11 Inv-loop μ-loop
-add-t11 c = omega (arith, c .before .before .before .before .before .pre .1)
+add-t11 c = omega (arith, c .before .before .before .before .before .before .pre .1)
 
-is-marked-requires : tie.Need-is-marked-requires Inv-loop μ-loop
-is-marked-requires c κs = let w = c .before .before .before .before .before .before .pre .0 in omega (arith, cell-below w (c .before .before .before .before .loop .i) (c .before .before .if1 .taken) _ (w .rule-in), c .before .before .before .before .loop .inv .1 .len)
-
-is-marked-requires-2 : tie.Need-is-marked-requires-2 Inv-loop μ-loop
-is-marked-requires-2 c κs = let w = c .before .before .before .before .before .before .before .before .pre .0 in omega (arith, cell-below w (c .before .before .before .before .before .before .loop .i) (c .before .before .before .before .if1 .taken) _ (w .from-in), c .before .before .before .before .before .before .loop .inv .1 .len)
-
-write-mark-requires : tie.Need-write-mark-requires Inv-loop μ-loop
-write-mark-requires c κs = writes-row (c .before .before .before .before .before .before .before .before .before .before .pre .0) (c .before .before .before .before .before .before .before .before .loop .inv .1 .len) (omega arith) (omega arith)
+add-mark-requires : tie.Need-add-mark-requires Inv-loop μ-loop
+add-mark-requires c κs = writes-one (c .before .before .before .before .before .before .pre .0) (c .before .before .before .before .loop .inv .1 .len) (omega arith) (omega arith)
 
 add-i : tie.Need-add-i Inv-loop μ-loop
 add-i c = omega arith
@@ -36,9 +30,9 @@ loop-less c = omega arith
 
 loop-again : tie.Need-loop-again Inv-loop μ-loop
 loop-again c =
-    let w = c .before .before .before .before .before .before .before .before .before .before .before .before .before .pre .0 in
-    let p = c .before .before .before .before .before .before .before .before .before .before .before .loop .inv .1 in
-    (omega arith, marked-more p (w .rule-in) refl (merged-read p (w .rule-in) (w .from-in) refl refl (c .before .before .before .before .before .before .is-marked .ensures) refl (c .before .before .before .before .is-marked2 .ensures)) (c .before .before .write-mark .ensures))
+    let w = c .before .before .before .before .before .before .before .before .before .pre .0 in
+    let p = c .before .before .before .before .before .before .before .loop .inv .1 in
+    (omega arith, marked-more p (w .rule-in) refl (merged-later p (w .rule-in) (w .from-in) refl) (one-row (c .before .before .add-mark .ensures)))
 
 same-length : tie.Need-same-length Inv-loop μ-loop
 same-length c = c .before .before .loop .inv .1 .len
@@ -54,9 +48,7 @@ add-marks-spec =
     μ-loop
     loop-holds
     add-t11
-    is-marked-requires
-    is-marked-requires-2
-    write-mark-requires
+    add-mark-requires
     add-i
     loop-less
     loop-again

@@ -1,0 +1,30 @@
+-- `take_mark` meets its contract. Assumes nothing.
+use native.Mathlib.Omega.{arith}
+use Rattle.areas.proofs.Writers.{unmarked, cell-below, writes-row}
+use mathlib.Core.Path.{refl}
+use borrow.Author.Needs.{needs}
+use Rattle.areas.proofs.take_mark.Statement.{statement}
+use Rattle.areas.proofs.take_mark.Tie as tie
+
+is-marked-requires : tie.Need-is-marked-requires
+is-marked-requires c κs = let w = c .before .before .pre in omega (arith, cell-below w 0 (omega arith) _ (w .rule-in))
+
+write-mark-requires : tie.Need-write-mark-requires
+write-mark-requires c κs = search needs
+
+same-length : tie.Need-same-length
+same-length c = search needs
+
+returns : tie.Need-returns
+returns c = search needs
+
+same-length-2 : tie.Need-same-length-2
+same-length-2 c = search needs
+
+returns-2 : tie.Need-returns-2
+returns-2 c = unmarked _ _ _ _ (c .before .is-marked .ensures) (c .if1 .left)
+
+pub take-mark-spec : {M : Type 1} → statement M
+take-mark-spec =
+    tie.close
+    (tie.spec is-marked-requires write-mark-requires same-length returns same-length-2 returns-2)
