@@ -41,7 +41,7 @@ module _ (a b : Decimal) where
       ∙ rw (ten-split (scale-max - a .scale) (b .scale - a .scale) (scale-max - b .scale) (omega arith), ← e, ← mul-assoc, ← times-most (a .digits * u) (b .digits) (10 ^ (scale-max - b .scale)) (ten-above (scale-max - b .scale)))
       (sym (divided-right (a .digits) (b .digits) u (rw e (ten-above (b .scale - a .scale))))))
 
-  pub places-left : (u : ℕ) → u ≡ 10 ^ (a .scale - b .scale) → b .scale < a .scale → a .scale ≤ scale-max → leb ((a .digits + (u - 1)) / u) (b .digits) ≡ leb (natAbs (value a)) (natAbs (value b))
+  pub places-left : (u : ℕ) → u ≡ 10 ^ (a .scale - b .scale) → b .scale ≤ a .scale → a .scale ≤ scale-max → leb ((a .digits + (u - 1)) / u) (b .digits) ≡ leb (natAbs (value a)) (natAbs (value b))
   places-left u e h few =
       sym
       (by-sizes

@@ -8,6 +8,7 @@ use native.Mathlib.Omega.{arith}
 use lib.Dec.{eqb}
 use lib.IntN.{ℤ, pos, natAbs, _*ℤ_}
 use lib.Signed.{leZ}
+use borrow.Author.Tests.{eq-eqb, ne-eqb}
 use Rattle.decimal.specs.declared.Decimal.{Decimal}
 use Rattle.decimal.specs.Value.{scale-max, withSign, signedDigits, billionths, value}
 use Rattle.decimal.proofs.Tests.{zero-times}
@@ -58,5 +59,12 @@ module _ (a b : Decimal) where
       ∙ most-by-signs p q (natAbs (value a)) (natAbs (value b))
 
   -- one not below zero is at most one below zero only where both are zero
-  pub most-zeros : a .below ≡ false → b .below ≡ true → leZ (value a) (value b) ≡ (eqb (a .digits) 0 && eqb (b .digits) 0)
-  most-zeros ea eb = most-is ea eb ∙ cc (zero-is a, zero-is b)
+  module _ (ea : a .below ≡ false) (eb : b .below ≡ true) where
+    most-zeros : leZ (value a) (value b) ≡ (eqb (a .digits) 0 && eqb (b .digits) 0)
+    most-zeros = most-is ea eb ∙ cc (zero-is a, zero-is b)
+
+    pub zero-most : a .digits ≡ 0 → eqb (b .digits) 0 ≡ leZ (value a) (value b)
+    zero-most e = sym (most-zeros ∙ rw (eq-eqb (a .digits) 0 e))
+
+    pub above-not-most : (a .digits ≡ 0 → ⊥) → eqb (a .digits) 0 ≡ leZ (value a) (value b)
+    above-not-most n = sym (most-zeros ∙ rw (ne-eqb (a .digits) 0 n))

@@ -58,15 +58,12 @@ pub fn power(n: u32) -> u64
     }
 }
 
-// Whether the size of `a` is at most that of `b`, their signs left out. At different scales the digits with more places are divided,
-// rounded up on the left and down on the right: the others multiplied may not fit.
+// Whether the size of `a` is at most that of `b`, their signs left out. The digits with more places are divided, rounded up on the left
+// and down on the right: the others multiplied may not fit.
 fn size_at_most(a: Decimal, b: Decimal) -> bool
     requires { ⌜ Plain a × Plain b ⌝ }
     ensures { λ r. ⌜ r ≡ leb (natAbs (value a)) (natAbs (value b)) ⌝ }
 {
-    if a.scale == b.scale {
-        return a.digits <= b.digits;
-    }
     if a.scale < b.scale {
         return a.digits <= b.digits / power(b.scale - a.scale);
     }
@@ -74,8 +71,8 @@ fn size_at_most(a: Decimal, b: Decimal) -> bool
     (a.digits + (unit - 1)) / unit <= b.digits
 }
 
-// Whether a ≤ b. The two zeros are at most each other.
-pub fn at_most(a: Decimal, b: Decimal) -> bool
+// Whether a ≤ b, at whatever scales.
+fn unlike_at_most(a: Decimal, b: Decimal) -> bool
     requires { ⌜ Plain a × Plain b ⌝ }
     ensures { λ r. ⌜ r ≡ leZ (value a) (value b) ⌝ }
 {
@@ -89,6 +86,34 @@ pub fn at_most(a: Decimal, b: Decimal) -> bool
         return a.digits == 0 && b.digits == 0;
     }
     size_at_most(a, b)
+}
+
+// Whether a ≤ b, at one scale: then the digits are compared as they stand.
+fn alike_at_most(a: Decimal, b: Decimal) -> bool
+    requires { ⌜ Plain a × Plain b × (a .scale ≡ b .scale) ⌝ }
+    ensures { λ r. ⌜ r ≡ leZ (value a) (value b) ⌝ }
+{
+    if a.below {
+        if b.below {
+            return b.digits <= a.digits;
+        }
+        return true;
+    }
+    if b.below {
+        return a.digits == 0 && b.digits == 0;
+    }
+    a.digits <= b.digits
+}
+
+// Whether a ≤ b. The two zeros are at most each other.
+pub fn at_most(a: Decimal, b: Decimal) -> bool
+    requires { ⌜ Plain a × Plain b ⌝ }
+    ensures { λ r. ⌜ r ≡ leZ (value a) (value b) ⌝ }
+{
+    if a.scale == b.scale {
+        return alike_at_most(a, b);
+    }
+    unlike_at_most(a, b)
 }
 
 // Whether a < b: not b ≤ a.

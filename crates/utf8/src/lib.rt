@@ -4,6 +4,7 @@
 // `Counting` what is computed, and `Places` the places inside a character.
 ghost use mathlib.Core.Path.{_≡_};
 ghost use mathlib.Core.Bool.{true};
+ghost use lib.Dec.{leb};
 ghost use lib.ListN.{length};
 ghost use Rattle.text.specs.Part.{fits, part};
 ghost use Rattle.utf8.specs.Encoding.{Utf8, characters as charactersOf};
@@ -66,6 +67,26 @@ pub fn characters(text: &[u8], range: Range) -> u32
         many += 1 + (at - next);
     }
     many as u32
+}
+
+// Whether the range has at least k characters, if it is UTF-8: no more than k of their first bytes are read.
+pub fn has_characters(text: &[u8], range: Range, k: u32) -> bool
+    requires { ⌜ fits (length (now text)) range ≡ true ⌝ }
+    ensures { λ r. ⌜ r ≡ leb k (count (part (now (text .entry)) range)) ⌝ }
+{
+    let start = range.start as usize;
+    let n = range.length as usize;
+    let end = start + n;
+    let mut at = start;
+    let mut many: u32 = 0;
+    while many < k {
+        if end <= at {
+            return false;
+        }
+        at += lead_length(text[at]) as usize;
+        many += 1;
+    }
+    true
 }
 
 // Whether the place is inside a character of a text that is UTF-8.
