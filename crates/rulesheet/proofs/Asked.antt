@@ -1,4 +1,6 @@
 -- Clauses of a few codes.
+--     types-decoded, minimum-decoded, maximum-decoded, above-decoded, below-decoded, min-length-decoded, max-length-decoded, min-items-decoded, max-items-decoded, min-properties-decoded, max-properties-decoded
+--                       what each code is decoded to whose test a row's own words mostly tell
 --     all-of-decoded, any-of-decoded, one-of-decoded, not-of-decoded, ref-of-decoded, if-decoded, dependent-decoded, members-decoded, additional-decoded, prefix-decoded, items-decoded, contains-decoded, fresh-members-decoded, fresh-items-decoded
 --                       what each code that applies schemas is decoded to
 --     quiet             what is asked of a few codes is not asked of a clause of another
@@ -11,11 +13,14 @@ use mathlib.Core.Path.{_≡_, refl, sym, ap, _∙_}
 use Prim.Native.Nat.{ℕ}
 use lib.Dec.{eqb}
 use borrow.Author.Tests.{eqb-true}
+use Rattle.decimal.specs.declared.Decimal.{Decimal}
+use Rattle.decimal.specs.Value.{OfWord}
 use Rattle.sheet.specs.declared.record.RuleRow.{RuleRow}
 use Rattle.rulesheet.specs.declared.clause.Entries.{Entries}
+use Rattle.rulesheet.specs.declared.clause.Clause.the-variants.{Types, Minimum, Maximum, ExclusiveMinimum, ExclusiveMaximum, MinLength, MaxLength, MinItems, MaxItems, MinProperties, MaxProperties}
 use Rattle.rulesheet.specs.declared.clause.Clause.the-variants.{AllOf, AnyOf, OneOf, Not, Ref, IfThenElse, DependentSchemas, Properties, AdditionalProperties, PrefixItems, Items, Contains, UnevaluatedProperties, UnevaluatedItems}
 use Rattle.rulesheet.specs.Ruleset as R
-use Rattle.rulesheet.specs.Ruleset.{asserts, never}
+use Rattle.rulesheet.specs.Ruleset.{asserts, never, minimum, maximum, exclusiveMinimum, exclusiveMaximum}
 use Rattle.rulesheet.specs.Codes.{Parts, CodeLine, codes, unknown, pickLine, lineIn, meansOf}
 use Rattle.rulesheet.specs.Clauses.{Decoded, telling, applying, told, sparing}
 use Rattle.rulesheet.proofs.Reaching.{Every, done, and, in-table}
@@ -28,6 +33,51 @@ module _ (first count : ℕ) where
 
   abbrev schema : RuleRow
   schema = record { 0 = first }
+
+  pub types-decoded : Decoded 2 first count (Types first)
+  unfolding lineIn
+  types-decoded = record { means = λ ws ts. refl; holds = tt }
+
+  module _ {d : Decimal} (o : OfWord first count d) where
+    pub minimum-decoded : Decoded 10 first count (Minimum d)
+    unfolding lineIn
+    minimum-decoded = record { means = λ ws ts. ap (λ z. asserts (minimum z)) (o .means); holds = (o, inl refl) }
+
+    pub maximum-decoded : Decoded 11 first count (Maximum d)
+    unfolding lineIn
+    maximum-decoded = record { means = λ ws ts. ap (λ z. asserts (maximum z)) (o .means); holds = (o, inl refl) }
+
+    pub above-decoded : Decoded 12 first count (ExclusiveMinimum d)
+    unfolding lineIn
+    above-decoded = record { means = λ ws ts. ap (λ z. asserts (exclusiveMinimum z)) (o .means); holds = (o, inl refl) }
+
+    pub below-decoded : Decoded 13 first count (ExclusiveMaximum d)
+    unfolding lineIn
+    below-decoded = record { means = λ ws ts. ap (λ z. asserts (exclusiveMaximum z)) (o .means); holds = (o, inl refl) }
+
+  pub min-length-decoded : Decoded 20 first count (MinLength first)
+  unfolding lineIn
+  min-length-decoded = record { means = λ ws ts. refl; holds = tt }
+
+  pub max-length-decoded : Decoded 21 first count (MaxLength first)
+  unfolding lineIn
+  max-length-decoded = record { means = λ ws ts. refl; holds = tt }
+
+  pub min-items-decoded : Decoded 22 first count (MinItems first)
+  unfolding lineIn
+  min-items-decoded = record { means = λ ws ts. refl; holds = tt }
+
+  pub max-items-decoded : Decoded 23 first count (MaxItems first)
+  unfolding lineIn
+  max-items-decoded = record { means = λ ws ts. refl; holds = tt }
+
+  pub min-properties-decoded : Decoded 24 first count (MinProperties first)
+  unfolding lineIn
+  min-properties-decoded = record { means = λ ws ts. refl; holds = tt }
+
+  pub max-properties-decoded : Decoded 25 first count (MaxProperties first)
+  unfolding lineIn
+  max-properties-decoded = record { means = λ ws ts. refl; holds = tt }
 
   pub all-of-decoded : Decoded 30 first count (AllOf entries)
   unfolding lineIn

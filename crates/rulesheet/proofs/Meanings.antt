@@ -3,11 +3,12 @@
 --     decodes       a clause is decoded by the number of its code
 --     means-by      a clause that was decoded from its row is the clause of the rules
 --     tested-by     and what it holds is within its bounds
+--     plain-by, plain-none     a clause that was read by its code, and one that was not
 -- Assumes nothing.
 use mathlib.Core.Bool.{true, _&&_}
 use mathlib.Core.List.{List}
 use mathlib.Core.Logic.{⊎-elim}
-use mathlib.Core.Path.{_≡_, sym, ap, subst, _∙_}
+use mathlib.Core.Path.{_≡_, refl, sym, ap, subst, _∙_}
 use Prim.Native.Nat.{ℕ, _+_, _^_, _≤_, _<_}
 use native.Mathlib.Omega.{arith}
 use lib.Dec.{eqb, leb, ltb}
@@ -20,13 +21,14 @@ use Rattle.sheet.specs.Kinds.{number-max, numberOk}
 use Rattle.rulesheet.specs.declared.code.Fields.{Fields}
 use Rattle.rulesheet.specs.declared.code.Fields.the-variants.{Number, Positive, Schema}
 use Rattle.rulesheet.specs.declared.clause.Clause.{Clause}
+use Rattle.rulesheet.specs.declared.clause.Clause.the-variants.{Never}
 use Rattle.rulesheet.specs.declared.form.ClauseRow.{ClauseRow}
 use Rattle.rulesheet.specs.declared.form.RuleForm.{RuleForm}
 use Rattle.rulesheet.specs.Codes.{shapeOf}
 use Rattle.rulesheet.specs.Sheet.{schemasWord, clausesWord, textWord, clauseAt, entryAt, clauseOf}
 use Rattle.rulesheet.specs.Faults.{isList, positiveOk, fieldsOk, entryOk, fieldsAt}
 use Rattle.rulesheet.specs.Read.{ClausesLaid, RulesLaid}
-use Rattle.rulesheet.specs.Clauses.{clauseMeans, Held, bare, number, schema, list, held, Bounded, Listed, Sized, Tested, Holds, Decoded}
+use Rattle.rulesheet.specs.Clauses.{clauseMeans, Held, bare, number, schema, list, held, Bounded, Listed, Sized, Tested, Holds, Decoded, PlainRead}
 use Rattle.rulesheet.proofs.Trailers.{form-m, form-c}
 use Rattle.rulesheet.proofs.Taking.{clause-facts, entry-taken}
 use Rattle.rulesheet.proofs.Walking.{list-inside}
@@ -125,3 +127,9 @@ module _ (ws : List ℕ) (form : RuleForm) (k : ℕ) (h : k < form .c) (row : Cl
 
   pub tested-by : Tested ws form clause
   tested-by = record { bounded = bounded-by (held clause) (d .holds); sized = sized-by (held clause) (d .holds); listed = listed-by (held clause) (d .holds) }
+
+  pub plain-by : PlainRead ws form k clause
+  plain-by = record { means = λ known. means-by; tested = tested-by }
+
+pub plain-none : {ws : List ℕ} {form : RuleForm} {k : ℕ} → PlainRead ws form k Never
+plain-none = record { means = λ known. absurd (known refl); tested = record { bounded = λ laid. tt; sized = λ laid. tt; listed = λ laid. tt } }

@@ -25,7 +25,7 @@ use Rattle.rulesheet.specs.declared.clause.Clause.the-variants.{AllOf, A
 use Rattle.rulesheet.specs.declared.clause.Clause.the-variants.{UnevaluatedProperties, UnevaluatedItems}
 use Rattle.rulesheet.specs.Ruleset as R
 use Rattle.rulesheet.specs.Codes.{no-entry, entryValue, entryName, entryMember, shapeOf, meansOf}
-use Rattle.rulesheet.specs.Sheet.{schemasWord, textWord, entryAt, run, partsOf}
+use Rattle.rulesheet.specs.Sheet.{schemasWord, textWord, entryAt, run, partsOf, clauseOf}
 use Rattle.rulesheet.specs.Faults.{isList, entryOk, isNamed}
 use Rattle.rulesheet.specs.Read.{ClausesLaid, RulesLaid}
 
@@ -176,6 +176,11 @@ Holds fields first count (list named es) = (es .first ≡ first) × (es .count �
 pub record Decoded (code first count : ℕ) (clause : Clause) : Type 0 where
   pub means : (ws ts : List ℕ) → clauseMeans ws ts clause ≡ meansOf code (partsOf ws ts first count)
   pub holds : Holds (shapeOf code .fields) first count (held clause)
+
+-- clause k was read, or it reads as `Never`
+pub record PlainRead (ws : List ℕ) (form : RuleForm) (k : ℕ) (clause : Clause) : Type 0 where
+  pub means : (clause ≡ Never → ⊥) → (ts : List ℕ) → clauseMeans ws ts clause ≡ clauseOf ws ts k
+  pub tested : Tested ws form clause
 
 -- ---- what is read of a list, and of the clauses before
 

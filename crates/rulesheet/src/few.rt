@@ -5,11 +5,12 @@ ghost use mathlib.Core.Path.{_≡_};
 ghost use Prim.Native.Nat.{ℕ, _<_};
 ghost use Rattle.rulesheet.specs.Sheet.{clauseOf};
 ghost use Rattle.rulesheet.specs.Read.{RulesFormed};
-ghost use Rattle.rulesheet.specs.Clauses.{clauseMeans, Tested, telling, applying, told, sparing};
+ghost use Rattle.rulesheet.specs.Clauses.{clauseMeans, Tested, PlainRead, telling, applying, told, sparing};
 use crate::clause::Clause;
 use crate::clause::Entries;
 use crate::form::RuleForm;
 use crate::form::clause_at;
+use decimal::Decimal;
 use sheet::record::RuleRow;
 
 // Clause k if it tells something to those after it.
@@ -98,6 +99,31 @@ pub fn sparing_of(words: &[u32], form: RuleForm, k: u32) -> Clause
         33 => Clause::Not(schema),
         36 => Clause::IfThenElse(entries),
         45 => Clause::Contains(entries),
+        _ => Clause::Never,
+    }
+}
+
+// Clause k if its test is one that a row's own words mostly tell.
+pub fn plain_of(words: &[u32], form: RuleForm, k: u32) -> Clause
+    requires { ⌜ RulesFormed (now words) form × (k < form .c) ⌝ }
+    ensures { λ r. ⌜ PlainRead (now (words .entry)) form k r ⌝ }
+{
+    let row = clause_at(words, form, k);
+    let first = row.first;
+    let count = row.count;
+    let code = row.code;
+    match code {
+        2 => Clause::Types(first),
+        10 => Clause::Minimum(Decimal::of_word(first, count)),
+        11 => Clause::Maximum(Decimal::of_word(first, count)),
+        12 => Clause::ExclusiveMinimum(Decimal::of_word(first, count)),
+        13 => Clause::ExclusiveMaximum(Decimal::of_word(first, count)),
+        20 => Clause::MinLength(first),
+        21 => Clause::MaxLength(first),
+        22 => Clause::MinItems(first),
+        23 => Clause::MaxItems(first),
+        24 => Clause::MinProperties(first),
+        25 => Clause::MaxProperties(first),
         _ => Clause::Never,
     }
 }
