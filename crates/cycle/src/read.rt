@@ -230,7 +230,11 @@ pub(crate) fn clause_row<'a, 'b>(
 {
     let rule_form = rules_form(forms);
     let rules = sheets[RULES];
-    clause_at(rules, rule_form, schema_at(rules, rule_form, p.rule).first + i)
+    clause_at(
+        rules,
+        rule_form,
+        schema_at(rules, rule_form, p.rule).first + i,
+    )
 }
 
 // Whether the pair's row passes clause i of its schema, which is a test.

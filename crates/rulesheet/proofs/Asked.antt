@@ -5,6 +5,7 @@
 --                       what each code that applies schemas is decoded to
 --     quiet             what is asked of a few codes is not asked of a clause of another
 --     telling-few, told-few, applying-few, sparing-few     the few of each question
+--     applies-by, test-by     whether a clause applies schemas, by its code
 -- Assumes nothing.
 use mathlib.Core.List.{List, [], _∷_}
 use mathlib.Core.Logic.{_⊎_, inl, inr, ⊎-elim}
@@ -16,13 +17,15 @@ use borrow.Author.Tests.{eqb-true}
 use Rattle.decimal.specs.declared.Decimal.{Decimal}
 use Rattle.decimal.specs.Value.{OfWord}
 use Rattle.sheet.specs.declared.record.RuleRow.{RuleRow}
+use Rattle.rulesheet.specs.declared.form.ClauseRow.{ClauseRow}
 use Rattle.rulesheet.specs.declared.clause.Entries.{Entries}
 use Rattle.rulesheet.specs.declared.clause.Clause.the-variants.{Types, Minimum, Maximum, ExclusiveMinimum, ExclusiveMaximum, MinLength, MaxLength, MinItems, MaxItems, MinProperties, MaxProperties}
 use Rattle.rulesheet.specs.declared.clause.Clause.the-variants.{AllOf, AnyOf, OneOf, Not, Ref, IfThenElse, DependentSchemas, Properties, AdditionalProperties, PrefixItems, Items, Contains, UnevaluatedProperties, UnevaluatedItems}
 use Rattle.rulesheet.specs.Ruleset as R
 use Rattle.rulesheet.specs.Ruleset.{asserts, never, minimum, maximum, exclusiveMinimum, exclusiveMaximum}
 use Rattle.rulesheet.specs.Codes.{Parts, CodeLine, codes, unknown, pickLine, lineIn, meansOf}
-use Rattle.rulesheet.specs.Clauses.{Decoded, telling, applying, told, sparing}
+use Rattle.rulesheet.specs.Sheet.{clauseAt, partsOf, clauseOf}
+use Rattle.rulesheet.specs.Clauses.{Decoded, telling, applying, told, sparing, appliesAny}
 use Rattle.rulesheet.proofs.Reaching.{Every, done, and, in-table}
 
 -- ---- what a code is decoded to
@@ -193,3 +196,24 @@ sparing-codes = 45 ∷ 36 ∷ 33 ∷ 32 ∷ 31 ∷ []
 pub sparing-few : (code : ℕ) → Differs code sparing-codes → (p : Parts) → sparing (meansOf code p) ≡ asserts never
 unfolding Quiet sparing
 sparing-few = quiet sparing sparing-codes (and (λ d p. refl) (and (λ d p. refl) (and (λ d p. refl) (and (λ d p. refl) (and (λ d p. refl) (and (λ d p. refl) (and (λ d p. refl) (and (λ d p. refl) (and (λ d p. refl) (and (λ d p. refl) (and (λ d p. refl) (and (λ d p. refl) (and (λ d p. refl) (and (λ d p. refl) (and (λ d p. refl) (and (λ d p. refl) (and (λ d p. absurd (d .0 .0 .0 .0 .1 refl)) (and (λ d p. absurd (d .0 .0 .0 .1 refl)) (and (λ d p. absurd (d .0 .0 .1 refl)) (and (λ d p. refl) (and (λ d p. absurd (d .0 .1 refl)) (and (λ d p. refl) (and (λ d p. refl) (and (λ d p. refl) (and (λ d p. refl) (and (λ d p. refl) (and (λ d p. absurd (d .1 refl)) (and (λ d p. refl) (and (λ d p. refl) done))))))))))))))))))))))))))))) refl
+
+-- ---- whether a clause applies schemas
+
+-- a clause of which `applying` leaves nothing is a test
+left-over : (c : R.Clause) → applying c ≡ asserts never → false ≡ appliesAny c
+unfolding applying appliesAny
+left-over (asserts t) e = refl
+left-over (R.inPlace m ss) e = cc
+left-over (R.ifThenElse i t f) e = cc
+left-over (R.dependentSchemas es) e = cc
+left-over (R.contains s least most) e = cc
+left-over (R.takes c) e = cc
+
+module _ {row : ClauseRow} where
+  pub applies-by : {b : Bool} (n : ℕ) → row .code ≡ n → ((p : Parts) → b ≡ appliesAny (meansOf n p)) → (ws ts : List ℕ) (k : ℕ) → row ≡ clauseAt ws k → b ≡ appliesAny (clauseOf ws ts k)
+  unfolding clauseOf
+  applies-by {b} n e says ws ts k read =
+      says (partsOf ws ts (row .first) (row .count)) ∙ rw (sym e, read)
+
+  pub test-by : Differs (row .code) applying-codes → (ws ts : List ℕ) (k : ℕ) → row ≡ clauseAt ws k → false ≡ appliesAny (clauseOf ws ts k)
+  test-by differs = applies-by (row .code) refl (λ p. left-over (meansOf (row .code) p) (applying-few (row .code) differs p))

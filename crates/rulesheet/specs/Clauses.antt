@@ -1,7 +1,7 @@
 -- What the code's clauses stand for: each variant the clause of the rules that its keyword names, over the sheet's words and text; and what the tests
 -- of the sheet say of it.
 -- Assumes nothing.
-use mathlib.Core.Bool.{true}
+use mathlib.Core.Bool.{Bool, true, false}
 use mathlib.Core.List.{List, [], _∷_, map}
 use mathlib.Core.Logic.{_⊎_}
 use mathlib.Core.Path.{_≡_}
@@ -16,6 +16,7 @@ use Rattle.sheet.specs.Doc.{Value}
 use Rattle.rulesheet.specs.declared.code.Fields.{Fields}
 use Rattle.rulesheet.specs.declared.code.Fields.the-variants.{Unknown, Bare, Types as TypesOf, Number, Positive, Limit, Schema, Values, Names, Schemas, Members, Branches, Counted}
 use Rattle.rulesheet.specs.declared.form.RuleForm.{RuleForm}
+use Rattle.rulesheet.specs.declared.form.ClauseRow.{ClauseRow}
 use Rattle.rulesheet.specs.declared.form.EntryRow.{EntryRow}
 use Rattle.rulesheet.specs.declared.clause.Entries.{Entries}
 use Rattle.rulesheet.specs.declared.clause.Clause.{Clause}
@@ -25,7 +26,7 @@ use Rattle.rulesheet.specs.declared.clause.Clause.the-variants.{AllOf, A
 use Rattle.rulesheet.specs.declared.clause.Clause.the-variants.{UnevaluatedProperties, UnevaluatedItems}
 use Rattle.rulesheet.specs.Ruleset as R
 use Rattle.rulesheet.specs.Codes.{no-entry, entryValue, entryName, entryMember, shapeOf, meansOf}
-use Rattle.rulesheet.specs.Sheet.{schemasWord, textWord, entryAt, run, partsOf, clauseOf}
+use Rattle.rulesheet.specs.Sheet.{schemasWord, textWord, clauseAt, entryAt, run, partsOf, clauseOf}
 use Rattle.rulesheet.specs.Faults.{isList, entryOk, isNamed}
 use Rattle.rulesheet.specs.Read.{ClausesLaid, RulesLaid}
 
@@ -182,6 +183,11 @@ pub record PlainRead (ws : List ℕ) (form : RuleForm) (k : ℕ) (clause : Claus
   pub means : (clause ≡ Never → ⊥) → (ts : List ℕ) → clauseMeans ws ts clause ≡ clauseOf ws ts k
   pub tested : Tested ws form clause
 
+-- whichever clause of a sheet has these words, it was read as far as f asks for it
+pub record ReadBy (f : R.Clause → R.Clause) (row : ClauseRow) (clause : Clause) : Type 0 where
+  pub means : (ws ts : List ℕ) (k : ℕ) → row ≡ clauseAt ws k → clauseMeans ws ts clause ≡ f (clauseOf ws ts k)
+  pub tested : (ws : List ℕ) (form : RuleForm) (k : ℕ) → k < form .c → row ≡ clauseAt ws k → Tested ws form clause
+
 -- ---- what is read of a list, and of the clauses before
 
 -- the range that is read as the name of item i of a list: its bytes, and that a list of names has them within the text
@@ -212,6 +218,15 @@ applying (R.ifThenElse i t e) = R.ifThenElse i t e
 applying (R.dependentSchemas es) = R.dependentSchemas es
 applying (R.contains s least most) = R.contains s least most
 applying (R.takes c) = R.takes c
+
+-- whether a clause applies schemas; one that does not is a test
+unfoldable pub appliesAny : R.Clause → Bool
+appliesAny (R.asserts t) = false
+appliesAny (R.inPlace m ss) = true
+appliesAny (R.ifThenElse i t e) = true
+appliesAny (R.dependentSchemas es) = true
+appliesAny (R.contains s least most) = true
+appliesAny (R.takes c) = true
 
 -- a clause, if those before it tell it something. Else one that is told nothing
 unfoldable pub told : R.Clause → R.Clause

@@ -3,11 +3,12 @@
 ghost use mathlib.Core.List.{List};
 ghost use mathlib.Core.Path.{_≡_};
 ghost use Prim.Native.Nat.{ℕ, _<_};
-ghost use Rattle.rulesheet.specs.Sheet.{clauseOf};
+ghost use Rattle.rulesheet.specs.Sheet.{clauseAt, clauseOf};
 ghost use Rattle.rulesheet.specs.Read.{RulesFormed};
-ghost use Rattle.rulesheet.specs.Clauses.{clauseMeans, Tested, PlainRead, telling, applying, told, sparing};
+ghost use Rattle.rulesheet.specs.Clauses.{clauseMeans, Tested, PlainRead, ReadBy, telling, applying, told, sparing, appliesAny};
 use crate::clause::Clause;
 use crate::clause::Entries;
+use crate::form::ClauseRow;
 use crate::form::RuleForm;
 use crate::form::clause_at;
 use decimal::Decimal;
@@ -48,13 +49,34 @@ pub fn told_of(words: &[u32], form: RuleForm, k: u32) -> Clause
     }
 }
 
-// Clause k if it applies schemas.
-pub fn applied_of(words: &[u32], form: RuleForm, k: u32) -> Clause
-    requires { ⌜ RulesFormed (now words) form × (k < form .c) ⌝ }
-    ensures { λ r. ⌜ ((ts : List ℕ) → clauseMeans (now (words .entry)) ts r ≡ applying (clauseOf (now (words .entry)) ts k)) ⌝ }
-    ensures { λ r. ⌜ Tested (now (words .entry)) form r ⌝ }
+// Whether the clause of these words applies schemas.
+pub fn applies(row: ClauseRow) -> bool
+    ensures { λ r. ⌜ ((ws ts : List ℕ) (k : ℕ) → row ≡ clauseAt ws k → r ≡ appliesAny (clauseOf ws ts k)) ⌝ }
 {
-    let row = clause_at(words, form, k);
+    let code = row.code;
+    match code {
+        30 => true,
+        31 => true,
+        32 => true,
+        33 => true,
+        34 => true,
+        36 => true,
+        37 => true,
+        40 => true,
+        42 => true,
+        43 => true,
+        44 => true,
+        45 => true,
+        60 => true,
+        61 => true,
+        _ => false,
+    }
+}
+
+// The clause of these words if it applies schemas.
+pub fn applied_by(row: ClauseRow) -> Clause
+    ensures { λ r. ⌜ ReadBy applying row r ⌝ }
+{
     let schema = RuleRow(row.first);
     let entries = Entries {
         first: row.first,
@@ -80,13 +102,10 @@ pub fn applied_of(words: &[u32], form: RuleForm, k: u32) -> Clause
     }
 }
 
-// Clause k if it may hold although one of its schemas fails.
-pub fn sparing_of(words: &[u32], form: RuleForm, k: u32) -> Clause
-    requires { ⌜ RulesFormed (now words) form × (k < form .c) ⌝ }
-    ensures { λ r. ⌜ ((ts : List ℕ) → clauseMeans (now (words .entry)) ts r ≡ sparing (clauseOf (now (words .entry)) ts k)) ⌝ }
-    ensures { λ r. ⌜ Tested (now (words .entry)) form r ⌝ }
+// The clause of these words if it may hold although one of its schemas fails.
+pub fn sparing_by(row: ClauseRow) -> Clause
+    ensures { λ r. ⌜ ReadBy sparing row r ⌝ }
 {
-    let row = clause_at(words, form, k);
     let schema = RuleRow(row.first);
     let entries = Entries {
         first: row.first,

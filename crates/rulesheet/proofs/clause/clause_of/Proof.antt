@@ -14,7 +14,7 @@ returns : tie.Need-returns
 returns c =
     let s = c .before .before .before in
     let row = c .before .clause-at in (
-      means-by (s .args .words .now) (s .args .form) (s .args .k) (s .pre .1) (row .result) (row .ensures) (c .decoded .result) (c .decoded .ensures),
+      means-by (s .args .words .now) (s .args .k) (row .result) (row .ensures) (c .decoded .result) (c .decoded .ensures),
       tested-by (s .args .words .now) (s .args .form) (s .args .k) (s .pre .1) (row .result) (row .ensures) (c .decoded .result) (c .decoded .ensures),
     )
 
