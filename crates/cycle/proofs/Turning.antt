@@ -1,5 +1,4 @@
--- A clause of a pair in progress between two of its steps: the loop over the pairs that it applies. And a clause that only tests.
---     claused-test              a test was tried
+-- A clause of a pair in progress between two of its steps: the loop over the pairs that it applies.
 --     Turning, turning          the clause stands where a turn says
 --     Standing, standing-first, standing-asks, standing-turn     so many of its steps are taken
 --     turning-more              a pair that it applies was judged
@@ -19,8 +18,6 @@ use Rattle.rulesheet.specs.Ruleset.{Test, asserts}
 use Rattle.meaning.specs.Rules.{Pair, Marks, Way, whole, cut, stops, passes}
 use Rattle.areas.specs.Cells.{pairIs, cellAt, verd, Unsettled, column}
 use Rattle.areas.specs.Writers.{Marked, HandsOn}
-use Rattle.clause.specs.Read.{Tries}
-use Rattle.clause.specs.declared.test.Tried.the-variants.{Passed}
 use Rattle.steps.specs.declared.turn.Turn.{Turn}
 use Rattle.plan.specs.Plan.{countsHits, branches, moved, stepsOf, finishOf, wayOf, stopsBy}
 use Rattle.steps.specs.Read.{Started}
@@ -33,27 +30,6 @@ use Rattle.laws.proofs.Tests.{decide}
 use Rattle.plan.proofs.Plans.{after-miss}
 use Rattle.cycle.proofs.Pairs.{resAt}
 use Rattle.cycle.proofs.Claused.{Claused, claused-more}
-
--- ---- a clause that tests
-
-no-steps : (T : Case) (p : Pair) (i : ℕ) (t : Test) → clauseAt T p i ≡ asserts t → 0 ≡ many T p i
-unfolding stepsOf
-no-steps T p i t e = rw e
-
-passes-finish : (T : Case) (p : Pair) (i : ℕ) (t : Test) (n : ℕ) → clauseAt T p i ≡ asserts t → passes (T .doc) (p .row) t ≡ finishOf (T .doc) p (clauseAt T p i) n
-unfolding finishOf
-passes-finish T p i t n e = rw e
-
-pub claused-test : {T : Case} {p : Pair} {d₀ : List Pair} {c₀ l₀ : List ℕ} {i : ℕ} {c l : List ℕ} {n : ℕ} {ok ok′ so : Bool}
-    → Claused T p d₀ c₀ l₀ i c l n ok → stops (T .way) (resAt T p i) ≡ false → Tries (T .doc) (p .row) (clauseAt T p i) (Passed so) → ok′ ≡ (ok && so)
-    → Claused T p d₀ c₀ l₀ (i + 1) c l n ok′
-claused-test {T} {p} {i = i} {c} {l} {n} {so = so} C on t e =
-    let G = C .going in
-    let R = going-ready G in
-    let S : WhereDone T c l n (λ d. Stepped T p i d c l (many T p i) c l n 0) =
-    λ d A. subst (λ (k : ℕ). Stepped T p i d c l k c l n 0) (no-steps T p i (t .0) (t .1)) (stepped-none (ready-as R d A) (going-unsettled G)) in
-    let r : Done = record { ok = so; count = n } in
-    claused-more {r = r} C on (stepped-end {r = r} R S (t .2 ∙ passes-finish T p i (t .0) 0 (t .1)) refl) e
 
 -- ---- the clause stands where `at` says
 

@@ -1,0 +1,99 @@
+-- Clauses that only test.
+--     claused-test                           a test was tried
+--     applies-at, applying-by, tries-by      whether a clause applies schemas, as its words tell
+--     claused-first                          the first clauses are tests that the row passes
+--     told-open, told-end                    and they are all: the pair is settled at once
+-- Assumes nothing.
+use mathlib.Core.Bool.{Bool, true, false, not, _&&_, cond, true≢false}
+use mathlib.Core.List.{List}
+use mathlib.Core.Path.{_≡_, refl, sym, ap, _∙_, subst}
+use Prim.Native.Nat.{ℕ, zero, suc, _+_, _≤_, _<_}
+use native.Mathlib.Numerals.{add-one}
+use native.Mathlib.Omega.{arith}
+use lib.ListN.{length}
+use Rattle.sheet.specs.Doc.{Doc}
+use Rattle.rulesheet.specs.declared.form.ClauseRow.{ClauseRow}
+use Rattle.rulesheet.specs.Ruleset as R
+use Rattle.rulesheet.specs.Ruleset.{Test, never, asserts, inPlace, ifThenElse, dependentSchemas, contains, takes}
+use Rattle.rulesheet.specs.Sheet as RS
+use Rattle.rulesheet.specs.Sheet.{schemasWord, schemaAt}
+use Rattle.rulesheet.specs.Clauses.{appliesAny}
+use Rattle.rulesheet.proofs.Items.{clause-item}
+use Rattle.meaning.specs.Rules.{Pair, Way, whole, cut, stops, passes}
+use Rattle.areas.specs.Cells.{cellAt, Unsettled}
+use Rattle.areas.specs.Writers.{Open, Shut}
+use Rattle.areas.proofs.Writers.{marked-same, kept-all}
+use Rattle.clause.specs.Read.{Tries}
+use Rattle.plan.specs.Plan.{stepsOf, finishOf}
+use Rattle.cycle.specs.declared.cycle.Done.{Done}
+use Rattle.cycle.specs.State.{Case, caseOf, InCase, rankOf, clausesOf, clauseAt, goesOn, Ready, PassesFirst, WhereDone, Judged}
+use Rattle.cycle.proofs.Pairs.{resAt}
+use Rattle.cycle.proofs.Going.{many, Stepped, ready-as, stepped-none, stepped-end, going-unsettled, going-ready, going-open}
+use Rattle.cycle.proofs.Claused.{Claused, Clausing, claused-none, claused-more, claused-next, claused-end}
+
+no-steps : (T : Case) (p : Pair) (i : ℕ) (t : Test) → clauseAt T p i ≡ asserts t → 0 ≡ many T p i
+unfolding stepsOf
+no-steps T p i t e = rw e
+
+passes-finish : (T : Case) (p : Pair) (i : ℕ) (t : Test) (n : ℕ) → clauseAt T p i ≡ asserts t → passes (T .doc) (p .row) t ≡ finishOf (T .doc) p (clauseAt T p i) n
+unfolding finishOf
+passes-finish T p i t n e = rw e
+
+pub claused-test : {T : Case} {p : Pair} {d₀ : List Pair} {c₀ l₀ : List ℕ} {i : ℕ} {c l : List ℕ} {n : ℕ} {ok ok′ so : Bool}
+    → Claused T p d₀ c₀ l₀ i c l n ok → stops (T .way) (resAt T p i) ≡ false → Tries (T .doc) (p .row) (clauseAt T p i) so → ok′ ≡ (ok && so)
+    → Claused T p d₀ c₀ l₀ (i + 1) c l n ok′
+claused-test {T} {p} {i = i} {c} {l} {n} {so = so} C on t e =
+    let G = C .going in
+    let R = going-ready G in
+    let S : WhereDone T c l n (λ d. Stepped T p i d c l (many T p i) c l n 0) =
+    λ d A. subst (λ (k : ℕ). Stepped T p i d c l k c l n 0) (no-steps T p i (t .0) (t .1)) (stepped-none (ready-as R d A) (going-unsettled G)) in
+    let r : Done = record { ok = so; count = n } in
+    claused-more {r = r} C on (stepped-end {r = r} R S (t .2 ∙ passes-finish T p i (t .0) 0 (t .1)) refl) e
+
+-- ---- whether a clause applies schemas, as its words tell
+
+module _ (w : Way) (ws ts rs us : List ℕ) (p : Pair) (i : ℕ) where
+  abbrev T : Case
+  T = caseOf w ws ts rs us
+
+  pub applies-at : {row : ClauseRow} {r : Bool} → p .rule < schemasWord rs → i < schemaAt rs (p .rule) .count → row ≡ RS.clauseAt rs (schemaAt rs (p .rule) .first + i)
+      → ((vs xs : List ℕ) (k : ℕ) → row ≡ RS.clauseAt vs k → r ≡ appliesAny (RS.clauseOf vs xs k)) → r ≡ appliesAny (clauseAt T p i)
+  applies-at l h e f = f rs us _ e ∙ ap appliesAny (sym (clause-item rs us (p .rule) l i (asserts never) h))
+
+pub applying-by : (c : R.Clause) → appliesAny c ≡ true → (t : Test) → c ≡ asserts t → ⊥
+unfolding appliesAny
+applying-by c e t f = true≢false (sym e ∙ ap appliesAny f)
+
+pub tries-by : (d : Doc) (j : ℕ) (c : R.Clause) {ok : Bool} → appliesAny c ≡ false → ((t : Test) → c ≡ asserts t → ok ≡ passes d j t) → Tries d j c ok
+unfolding appliesAny
+tries-by d j (asserts t) e f = (t, refl, f t refl)
+tries-by d j (inPlace m ss) e f = absurd (true≢false e)
+tries-by d j (ifThenElse a b c) e f = absurd (true≢false e)
+tries-by d j (dependentSchemas es) e f = absurd (true≢false e)
+tries-by d j (contains s least most) e f = absurd (true≢false e)
+tries-by d j (takes c) e f = absurd (true≢false e)
+
+-- ---- the first clauses
+
+goes-true : (w : Way) → goesOn w true ≡ true
+goes-true whole = refl
+goes-true cut = refl
+
+module _ {T : Case} {p : Pair} {m : ℕ} {c l : List ℕ} {n r : ℕ} (R : Ready T (rankOf T p + 1) p c l n) (u : Unsettled (T .m) p c) (F : PassesFirst T p m r) where
+  first : (k : ℕ) → k ≤ r → WhereDone T c l n (λ d. Clausing T p m d c l k c l n true)
+  first zero h = claused-none R u
+  first (suc k) h = λ d A.
+      let low = F .within in
+      let w : k < m = omega arith in
+      let L : Clausing T p m d c l k c l n true = first k (omega arith) d A in
+      subst (λ (x : ℕ). Clausing T p m d c l x c l n true) (add-one k)
+      (claused-next (claused-test (L .claused) (L .unstopped w) (F .passed k (omega arith)) refl) w (sym (ap (λ b. cond b (k + 1) m) (goes-true (T .way)))))
+
+  pub claused-first : WhereDone T c l n (λ d. Clausing T p m d c l r c l n true)
+  claused-first = first r (omega arith)
+
+  pub told-open : {x : ℕ} → x ≡ cellAt (T .m) p → Open c n x
+  told-open at = going-open (claused-first (R .done) (R .areas) .claused .going) at
+
+  pub told-end : {x s : ℕ} {c₂ l₂ : List ℕ} → m ≡ length (clausesOf T p) → r ≡ m → x ≡ cellAt (T .m) p → Shut c l n x true c₂ l₂ s → Judged T p c l n c₂ l₂ s
+  told-end d e at S = claused-end d (omega arith) R u (marked-same c (λ k a b. kept-all (T .m) c (p .rule) true k refl)) at S claused-first
