@@ -1,11 +1,11 @@
 -- What a clause asserts, by the variant that was read.
---     answered            an answer to the test of the variant answers the clause
+--     answered            an answer to the test of the variant answers the clause, whatever test it is
 --     bounds, list-read   what is known of the number or the list that the variant holds
 --     no-test             the variants that apply schemas have no test
 -- Assumes nothing.
 use mathlib.Core.Bool.{Bool}
 use mathlib.Core.List.{List, [], _∷_}
-use mathlib.Core.Path.{_≡_, ap, _∙_}
+use mathlib.Core.Path.{_≡_, sym, ap, _∙_}
 use Prim.Native.Nat.{ℕ}
 use native.Mathlib.Omega.{arith}
 use types.Run.{OneOf, miss}
@@ -22,8 +22,7 @@ use Rattle.rulesheet.specs.declared.clause.Clause.the-variants.{AllOf, AnyOf, O
 use Rattle.rulesheet.specs.Ruleset.{Test, asserts}
 use Rattle.rulesheet.specs.Clauses.{clauseMeans, list, held, Bounded, Listed, Sized, Tested}
 use Rattle.meaning.specs.Rules.{passes}
-use Rattle.clause.specs.declared.test.Tried.the-variants.{Passed}
-use Rattle.clause.specs.Read.{RulesRead, ListRead, Tries}
+use Rattle.clause.specs.Read.{RulesRead, ListRead}
 
 -- the positions of the variants that apply schemas
 abbrev appliers : List ℕ
@@ -31,8 +30,11 @@ appliers = 15 ∷ 16 ∷ 17 ∷ 18 ∷ 19 ∷ 20 ∷ 21 ∷ 22 ∷ 23 ∷ 24 ∷
 
 module _ (ws ts : List ℕ) where
   pub answered : (d : Doc) (j : ℕ) (clause variant : Clause) (s : Test) (ok : Bool) → clause ≡ variant → clauseMeans ws ts variant ≡ asserts s → ok ≡ passes d j s
-      → Tries d j (clauseMeans ws ts clause) (Passed ok)
-  answered d j clause variant s ok e means is = (s, ap (clauseMeans ws ts) e ∙ means, is)
+      → (t : Test) → clauseMeans ws ts clause ≡ asserts t → ok ≡ passes d j t
+  answered d j clause variant s ok e means is t h =
+      let twice : asserts s ≡ asserts t = sym means ∙ sym (ap (clauseMeans ws ts) e) ∙ h in
+      let same : s ≡ t = cc in
+      is ∙ ap (passes d j) same
 
   pub no-test : (clause : Clause) → OneOf appliers (tagOf the-type clause) → (t : Test) → clauseMeans ws ts clause ≡ asserts t → ⊥
   no-test Never k t e = absurd (miss appliers 0 tt k)

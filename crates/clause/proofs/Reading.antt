@@ -1,11 +1,12 @@
 -- Accepted sheets are what the tests ask for.
 --     record-read, rules-read                  the premises of this crate's functions, from acceptance
 --     clause-low, clause-small, clause-read    a clause of a schema, as it is read
+--     words-read                               and as it is read by its words
 -- Assumes nothing.
 use mathlib.Core.Bool.{Bool, true, false, _&&_}
 use mathlib.Core.List.{List}
 use mathlib.Core.Logic.{⊎-elim}
-use mathlib.Core.Path.{_≡_, sym, ap, _∙_}
+use mathlib.Core.Path.{_≡_, refl, sym, ap, _∙_}
 use Prim.Native.Nat.{ℕ, _+_, _<_}
 use native.Mathlib.Omega.{arith}
 use lib.Dec.{eqb, leb}
@@ -18,13 +19,14 @@ use Rattle.sheet.specs.Faults.{text-max, wordsOk}
 use Rattle.sheet.specs.Accepted.{AcceptedRecord}
 use Rattle.sheet.proofs.Acceptance as A
 use Rattle.sheet.proofs.Shape.{well-formed}
+use Rattle.rulesheet.specs.declared.form.ClauseRow.{ClauseRow}
 use Rattle.rulesheet.specs.declared.form.RuleForm.{RuleForm}
 use Rattle.rulesheet.specs.declared.clause.Clause.{Clause}
 use Rattle.rulesheet.specs.Ruleset as R
 use Rattle.rulesheet.specs.Ruleset.{never, asserts}
 use Rattle.rulesheet.specs.Sheet as S
 use Rattle.rulesheet.specs.Read.{RulesFormed}
-use Rattle.rulesheet.specs.Clauses.{clauseMeans, Tested}
+use Rattle.rulesheet.specs.Clauses.{clauseMeans, Tested, ReadBy}
 use Rattle.rulesheet.proofs.Trailers.{form-m, form-c, trailer-facts}
 use Rattle.rulesheet.proofs.Taking.{schema-within}
 use Rattle.rulesheet.proofs.Items.{clause-item}
@@ -33,7 +35,7 @@ use Rattle.rules.specs.Check.{rulesOutcome}
 use Rattle.rules.specs.Accepted.{AcceptedRules}
 use Rattle.rules.proofs.Acceptance as B
 use Rattle.rules.proofs.Checks.{at-trailer}
-use Rattle.clause.specs.Read.{RecordRead, RulesRead, ClauseRead}
+use Rattle.clause.specs.Read.{RecordRead, RulesRead, wordsIn, ClauseRead}
 
 said : (words : Bool) (n size : ℕ) → (words && (eqb n size && leb size text-max)) ≡ true → size ≡ n
 said words n size t =
@@ -78,3 +80,9 @@ module _ {rs us : List ℕ} {form : RuleForm} (read : RulesRead rs us form) {s f
         means = means us ∙ rw at (ap f (sym (clause-item rs us s (omega (arith, form-m rs form formed)) i (asserts never) h)));
         tested = tested;
       }
+
+pub words-read : {rs us : List ℕ} {form : RuleForm} → RulesRead rs us form → {s i : ℕ} → s < form .m → i < S.schemaAt rs s .count → {f : R.Clause → R.Clause} {row : ClauseRow} {clause : Clause}
+    → row ≡ wordsIn rs s i → ReadBy f row clause → ClauseRead f rs us form s i clause
+words-read {rs} {us} {form} read {s} {i} low h {f} {row} {clause} is by =
+    let k = S.schemaAt rs s .first + i in
+    clause-read read low refl h f (λ vs. by .means rs vs k is) (by .tested rs form k (clause-low read low refl h) is)

@@ -16,6 +16,7 @@ use Rattle.sheet.specs.Doc.{Value, Doc, Child, firstChild, childCount, isObject
 use Rattle.sheet.specs.Record.{textWord, docOf}
 use Rattle.sheet.specs.Accepted.{Laid}
 use Rattle.rulesheet.specs.declared.code.Fields.{Fields}
+use Rattle.rulesheet.specs.declared.form.ClauseRow.{ClauseRow}
 use Rattle.rulesheet.specs.declared.form.RuleForm.{RuleForm}
 use Rattle.rulesheet.specs.declared.clause.Entries.{Entries}
 use Rattle.rulesheet.specs.declared.clause.Clause.{Clause}
@@ -27,7 +28,6 @@ use Rattle.rulesheet.specs.Read.{RulesLaid}
 use Rattle.rulesheet.specs.Clauses.{clauseMeans, Tested}
 use Rattle.meaning.specs.Tests.{number?}
 use Rattle.meaning.specs.Rules.{called, passes}
-use Rattle.clause.specs.declared.test.Tried as T
 use Rattle.clause.specs.declared.numbers.Numbered as N
 use Rattle.clause.specs.declared.sizes.Measured as M
 
@@ -57,6 +57,10 @@ clauseIn rs us s i = getD (S.rulesOf rs us .clauses s) i (asserts never)
 abbrev pub beforeIn : List ℕ → List ℕ → ℕ → ℕ → List R.Clause
 beforeIn rs us s i = take i (S.rulesOf rs us .clauses s)
 
+-- the words of clause i of schema s
+abbrev pub wordsIn : List ℕ → ℕ → ℕ → ClauseRow
+wordsIn rs s i = S.clauseAt rs (S.schemaAt rs s .first + i)
+
 -- clause i of schema s was read, as far as f asks for it
 pub record ClauseRead (f : R.Clause → R.Clause) (rs us : List ℕ) (form : RuleForm) (s i : ℕ) (clause : Clause) : Type 0 where
   pub schema-in : s < form .m
@@ -64,10 +68,9 @@ pub record ClauseRead (f : R.Clause → R.Clause) (rs us : List ℕ) (form : Rul
   pub means : clauseMeans rs us clause ≡ f (clauseIn rs us s i)
   pub tested : Tested rs form clause
 
--- what trying the clause c on row j tells: whether the row passes its test, or that it has none
-abbrev pub Tries : Doc → ℕ → R.Clause → T.Tried → Type 0
-Tries d j c (T.the-variants.Passed ok) = (t : Test) × (c ≡ asserts t) × (ok ≡ passes d j t)
-Tries d j c T.the-variants.Applies = (t : Test) → c ≡ asserts t → ⊥
+-- the clause c is a test, and row j passes it or not, as `ok` says
+abbrev pub Tries : Doc → ℕ → R.Clause → Bool → Type 0
+Tries d j c ok = (t : Test) × (c ≡ asserts t) × (ok ≡ passes d j t)
 
 -- ---- types, numbers and sizes on the way to a test
 

@@ -2,10 +2,12 @@
 ghost use mathlib.Core.Path.{_≡_};
 ghost use Prim.Native.Nat.{_<_};
 ghost use Rattle.sheet.specs.Record.{docOf};
+ghost use Rattle.rulesheet.specs.Ruleset.{Test, asserts};
 ghost use Rattle.rulesheet.specs.Sheet.{schemaAt};
 ghost use Rattle.rulesheet.specs.Clauses.{clauseMeans, Tested};
+ghost use Rattle.meaning.specs.Rules.{passes};
 ghost use Rattle.areas.specs.Cells.{pairIs, Unsettled};
-ghost use Rattle.clause.specs.Read.{RecordRead, RulesRead, clauseIn, Tries};
+ghost use Rattle.clause.specs.Read.{RecordRead, RulesRead, clauseIn};
 use crate::bounds::exclusive_maximum;
 use crate::bounds::exclusive_minimum;
 use crate::bounds::maximum;
@@ -27,15 +29,8 @@ use sheet::record::Pair;
 use sheet::record::RecordForm;
 use sheet::record::RecordRow;
 
-// What trying a clause as a test tells: whether the row passes, or that the clause applies schemas
-// and tests nothing.
-pub enum Tried {
-    Passed(bool),
-    Applies,
-}
-
-// Tries a clause on a row.
-fn try_test<'a>(
+// Whether the row passes the clause, which is a test.
+fn passes_test<'a>(
     record: &[u32],
     text: &'a [u8],
     form: RecordForm,
@@ -44,42 +39,34 @@ fn try_test<'a>(
     rule_text: &'a [u8],
     rule_form: RuleForm,
     clause: Clause,
-) -> Tried
+) -> bool
     requires { ⌜ RecordRead (now «record») (now text) form × (row .0 < form .rows) ⌝ }
     requires { ⌜ RulesRead (now rules) (now «rule_text») «rule_form» × Tested (now rules) «rule_form» clause ⌝ }
-    ensures { λ r. ⌜ Tries (docOf (now («record» .entry)) (now (text .entry))) (row .0) (clauseMeans (now (rules .entry)) (now («rule_text» .entry)) clause) r ⌝ }
+    ensures { λ r. ⌜ ((t : Test) → clauseMeans (now (rules .entry)) (now («rule_text» .entry)) clause ≡ asserts t → r ≡ passes (docOf (now («record» .entry)) (now (text .entry))) (row .0) t) ⌝ }
 {
     match clause {
-        Clause::Never => Tried::Passed(false),
-        Clause::Types(mask) => Tried::Passed(typed(record, form, row, mask)),
-        Clause::Enum(es) => {
-            Tried::Passed(enum_holds(record, text, form, row, rules, rule_text, rule_form, es))
-        }
-        Clause::Minimum(limit) => Tried::Passed(minimum(record, form, row, limit)),
-        Clause::Maximum(limit) => Tried::Passed(maximum(record, form, row, limit)),
-        Clause::ExclusiveMinimum(limit) => {
-            Tried::Passed(exclusive_minimum(record, form, row, limit))
-        }
-        Clause::ExclusiveMaximum(limit) => {
-            Tried::Passed(exclusive_maximum(record, form, row, limit))
-        }
-        Clause::MultipleOf(limit) => Tried::Passed(multiple_of(record, form, row, limit)),
-        Clause::MinLength(k) => Tried::Passed(min_length(record, text, form, row, k)),
-        Clause::MaxLength(k) => Tried::Passed(max_length(record, text, form, row, k)),
-        Clause::MinItems(k) => Tried::Passed(min_items(record, form, row, k)),
-        Clause::MaxItems(k) => Tried::Passed(max_items(record, form, row, k)),
-        Clause::MinProperties(k) => Tried::Passed(min_properties(record, form, row, k)),
-        Clause::MaxProperties(k) => Tried::Passed(max_properties(record, form, row, k)),
-        Clause::Required(es) => {
-            Tried::Passed(required(record, text, form, row, rules, rule_text, rule_form, es))
-        }
-        _ => Tried::Applies,
+        Clause::Never => false,
+        Clause::Types(mask) => typed(record, form, row, mask),
+        Clause::Enum(es) => enum_holds(record, text, form, row, rules, rule_text, rule_form, es),
+        Clause::Minimum(limit) => minimum(record, form, row, limit),
+        Clause::Maximum(limit) => maximum(record, form, row, limit),
+        Clause::ExclusiveMinimum(limit) => exclusive_minimum(record, form, row, limit),
+        Clause::ExclusiveMaximum(limit) => exclusive_maximum(record, form, row, limit),
+        Clause::MultipleOf(limit) => multiple_of(record, form, row, limit),
+        Clause::MinLength(k) => min_length(record, text, form, row, k),
+        Clause::MaxLength(k) => max_length(record, text, form, row, k),
+        Clause::MinItems(k) => min_items(record, form, row, k),
+        Clause::MaxItems(k) => max_items(record, form, row, k),
+        Clause::MinProperties(k) => min_properties(record, form, row, k),
+        Clause::MaxProperties(k) => max_properties(record, form, row, k),
+        Clause::Required(es) => required(record, text, form, row, rules, rule_text, rule_form, es),
+        _ => false,
     }
 }
 
-// Tries clause i of the pair's schema on its row. The cells must show the pair unsettled: no test of
-// a settled pair is judged again.
-pub fn try_clause<'a>(
+// Whether the pair's row passes clause i of its schema, which is a test. The cells must show the pair
+// unsettled: no test of a settled pair is judged again.
+pub fn passes_clause<'a>(
     record: &[u32],
     text: &'a [u8],
     form: RecordForm,
@@ -89,14 +76,14 @@ pub fn try_clause<'a>(
     cells: &[u8],
     p: Pair,
     i: u32,
-) -> Tried
+) -> bool
     requires { ⌜ RecordRead (now «record») (now text) form × (p .row .0 < form .rows) ⌝ }
     requires { ⌜ RulesRead (now rules) (now «rule_text») «rule_form» × (p .rule .0 < «rule_form» .m) × (i < schemaAt (now rules) (p .rule .0) .count) ⌝ }
     requires { ⌜ Unsettled («rule_form» .m) (pairIs p) (now cells) ⌝ }
-    ensures { λ r. ⌜ Tries (docOf (now («record» .entry)) (now (text .entry))) (p .row .0) (clauseIn (now (rules .entry)) (now («rule_text» .entry)) (p .rule .0) i) r ⌝ }
+    ensures { λ r. ⌜ ((t : Test) → clauseIn (now (rules .entry)) (now («rule_text» .entry)) (p .rule .0) i ≡ asserts t → r ≡ passes (docOf (now («record» .entry)) (now (text .entry))) (p .row .0) t) ⌝ }
 {
     let clause = clause_in(rules, rule_text, rule_form, p.rule, i);
-    try_test(
+    passes_test(
         record,
         text,
         form,

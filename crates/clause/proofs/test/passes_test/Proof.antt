@@ -1,12 +1,12 @@
--- `try_test` meets its contract, keyword by keyword. Assumes nothing.
+-- `passes_test` meets its contract, keyword by keyword. Assumes nothing.
 use mathlib.Core.Path.{refl}
 use Rattle.sheet.specs.Record.{docOf}
 use Rattle.rulesheet.specs.declared.code.Fields.the-variants.{Values, Names}
 use Rattle.meaning.specs.Rules.{passes}
 use Rattle.clause.proofs.Asserting.{answered, no-test, bounds, list-read}
 use borrow.Author.Needs.{needs}
-use Rattle.clause.proofs.test.try_test.Statement.{statement}
-use Rattle.clause.proofs.test.try_test.Tie as tie
+use Rattle.clause.proofs.test.passes_test.Statement.{statement}
+use Rattle.clause.proofs.test.passes_test.Tie as tie
 
 enum-told : tie.Need-enum-told
 enum-told c = search needs
@@ -202,10 +202,10 @@ returns-15 c =
 returns-16 : tie.Need-returns-16
 returns-16 c =
     let start = c .before .before .before .before .before in
-    no-test (start .args .rules .now) (start .args .rule-text .now) (start .args .clause) (c .match .keys16)
+    λ t e. absurd (no-test (start .args .rules .now) (start .args .rule-text .now) (start .args .clause) (c .match .keys16) t e)
 
-pub try-test-spec : {M : Type 1} → statement M
-try-test-spec =
+pub passes-test-spec : {M : Type 1} → statement M
+passes-test-spec =
     tie.close
     (tie.spec
     enum-told
