@@ -69,6 +69,11 @@ abbrev pub Tries : Doc → ℕ → R.Clause → T.Tried → Type 0
 Tries d j c (T.the-variants.Passed ok) = (t : Test) × (c ≡ asserts t) × (ok ≡ passes d j t)
 Tries d j c T.the-variants.Applies = (t : Test) → c ≡ asserts t → ⊥
 
+-- the first r of n clauses are tests that row j passes
+pub record PassedFirst (d : Doc) (j : ℕ) (clauses : ℕ → R.Clause) (n r : ℕ) : Type 0 where
+  pub within : r ≤ n
+  pub passed : (k : ℕ) → k < r → Tries d j (clauses k) (T.the-variants.Passed true)
+
 -- ---- types, numbers and sizes on the way to a test
 
 -- 01's number of the type that the rows of a kind have; a whole number is an integer besides
