@@ -1,5 +1,5 @@
 -- What a clause asserts, by the variant that was read.
---     answered            an answer to the test of the variant answers the clause, whatever test it is
+--     tried, answered     an answer to the test of the variant answers the clause, whatever test it is
 --     bounds, list-read   what is known of the number or the list that the variant holds
 --     no-test             the variants that apply schemas have no test
 -- Assumes nothing.
@@ -22,17 +22,22 @@ use Rattle.rulesheet.specs.declared.clause.Clause.the-variants.{AllOf, AnyOf, O
 use Rattle.rulesheet.specs.Ruleset.{Test, asserts}
 use Rattle.rulesheet.specs.Clauses.{clauseMeans, list, held, Bounded, Listed, Sized, Tested}
 use Rattle.meaning.specs.Rules.{passes}
-use Rattle.clause.specs.Read.{RulesRead, ListRead}
+use Rattle.clause.specs.Read.{RulesRead, ListRead, Tries}
 
 -- the positions of the variants that apply schemas
 abbrev appliers : List ℕ
 appliers = 15 ∷ 16 ∷ 17 ∷ 18 ∷ 19 ∷ 20 ∷ 21 ∷ 22 ∷ 23 ∷ 24 ∷ 25 ∷ 26 ∷ 27 ∷ 28 ∷ []
 
 module _ (ws ts : List ℕ) where
+  pub tried : (d : Doc) (j : ℕ) (clause variant : Clause) (s : Test) (ok : Bool) → clause ≡ variant → clauseMeans ws ts variant ≡ asserts s → ok ≡ passes d j s
+      → Tries d j (clauseMeans ws ts clause) ok
+  tried d j clause variant s ok e means is = (s, ap (clauseMeans ws ts) e ∙ means, is)
+
   pub answered : (d : Doc) (j : ℕ) (clause variant : Clause) (s : Test) (ok : Bool) → clause ≡ variant → clauseMeans ws ts variant ≡ asserts s → ok ≡ passes d j s
       → (t : Test) → clauseMeans ws ts clause ≡ asserts t → ok ≡ passes d j t
   answered d j clause variant s ok e means is t h =
-      let twice : asserts s ≡ asserts t = sym means ∙ sym (ap (clauseMeans ws ts) e) ∙ h in
+      let z = tried d j clause variant s ok e means is in
+      let twice : asserts s ≡ asserts t = sym (z .1) ∙ h in
       let same : s ≡ t = cc in
       is ∙ ap (passes d j) same
 

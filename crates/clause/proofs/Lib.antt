@@ -6,3 +6,4 @@ pub mod Listing
 pub mod Naming
 pub mod Equality
 pub mod Asserting
+pub mod Telling

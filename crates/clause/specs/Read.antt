@@ -72,6 +72,11 @@ pub record ClauseRead (f : R.Clause → R.Clause) (rs us : List ℕ) (form : Rul
 abbrev pub Tries : Doc → ℕ → R.Clause → Bool → Type 0
 Tries d j c ok = (t : Test) × (c ≡ asserts t) × (ok ≡ passes d j t)
 
+-- the first r of n clauses are tests that row j passes
+pub record PassedFirst (d : Doc) (j : ℕ) (clauses : ℕ → R.Clause) (n r : ℕ) : Type 0 where
+  pub within : r ≤ n
+  pub passed : (k : ℕ) → k < r → Tries d j (clauses k) true
+
 -- ---- types, numbers and sizes on the way to a test
 
 -- 01's number of the type that the rows of a kind have; a whole number is an integer besides

@@ -91,7 +91,7 @@ pub(crate) fn min_length(
 }
 
 // Whether the row is no string, or one of at most k bytes: then it has at most k characters.
-fn few_bytes(record: &[u32], form: RecordForm, row: RecordRow, k: u32) -> bool
+pub(crate) fn few_bytes(record: &[u32], form: RecordForm, row: RecordRow, k: u32) -> bool
     requires { ⌜ Laid (now «record») form × (row .0 < form .rows) ⌝ }
     ensures { λ r. ⌜ ((ts : List ℕ) → length ts ≡ textWord (now («record» .entry)) → r ≡ true → atMost lengthOf k (bytes? (docOf (now («record» .entry)) ts .value (row .0))) ≡ true) ⌝ }
 {

@@ -1,0 +1,109 @@
+// The tests that a row's own words tell, tried before anything else is done for a pair. Most clauses
+// are passed here, in one loop that calls nothing: where an exact test would count characters or
+// divide by a power of ten, the answer is left open.
+ghost use mathlib.Core.Bool.{true};
+ghost use mathlib.Core.List.{List};
+ghost use mathlib.Core.Path.{_≡_};
+ghost use Prim.Native.Nat.{ℕ, _<_};
+ghost use Rattle.decimal.specs.declared.Decimal.{Decimal};
+ghost use Rattle.decimal.specs.Value.{Plain};
+ghost use Rattle.sheet.specs.Record.{docOf};
+ghost use Rattle.sheet.specs.Accepted.{Laid};
+ghost use Rattle.rulesheet.specs.Sheet.{schemaAt};
+ghost use Rattle.rulesheet.specs.Clauses.{clauseMeans, number, held};
+ghost use Rattle.areas.specs.Cells.{pairIs, Unsettled};
+ghost use Rattle.clause.specs.Read.{RecordRead, RulesRead, clauseIn, Tries, PassedFirst};
+use crate::bounds::exclusive_maximum;
+use crate::bounds::exclusive_minimum;
+use crate::bounds::maximum;
+use crate::bounds::minimum;
+use crate::numbers::Numbered;
+use crate::numbers::number_in;
+use crate::sizes::few_bytes;
+use crate::sizes::max_items;
+use crate::sizes::max_properties;
+use crate::sizes::min_items;
+use crate::sizes::min_length;
+use crate::sizes::min_properties;
+use crate::types::typed;
+use rulesheet::clause::Clause;
+use rulesheet::few::plain_of;
+use rulesheet::form::RuleForm;
+use rulesheet::form::schema_at;
+use sheet::record::Pair;
+use sheet::record::RecordForm;
+use sheet::record::RecordRow;
+
+// The longest minimum for which characters are counted here.
+const FEW: u32 = 8;
+
+// Whether the row is no number, or one of this scale: then nothing is divided to compare it.
+fn scaled(record: &[u32], form: RecordForm, row: RecordRow, scale: u32) -> bool
+    requires { ⌜ Laid (now «record») form × (row .0 < form .rows) ⌝ }
+{
+    let found = number_in(record, form, row);
+    match found {
+        Numbered::Number(number) => number.scale == scale,
+        Numbered::Other => true,
+    }
+}
+
+// Whether the row's own words tell that it passes the clause. A yes is one; a no leaves it open.
+fn plainly(record: &[u32], text: &[u8], form: RecordForm, row: RecordRow, clause: Clause) -> bool
+    requires { ⌜ RecordRead (now «record») (now text) form × (row .0 < form .rows) ⌝ }
+    requires { ⌜ ((limit : Decimal) → held clause ≡ number limit → Plain limit) ⌝ }
+    ensures { λ r. ⌜ (r ≡ true → (rs us : List ℕ) → Tries (docOf (now («record» .entry)) (now (text .entry))) (row .0) (clauseMeans rs us clause) true) ⌝ }
+{
+    match clause {
+        Clause::Types(mask) => scaled(record, form, row, 0) && typed(record, form, row, mask),
+        Clause::Minimum(limit) => {
+            scaled(record, form, row, limit.scale) && minimum(record, form, row, limit)
+        }
+        Clause::Maximum(limit) => {
+            scaled(record, form, row, limit.scale) && maximum(record, form, row, limit)
+        }
+        Clause::ExclusiveMinimum(limit) => {
+            scaled(record, form, row, limit.scale) && exclusive_minimum(record, form, row, limit)
+        }
+        Clause::ExclusiveMaximum(limit) => {
+            scaled(record, form, row, limit.scale) && exclusive_maximum(record, form, row, limit)
+        }
+        Clause::MinLength(k) => (k <= FEW) && min_length(record, text, form, row, k),
+        Clause::MaxLength(k) => few_bytes(record, form, row, k),
+        Clause::MinItems(k) => min_items(record, form, row, k),
+        Clause::MaxItems(k) => max_items(record, form, row, k),
+        Clause::MinProperties(k) => min_properties(record, form, row, k),
+        Clause::MaxProperties(k) => max_properties(record, form, row, k),
+        _ => false,
+    }
+}
+
+// How many of the first `many` clauses of the pair's schema the row's own words tell to be passed.
+// The cells must show the pair unsettled: no test of a settled pair is judged again.
+pub fn plainly_passed<'a>(
+    record: &[u32],
+    text: &'a [u8],
+    form: RecordForm,
+    rules: &[u32],
+    rule_text: &'a [u8],
+    rule_form: RuleForm,
+    cells: &[u8],
+    p: Pair,
+    many: u32,
+) -> u32
+    requires { ⌜ RecordRead (now «record») (now text) form × (p .row .0 < form .rows) ⌝ }
+    requires { ⌜ RulesRead (now rules) (now «rule_text») «rule_form» × (p .rule .0 < «rule_form» .m) × (many ≡ schemaAt (now rules) (p .rule .0) .count) ⌝ }
+    requires { ⌜ Unsettled («rule_form» .m) (pairIs p) (now cells) ⌝ }
+    ensures { λ r. ⌜ PassedFirst (docOf (now («record» .entry)) (now (text .entry))) (p .row .0) (clauseIn (now (rules .entry)) (now («rule_text» .entry)) (p .rule .0)) many r ⌝ }
+{
+    let first = schema_at(rules, rule_form, p.rule).first;
+    let mut i = 0;
+    while i < many {
+        let clause = plain_of(rules, rule_form, first + i);
+        if !plainly(record, text, form, p.row, clause) {
+            return i;
+        }
+        i += 1;
+    }
+    i
+}
