@@ -1,7 +1,8 @@
 -- Sizes, as they are found and as they are limited.
 --     string-size, rows-size, no-size     what was read is the size
 --     few-bytes, no-bytes-few             a string of at most k bytes, and what is none, has at most k characters
---     size-holds, other-holds             what is asked of a size, by the size that was found
+--     by-size, by-none                    what is asked of a size, by the size that there is
+--     size-holds, other-holds             and by the size that was found
 -- Assumes nothing.
 use mathlib.Core.Bool.{Bool, true}
 use mathlib.Core.List.{List, [], _∷_}
@@ -60,19 +61,20 @@ pub no-size : (size : List ℕ → ℕ) (xs : Option (List ℕ)) → xs ≡ none
 no-size size xs f = sym (ap (sizeBy size) f)
 
 -- the limits
-module _ (p : ℕ → Bool) (m : Measured) (size : List ℕ → ℕ) where
-  by-size : (n : ℕ) (xs : Option (List ℕ)) → some n ≡ sizeBy size xs → p n ≡ given xs (λ ys. p (size ys))
+module _ (p : ℕ → Bool) (size : List ℕ → ℕ) where
+  pub by-size : (n : ℕ) (xs : Option (List ℕ)) → some n ≡ sizeBy size xs → p n ≡ given xs (λ ys. p (size ys))
   unfolding given
   by-size n none e = cc
   by-size n (some ys) e = let same : n ≡ size ys = cc in rw same
 
-  by-other : (xs : Option (List ℕ)) → none ≡ sizeBy size xs → true ≡ given xs (λ ys. p (size ys))
+  pub by-none : (xs : Option (List ℕ)) → none ≡ sizeBy size xs → true ≡ given xs (λ ys. p (size ys))
   unfolding given
-  by-other none e = refl
-  by-other (some ys) e = cc
+  by-none none e = refl
+  by-none (some ys) e = cc
 
-  pub size-holds : (n : ℕ) → m ≡ Size n → (xs : Option (List ℕ)) → sizeIn m ≡ sizeBy size xs → p n ≡ given xs (λ ys. p (size ys))
-  size-holds n e xs f = by-size n xs (rw e at f)
+  module _ (m : Measured) where
+    pub size-holds : (n : ℕ) → m ≡ Size n → (xs : Option (List ℕ)) → sizeIn m ≡ sizeBy size xs → p n ≡ given xs (λ ys. p (size ys))
+    size-holds n e xs f = by-size n xs (rw e at f)
 
-  pub other-holds : m ≡ Other → (xs : Option (List ℕ)) → sizeIn m ≡ sizeBy size xs → true ≡ given xs (λ ys. p (size ys))
-  other-holds e xs f = by-other xs (rw e at f)
+    pub other-holds : m ≡ Other → (xs : Option (List ℕ)) → sizeIn m ≡ sizeBy size xs → true ≡ given xs (λ ys. p (size ys))
+    other-holds e xs f = by-none xs (rw e at f)

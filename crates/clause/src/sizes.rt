@@ -76,6 +76,20 @@ fn at_most(found: Measured, k: u32) -> bool
     }
 }
 
+// The most characters that are looked at one by one; more are counted by many bytes at once.
+const FEW: u32 = 8;
+
+// Whether the row, if it is a string, has at least k characters: no more than k are looked at.
+fn few_characters(record: &[u32], text: &[u8], form: RecordForm, row: RecordRow, k: u32) -> bool
+    requires { ⌜ RecordRead (now «record») (now text) form × (row .0 < form .rows) ⌝ }
+    ensures { λ r. ⌜ r ≡ atLeast lengthOf k (bytes? (docOf (now («record» .entry)) (now (text .entry)) .value (row .0))) ⌝ }
+{
+    if !is_kind(record, form, row, RowKind::STRING) {
+        return true;
+    }
+    utf8::has_characters(text, string_of(record, form, row), k)
+}
+
 // Whether the row, if it is a string, has at least k characters.
 pub(crate) fn min_length(
     record: &[u32],
@@ -87,6 +101,9 @@ pub(crate) fn min_length(
     requires { ⌜ RecordRead (now «record») (now text) form × (row .0 < form .rows) ⌝ }
     ensures { λ r. ⌜ r ≡ atLeast lengthOf k (bytes? (docOf (now («record» .entry)) (now (text .entry)) .value (row .0))) ⌝ }
 {
+    if k <= FEW {
+        return few_characters(record, text, form, row, k);
+    }
     at_least(length_of(record, text, form, row), k)
 }
 

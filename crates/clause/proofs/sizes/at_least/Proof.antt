@@ -14,11 +14,11 @@ enum-told c = search needs
 
 returns : tie.Need-returns
 unfolding atLeast
-returns c = λ size xs e. size-holds (λ n. leb (c .before .before .before .args .k) n) _ size _ (c .before .found .given .1) xs e
+returns c = λ size xs e. size-holds (λ n. leb (c .before .before .before .args .k) n) size _ _ (c .before .found .given .1) xs e
 
 returns-2 : tie.Need-returns-2
 unfolding atLeast
-returns-2 c = λ size xs e. other-holds (λ n. leb (c .before .before .args .k) n) _ size (c .enum-told .given .1) xs e
+returns-2 c = λ size xs e. other-holds (λ n. leb (c .before .before .args .k) n) size _ (c .enum-told .given .1) xs e
 
 pub at-least-spec : {M : Type 1} → statement M
 at-least-spec = tie.close (tie.spec enum-known-found enum-told returns returns-2)

@@ -14,11 +14,11 @@ enum-told c = search needs
 
 returns : tie.Need-returns
 unfolding atMost
-returns c = λ size xs e. size-holds (λ n. leb n (c .before .before .before .args .k)) _ size _ (c .before .found .given .1) xs e
+returns c = λ size xs e. size-holds (λ n. leb n (c .before .before .before .args .k)) size _ _ (c .before .found .given .1) xs e
 
 returns-2 : tie.Need-returns-2
 unfolding atMost
-returns-2 c = λ size xs e. other-holds (λ n. leb n (c .before .before .args .k)) _ size (c .enum-told .given .1) xs e
+returns-2 c = λ size xs e. other-holds (λ n. leb n (c .before .before .args .k)) size _ (c .enum-told .given .1) xs e
 
 pub at-most-spec : {M : Type 1} → statement M
 at-most-spec = tie.close (tie.spec enum-known-found enum-told returns returns-2)
