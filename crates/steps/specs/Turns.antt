@@ -9,11 +9,12 @@ use Rattle.sheet.specs.declared.record.RecordForm.{RecordForm}
 use Rattle.sheet.specs.declared.record.Pair as P
 use Rattle.sheet.specs.Doc.{Doc}
 use Rattle.sheet.specs.Record.{docOf}
+use Rattle.rulesheet.specs.declared.form.ClauseRow.{ClauseRow}
 use Rattle.rulesheet.specs.declared.form.RuleForm.{RuleForm}
 use Rattle.rulesheet.specs.Ruleset.{Clause}
 use Rattle.rulesheet.specs.Sheet.{schemaAt}
 use Rattle.meaning.specs.Rules.{Pair, Marks}
-use Rattle.clause.specs.Read.{RecordRead, RulesRead, clauseIn, beforeIn}
+use Rattle.clause.specs.Read.{RecordRead, RulesRead, clauseIn, beforeIn, wordsIn}
 use Rattle.areas.specs.Cells.{pairIs, Unsettled, column}
 use Rattle.steps.specs.declared.turn.Turn.{Turn}
 use Rattle.plan.specs.Plan.{countsHits, branches, stepsOf, aimOf, goOf}
@@ -48,13 +49,15 @@ module _ (D : Doc) (p : Pair) (before : List Clause) (c : Clause) where
 abbrev pub TurnedOn : Doc → ℕ → Clause → ℕ → Turn → Type 0
 TurnedOn D j c x r = (t : ℕ) (p : Pair) (before : List Clause) (κ : Marks) → p .row ≡ j → Turned D p before c x κ t r
 
--- what is asked where clause i of an unsettled pair stands: both sheets are read, `from` is what the clauses before tell it, and each pair has its cell
-pub record TurnAsked (ws ts : List ℕ) (form : RecordForm) (rs us : List ℕ) (rule-form : RuleForm) (cells : List ℕ) (p : P.Pair) (i from : ℕ) : Type 0 where
+-- what is asked where clause i of an unsettled pair stands: both sheets are read, the clause's words are `row`, `from` is what the clauses before tell it,
+-- and each pair has its cell
+pub record TurnAsked (ws ts : List ℕ) (form : RecordForm) (rs us : List ℕ) (rule-form : RuleForm) (cells : List ℕ) (p : P.Pair) (i : ℕ) (row : ClauseRow) (from : ℕ) : Type 0 where
   pub record-read : RecordRead ws ts form
   pub row-in : p .row .0 < form .rows
   pub rules-read : RulesRead rs us rule-form
   pub rule-in : p .rule .0 < rule-form .m
   pub clause-in : i < schemaAt rs (p .rule .0) .count
+  pub row-is : row ≡ wordsIn rs (p .rule .0) i
   pub started : Started (beforeIn rs us (p .rule .0) i) (clauseIn rs us (p .rule .0) i) from
   pub room : form .rows * rule-form .m ≤ length cells
   pub unsettled : Unsettled (rule-form .m) (pairIs p) cells

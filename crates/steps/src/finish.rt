@@ -10,16 +10,16 @@ ghost use Rattle.rulesheet.specs.Read.{RulesLaid};
 ghost use Rattle.rulesheet.specs.Clauses.{clauseMeans, Tested};
 ghost use Rattle.meaning.specs.Rules.{Pair as Meant, contained};
 ghost use Rattle.areas.specs.Cells.{pairIs};
-ghost use Rattle.clause.specs.Read.{RulesRead, clauseIn};
+ghost use Rattle.clause.specs.Read.{RulesRead, clauseIn, wordsIn};
 ghost use Rattle.plan.specs.Plan.{endsBy, afterMiss};
 use clause::sizes::Measured;
 use clause::sizes::elements_of;
 use rulesheet::clause::Clause;
 use rulesheet::clause::entry_of;
-use rulesheet::few::applied_of;
-use rulesheet::few::sparing_of;
+use rulesheet::few::applied_by;
+use rulesheet::few::sparing_by;
+use rulesheet::form::ClauseRow;
 use rulesheet::form::RuleForm;
-use rulesheet::form::schema_at;
 use sheet::record::Pair;
 use sheet::record::RecordForm;
 use sheet::record::RecordRow;
@@ -80,8 +80,8 @@ fn finish_in(
     }
 }
 
-// Whether clause i of the pair's schema, which applies schemas, holds on its row where `tally` is
-// carried in the end.
+// Whether clause i of the pair's schema, which applies schemas and whose words are `row`, holds on the
+// pair's row where `tally` is carried in the end.
 pub fn finish_of<'a>(
     record: &[u32],
     form: RecordForm,
@@ -90,14 +90,15 @@ pub fn finish_of<'a>(
     rule_form: RuleForm,
     p: Pair,
     i: u32,
+    row: ClauseRow,
     tally: u32,
 ) -> bool
     requires { ⌜ Laid (now «record») form × (p .row .0 < form .rows) ⌝ }
     requires { ⌜ RulesRead (now rules) (now «rule_text») «rule_form» × (p .rule .0 < «rule_form» .m) × (i < schemaAt (now rules) (p .rule .0) .count) ⌝ }
+    requires { ⌜ row ≡ wordsIn (now rules) (p .rule .0) i ⌝ }
     ensures { λ r. ⌜ ((ts : List ℕ) → r ≡ endsBy (docOf (now («record» .entry)) ts) (pairIs p) (clauseIn (now (rules .entry)) (now («rule_text» .entry)) (p .rule .0) i) tally) ⌝ }
 {
-    let first = schema_at(rules, rule_form, p.rule).first;
-    let clause = sparing_of(rules, rule_form, first + i);
+    let clause = sparing_by(row);
     finish_in(record, form, rules, rule_form, p.row, clause, tally)
 }
 
@@ -112,20 +113,21 @@ fn after_in(clause: Clause, step: u32) -> u32
     }
 }
 
-// The step that clause i of schema s goes on with where the pair of step `step` failed and judgements
-// are cut: past the last of allOf, and else the next.
+// The step that clause i of schema s, whose words are `row`, goes on with where the pair of step `step`
+// failed and judgements are cut: past the last of allOf, and else the next.
 pub fn after_miss<'a>(
     rules: &[u32],
     rule_text: &'a [u8],
     form: RuleForm,
     s: RuleRow,
     i: u32,
+    row: ClauseRow,
     step: u32,
 ) -> u32
     requires { ⌜ RulesRead (now rules) (now «rule_text») form × (s .0 < form .m) × (i < schemaAt (now rules) (s .0) .count) × (step < 4294967295) ⌝ }
+    requires { ⌜ row ≡ wordsIn (now rules) (s .0) i ⌝ }
     ensures { λ r. ⌜ r ≡ afterMiss (clauseIn (now (rules .entry)) (now («rule_text» .entry)) (s .0) i) step ⌝ }
 {
-    let first = schema_at(rules, form, s).first;
-    let clause = applied_of(rules, form, first + i);
+    let clause = applied_by(row);
     after_in(clause, step)
 }

@@ -2,7 +2,7 @@
 ghost use mathlib.Core.Bool.{true, false};
 ghost use mathlib.Core.Path.{_≡_};
 ghost use Rattle.rulesheet.specs.Clauses.{clauseMeans, applying};
-ghost use Rattle.clause.specs.Read.{clauseIn, ClauseRead};
+ghost use Rattle.clause.specs.Read.{clauseIn, wordsIn, ClauseRead};
 ghost use Rattle.steps.specs.Turns.{TurnAsked, TurnedIn};
 use crate::children::counted_turn;
 use crate::children::elements_in;
@@ -17,9 +17,9 @@ use crate::here::single_turn;
 use crate::members::named_turn;
 use crate::members::other_turn;
 use rulesheet::clause::Clause;
-use rulesheet::few::applied_of;
+use rulesheet::few::applied_by;
+use rulesheet::form::ClauseRow;
 use rulesheet::form::RuleForm;
-use rulesheet::form::schema_at;
 use sheet::record::Pair;
 use sheet::record::RecordForm;
 use sheet::record::RecordRow;
@@ -92,7 +92,7 @@ fn turn_in<'a>(
     x: u32,
     tally: u32,
 ) -> Turn
-    requires { ⌜ TurnAsked (now «record») (now text) form (now rules) (now «rule_text») «rule_form» (now cells) p i from ⌝ }
+    requires { ⌜ TurnAsked (now «record») (now text) form (now rules) (now «rule_text») «rule_form» (now cells) p i (wordsIn (now rules) (p .rule .0) i) from ⌝ }
     requires { ⌜ ClauseRead applying (now rules) (now «rule_text») «rule_form» (p .rule .0) i clause ⌝ }
     ensures { λ r. ⌜ TurnedIn (now («record» .entry)) (now (text .entry)) (now (rules .entry)) (now («rule_text» .entry)) p i (clauseMeans (now (rules .entry)) (now («rule_text» .entry)) clause) x tally («rule_form» .m) (now (cells .entry)) r ⌝ }
 {
@@ -138,9 +138,9 @@ fn turn_in<'a>(
     }
 }
 
-// Where clause i of the pair's schema stands on its row once its first x steps are taken and `tally` is
-// carried, `from` being what the clauses before it tell it. The cells must show the pair unsettled: no clause of a settled
-// pair is judged again.
+// Where clause i of the pair's schema, whose words are `row`, stands on the pair's row once its first x
+// steps are taken and `tally` is carried, `from` being what the clauses before it tell it. The cells must show the pair
+// unsettled: no clause of a settled pair is judged again.
 pub fn turn_of<'a>(
     record: &[u32],
     text: &'a [u8],
@@ -151,15 +151,15 @@ pub fn turn_of<'a>(
     cells: &[u8],
     p: Pair,
     i: u32,
+    row: ClauseRow,
     from: u32,
     x: u32,
     tally: u32,
 ) -> Turn
-    requires { ⌜ TurnAsked (now «record») (now text) form (now rules) (now «rule_text») «rule_form» (now cells) p i from ⌝ }
+    requires { ⌜ TurnAsked (now «record») (now text) form (now rules) (now «rule_text») «rule_form» (now cells) p i row from ⌝ }
     ensures { λ r. ⌜ TurnedIn (now («record» .entry)) (now (text .entry)) (now (rules .entry)) (now («rule_text» .entry)) p i (clauseIn (now (rules .entry)) (now («rule_text» .entry)) (p .rule .0) i) x tally («rule_form» .m) (now (cells .entry)) r ⌝ }
 {
-    let first = schema_at(rules, rule_form, p.rule).first;
-    let clause = applied_of(rules, rule_form, first + i);
+    let clause = applied_by(row);
     turn_in(
         record,
         text,
