@@ -36,8 +36,7 @@ module _ (ws ts : List ℕ) where
   pub answered : (d : Doc) (j : ℕ) (clause variant : Clause) (s : Test) (ok : Bool) → clause ≡ variant → clauseMeans ws ts variant ≡ asserts s → ok ≡ passes d j s
       → (t : Test) → clauseMeans ws ts clause ≡ asserts t → ok ≡ passes d j t
   answered d j clause variant s ok e means is t h =
-      let z = tried d j clause variant s ok e means is in
-      let twice : asserts s ≡ asserts t = sym (z .1) ∙ h in
+      let twice : asserts s ≡ asserts t = sym means ∙ sym (ap (clauseMeans ws ts) e) ∙ h in
       let same : s ≡ t = cc in
       is ∙ ap (passes d j) same
 

@@ -169,22 +169,38 @@ typed-is mask (string bytes) = or-none _ (has mask 4)
 typed-is mask (array first k) = or-none _ (has mask 4)
 typed-is mask (object first k) = or-none _ (has mask 4)
 
-module _ (mask : ℕ) (v : Value) (t : ℕ) (read : t ≡ typeNumber (valueKind v)) where
-  pub type-found : has mask t ≡ true → true ≡ typed mask v
-  type-found h = sym (typed-is mask v ∙ rw (← read, h))
+-- a number by its value, and what is none by its kind
+module _ (mask : ℕ) (z : ℤ) {t : ℕ} (e : t ≡ 8) where
+  pub number-typed : has mask t ≡ true → true ≡ typed mask (number z)
+  unfolding typed
+  number-typed h = let h₈ : has mask 8 ≡ true = sym (ap (has mask) e) ∙ h in sym (rw h₈)
 
-  type-missed : has mask t ≡ false → typed mask v ≡ (has mask 4 && wholeIn (number? v))
-  type-missed h = typed-is mask v ∙ rw (← read, h)
+  module _ (h : has mask t ≡ false) {b : Bool} (f : b ≡ has mask 4) where
+    missed : typed mask (number z) ≡ (b && isWhole z)
+    unfolding typed
+    missed = let h₈ : has mask 8 ≡ false = sym (ap (has mask) e) ∙ h in rw (h₈, f)
 
-  pub no-integer : has mask t ≡ false → has mask 4 ≡ false → false ≡ typed mask v
-  no-integer h i = sym (type-missed h ∙ rw i)
+    pub integer-typed : {w : Bool} → b ≡ true → w ≡ isWhole z → w ≡ typed mask (number z)
+    integer-typed y g = g ∙ sym (missed ∙ rw y)
 
-  module _ (r : Numbered) (found : NumberFound v r) (h : has mask t ≡ false) (i : has mask 4 ≡ true) where
-    pub whole-found : (d : Decimal) → r ≡ Number d → isWhole (value d) ≡ typed mask v
-    whole-found d e = sym (type-missed h ∙ rw (i, found .number-is, e))
+    pub untyped : b ≡ false → b ≡ typed mask (number z)
+    untyped n = n ∙ sym (missed ∙ rw n)
 
-    pub no-number : r ≡ Other → false ≡ typed mask v
-    no-number e = sym (type-missed h ∙ rw (i, found .number-is, e))
+as-number : (v : Value) (z : ℤ) → number? v ≡ some z → number z ≡ v
+unfolding number?
+as-number null z e = cc
+as-number (bool b) z e = cc
+as-number (number y) z e = let same : y ≡ z = cc in ap number (sym same)
+as-number (string bytes) z e = cc
+as-number (array first k) z e = cc
+as-number (object first k) z e = cc
+
+module _ (mask : ℕ) (v : Value) (r : Numbered) (found : NumberFound v r) where
+  pub typed-number : (d : Decimal) {b : Bool} → r ≡ Number d → b ≡ typed mask (number (value d)) → b ≡ typed mask v
+  typed-number d e f = f ∙ ap (typed mask) (as-number v (value d) (found .number-is ∙ rw e))
+
+  pub typed-other : {t : ℕ} {b : Bool} → r ≡ Other → t ≡ typeNumber (valueKind v) → b ≡ has mask t → b ≡ typed mask v
+  typed-other {t} e read f = f ∙ sym (typed-is mask v ∙ rw (found .number-is, e, ← read) (sym (or-none (has mask t) (has mask 4))))
 
 pub type-positive : (kind : RowKind) → 0 < typeNumber kind
 type-positive K.Null = omega arith

@@ -19,11 +19,12 @@ use crate::bounds::maximum;
 use crate::bounds::minimum;
 use crate::numbers::Numbered;
 use crate::numbers::number_in;
+use crate::sizes::FEW;
 use crate::sizes::few_bytes;
+use crate::sizes::few_characters;
 use crate::sizes::max_items;
 use crate::sizes::max_properties;
 use crate::sizes::min_items;
-use crate::sizes::min_length;
 use crate::sizes::min_properties;
 use crate::types::typed;
 use rulesheet::clause::Clause;
@@ -33,9 +34,6 @@ use rulesheet::form::schema_at;
 use sheet::record::Pair;
 use sheet::record::RecordForm;
 use sheet::record::RecordRow;
-
-// The longest minimum for which characters are counted here.
-const FEW: u32 = 8;
 
 // Whether the row is no number, or one of this scale: then nothing is divided to compare it.
 fn scaled(record: &[u32], form: RecordForm, row: RecordRow, scale: u32) -> bool
@@ -68,7 +66,7 @@ fn plainly(record: &[u32], text: &[u8], form: RecordForm, row: RecordRow, clause
         Clause::ExclusiveMaximum(limit) => {
             scaled(record, form, row, limit.scale) && exclusive_maximum(record, form, row, limit)
         }
-        Clause::MinLength(k) => (k <= FEW) && min_length(record, text, form, row, k),
+        Clause::MinLength(k) => (k <= FEW) && few_characters(record, text, form, row, k),
         Clause::MaxLength(k) => few_bytes(record, form, row, k),
         Clause::MinItems(k) => min_items(record, form, row, k),
         Clause::MaxItems(k) => max_items(record, form, row, k),

@@ -77,10 +77,16 @@ fn at_most(found: Measured, k: u32) -> bool
 }
 
 // The most characters that are looked at one by one; more are counted by many bytes at once.
-const FEW: u32 = 8;
+pub(crate) const FEW: u32 = 8;
 
 // Whether the row, if it is a string, has at least k characters: no more than k are looked at.
-fn few_characters(record: &[u32], text: &[u8], form: RecordForm, row: RecordRow, k: u32) -> bool
+pub(crate) fn few_characters(
+    record: &[u32],
+    text: &[u8],
+    form: RecordForm,
+    row: RecordRow,
+    k: u32,
+) -> bool
     requires { ⌜ RecordRead (now «record») (now text) form × (row .0 < form .rows) ⌝ }
     ensures { λ r. ⌜ r ≡ atLeast lengthOf k (bytes? (docOf (now («record» .entry)) (now (text .entry)) .value (row .0))) ⌝ }
 {

@@ -2,12 +2,15 @@
 ghost use mathlib.Core.List.{List};
 ghost use mathlib.Core.Path.{_≡_};
 ghost use Prim.Native.Nat.{ℕ, _<_};
+ghost use Rattle.decimal.specs.Value.{value, Plain};
+ghost use Rattle.sheet.specs.Doc.{number};
 ghost use Rattle.sheet.specs.Record.{docOf};
 ghost use Rattle.sheet.specs.Accepted.{Laid};
 ghost use Rattle.meaning.specs.Tests.{has, typed};
 ghost use Rattle.clause.specs.Read.{typeNumber};
 use crate::numbers::Numbered;
 use crate::numbers::number_in;
+use decimal::Decimal;
 use decimal::whole;
 use sheet::kind::RowKind;
 use sheet::record::RecordForm;
@@ -40,21 +43,25 @@ fn has_type(mask: u32, number: u32) -> bool
     mask / number % 2 == 1
 }
 
-// Whether the row has one of the mask's types. A number is an integer by its value, however it is
-// written.
+// Whether a number has one of the mask's types: it is an integer by its value, however it is written.
+fn numeric(mask: u32, it: Decimal) -> bool
+    requires { ⌜ Plain it ⌝ }
+    ensures { λ r. ⌜ r ≡ typed mask (number (value it)) ⌝ }
+{
+    if has_type(mask, type_of(RowKind::Number)) {
+        return true;
+    }
+    has_type(mask, INTEGER) && whole(it)
+}
+
+// Whether the row has one of the mask's types.
 pub(crate) fn typed(record: &[u32], form: RecordForm, row: RecordRow, mask: u32) -> bool
     requires { ⌜ Laid (now «record») form × (row .0 < form .rows) ⌝ }
     ensures { λ r. ⌜ ((ts : List ℕ) → r ≡ typed mask (docOf (now («record» .entry)) ts .value (row .0))) ⌝ }
 {
-    if has_type(mask, type_of(kind_of(record, form, row))) {
-        return true;
-    }
-    if !has_type(mask, INTEGER) {
-        return false;
-    }
     let found = number_in(record, form, row);
     match found {
-        Numbered::Number(number) => whole(number),
-        Numbered::Other => false,
+        Numbered::Number(number) => numeric(mask, number),
+        Numbered::Other => has_type(mask, type_of(kind_of(record, form, row))),
     }
 }

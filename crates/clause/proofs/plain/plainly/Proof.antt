@@ -66,8 +66,8 @@ exclusive-maximum-requires c κs =
 enum-known-clause-6 : tie.Need-enum-known-clause-6
 enum-known-clause-6 c = search needs
 
-min-length-requires : tie.Need-min-length-requires
-min-length-requires c κs = search needs
+few-characters-requires : tie.Need-few-characters-requires
+few-characters-requires c κs = search needs
 
 enum-known-clause-7 : tie.Need-enum-known-clause-7
 enum-known-clause-7 c = search needs
@@ -148,7 +148,7 @@ returns-11 : tie.Need-returns-11
 unfolding passes
 returns-11 c =
     let start = c .before .before .before .before .before .before .before in
-    λ t rs us. tried rs us (docOf (start .args .«record» .now) (start .args .text .now)) (start .args .row .0) _ _ _ _ (c .before .before .before .clause6 .given .1) refl (sym t ∙ c .min-length .ensures)
+    λ t rs us. tried rs us (docOf (start .args .«record» .now) (start .args .text .now)) (start .args .row .0) _ _ _ _ (c .before .before .before .clause6 .given .1) refl (sym t ∙ c .few-characters .ensures)
 
 returns-12 : tie.Need-returns-12
 returns-12 c = λ t. absurd (above (c .if6 .left) t)
@@ -206,7 +206,7 @@ plainly-spec =
     scaled-requires-5
     exclusive-maximum-requires
     enum-known-clause-6
-    min-length-requires
+    few-characters-requires
     enum-known-clause-7
     few-bytes-requires
     enum-known-clause-8
