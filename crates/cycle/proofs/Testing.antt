@@ -1,7 +1,7 @@
 -- Clauses that only test.
 --     claused-test                           a test was tried
---     applies-at, applying-by, tries-by      whether a clause applies schemas, as its words tell
---     claused-first                          the first clauses are tests that the row passes
+--     applies-lent, applying-by, tries-by    whether a clause applies schemas, as its words tell
+--     passes-many, claused-first             the first clauses are tests that the row passes
 --     told-open, told-end                    and they are all: the pair is settled at once
 -- Assumes nothing.
 use mathlib.Core.Bool.{Bool, true, false, not, _&&_, cond, true≢false}
@@ -10,23 +10,24 @@ use mathlib.Core.Path.{_≡_, refl, sym, ap, _∙_, subst}
 use Prim.Native.Nat.{ℕ, zero, suc, _+_, _≤_, _<_}
 use native.Mathlib.Numerals.{add-one}
 use native.Mathlib.Omega.{arith}
+use denote.Ref.{RefT}
 use lib.ListN.{length}
 use Rattle.sheet.specs.Doc.{Doc}
 use Rattle.rulesheet.specs.declared.form.ClauseRow.{ClauseRow}
 use Rattle.rulesheet.specs.Ruleset as R
 use Rattle.rulesheet.specs.Ruleset.{Test, never, asserts, inPlace, ifThenElse, dependentSchemas, contains, takes}
 use Rattle.rulesheet.specs.Sheet as RS
-use Rattle.rulesheet.specs.Sheet.{schemasWord, schemaAt}
+use Rattle.rulesheet.specs.Sheet.{schemaAt}
 use Rattle.rulesheet.specs.Clauses.{appliesAny}
 use Rattle.rulesheet.proofs.Items.{clause-item}
 use Rattle.meaning.specs.Rules.{Pair, Way, whole, cut, stops, passes}
 use Rattle.areas.specs.Cells.{cellAt, Unsettled}
 use Rattle.areas.specs.Writers.{Open, Shut}
 use Rattle.areas.proofs.Writers.{marked-same, kept-all}
-use Rattle.clause.specs.Read.{Tries}
+use Rattle.clause.specs.Read.{Tries, PassedFirst}
 use Rattle.plan.specs.Plan.{stepsOf, finishOf}
 use Rattle.cycle.specs.declared.cycle.Done.{Done}
-use Rattle.cycle.specs.State.{Case, caseOf, InCase, rankOf, clausesOf, clauseAt, goesOn, Ready, PassesFirst, WhereDone, Judged}
+use Rattle.cycle.specs.State.{Case, lent, Lent, lentCase, InCase, rowOf, rankOf, clausesOf, clauseAt, goesOn, Ready, PassesFirst, WhereDone, Judged}
 use Rattle.cycle.proofs.Pairs.{resAt}
 use Rattle.cycle.proofs.Going.{many, Stepped, ready-as, stepped-none, stepped-end, going-unsettled, going-ready, going-open}
 use Rattle.cycle.proofs.Claused.{Claused, Clausing, claused-none, claused-more, claused-next, claused-end}
@@ -52,13 +53,11 @@ claused-test {T} {p} {i = i} {c} {l} {n} {so = so} C on t e =
 
 -- ---- whether a clause applies schemas, as its words tell
 
-module _ (w : Way) (ws ts rs us : List ℕ) (p : Pair) (i : ℕ) where
-  abbrev T : Case
-  T = caseOf w ws ts rs us
-
-  pub applies-at : {row : ClauseRow} {r : Bool} → p .rule < schemasWord rs → i < schemaAt rs (p .rule) .count → row ≡ RS.clauseAt rs (schemaAt rs (p .rule) .first + i)
-      → ((vs xs : List ℕ) (k : ℕ) → row ≡ RS.clauseAt vs k → r ≡ appliesAny (RS.clauseOf vs xs k)) → r ≡ appliesAny (clauseAt T p i)
-  applies-at l h e f = f rs us _ e ∙ ap appliesAny (sym (clause-item rs us (p .rule) l i (asserts never) h))
+pub applies-lent : {words texts : List (RefT (List ℕ))} {forms : List ℕ} → Lent words texts forms → {p : Pair} {i : ℕ} {row : ClauseRow} {r : Bool} → InCase (lentCase words texts forms) p
+    → i < schemaAt (lent words 1) (p .rule) .count → row ≡ rowOf words p i
+    → ((vs xs : List ℕ) (k : ℕ) → row ≡ RS.clauseAt vs k → r ≡ appliesAny (RS.clauseOf vs xs k)) → r ≡ appliesAny (clauseAt (lentCase words texts forms) p i)
+applies-lent {words} {texts} all {p} {i} I h e f =
+    f (lent words 1) (lent texts 1) _ e ∙ ap appliesAny (sym (clause-item (lent words 1) (lent texts 1) (p .rule) (I .rule-in) i (asserts never) h))
 
 pub applying-by : (c : R.Clause) → appliesAny c ≡ true → (t : Test) → c ≡ asserts t → ⊥
 unfolding appliesAny
@@ -74,6 +73,9 @@ tries-by d j (contains s least most) e f = absurd (true≢false e)
 tries-by d j (takes c) e f = absurd (true≢false e)
 
 -- ---- the first clauses
+
+pub passes-many : {d : Doc} {j : ℕ} {f : ℕ → R.Clause} {n m r : ℕ} → n ≡ m → PassedFirst d j f n r → PassedFirst d j f m r
+passes-many e F = record { within = omega (arith, F .within); passed = F .passed }
 
 goes-true : (w : Way) → goesOn w true ≡ true
 goes-true whole = refl

@@ -18,7 +18,7 @@ use Rattle.meaning.specs.Rules.{Pair, Marks, _∪_, Result, answer, applied, Wa
 use Rattle.meaning.specs.Settling.{samePair, listed, inTurn, settle, shown}
 use Rattle.meaning.specs.Fit.{Fit, Inside, rank}
 use Rattle.rulesheet.specs.declared.form.ClauseRow.{ClauseRow}
-use Rattle.clause.specs.Read.{RecordRead, RulesRead, PassedFirst}
+use Rattle.clause.specs.Read.{RecordRead, RulesRead, wordsIn, PassedFirst}
 use Rattle.areas.specs.Cells.{cellAt, verd, Unsettled, bit, settledAs, column}
 use Rattle.areas.specs.Writers.{Writes, Marked, handedOn, HandsOn}
 use Rattle.steps.specs.declared.turn.Turn.{Turn}
@@ -132,7 +132,7 @@ beforeOf T p i = take i (clausesOf T p)
 
 -- the words of clause i of p's schema
 abbrev pub rowOf : List (RefT (List ℕ)) → Pair → ℕ → ClauseRow
-rowOf words p i = S.clauseAt (lent words 1) (schemaAt (lent words 1) (p .rule) .first + i)
+rowOf words p i = wordsIn (lent words 1) (p .rule) i
 
 -- the first r of the n clauses of p's schema are tests that its row passes
 abbrev pub PassesFirst : Case → Pair → ℕ → ℕ → Type 0

@@ -12,9 +12,9 @@ mod Apply
 mod JudgeClause
 mod JudgePair
 use Rattle.cycle.proofs.cycle.+apply+judge_clause+judge_pair.Proof.Base.{μ-apply, μ-judge-clause, μ-judge-pair, apply-at, judge-clause-at, judge-pair-at, apply-claims, judge-clause-claims, judge-pair-claims}
-use Rattle.cycle.proofs.cycle.+apply+judge_clause+judge_pair.Proof.Apply.{apply-verdict-of-requires, apply-same-length, apply-returns, apply-judge-pair-requires, apply-same-length-2, apply-same-length-3, apply-returns-2}
+use Rattle.cycle.proofs.cycle.+apply+judge_clause+judge_pair.Proof.Apply.{apply-verdict-of-requires, apply-same-length, apply-returns, apply-element-copy-out-clauses-of, apply-clauses-of-requires, apply-plain-requires, apply-schemas-of-requires, apply-settle-requires, apply-same-length-2, apply-same-length-3, apply-returns-2, apply-judge-pair-requires, apply-same-length-4, apply-same-length-5, apply-returns-3}
 use Rattle.cycle.proofs.cycle.+apply+judge_clause+judge_pair.Proof.JudgeClause.{judge-clause-Inv-loop, judge-clause-μ-loop, judge-clause-start-requires, judge-clause-loop-holds, judge-clause-turn-requires, judge-clause-finish-requires, judge-clause-same-length, judge-clause-same-length-2, judge-clause-returns, judge-clause-apply-requires, judge-clause-verdict-of-requires, judge-clause-moved-requires, judge-clause-give-requires, judge-clause-next-step-requires, judge-clause-loop-less, judge-clause-loop-again}
-use Rattle.cycle.proofs.cycle.+apply+judge_clause+judge_pair.Proof.JudgePair.{judge-pair-Inv-loop, judge-pair-μ-loop, judge-pair-element-copy-out-clauses-of, judge-pair-clauses-of-requires, judge-pair-loop-holds, judge-pair-tried-requires, judge-pair-enum-known-so, judge-pair-enum-told, judge-pair-judge-clause-requires, judge-pair-next-clause-requires, judge-pair-loop-less, judge-pair-loop-again, judge-pair-shut-requires, judge-pair-schemas-of-requires, judge-pair-settle-requires, judge-pair-same-length, judge-pair-same-length-2, judge-pair-returns}
+use Rattle.cycle.proofs.cycle.+apply+judge_clause+judge_pair.Proof.JudgePair.{judge-pair-Inv-loop, judge-pair-μ-loop, judge-pair-element-copy-out-clauses-of, judge-pair-clauses-of-requires, judge-pair-loop-holds, judge-pair-clause-row-requires, judge-pair-applies-requires, judge-pair-judge-clause-requires, judge-pair-holds-requires, judge-pair-next-clause-requires, judge-pair-loop-less, judge-pair-loop-again, judge-pair-shut-requires, judge-pair-schemas-of-requires, judge-pair-settle-requires, judge-pair-same-length, judge-pair-same-length-2, judge-pair-returns}
 
 pub +apply+judge-clause+judge-pair-spec : {M : Type 1} → statement M
 +apply+judge-clause+judge-pair-spec =
@@ -23,10 +23,18 @@ pub +apply+judge-clause+judge-pair-spec : {M : Type 1} → statement M
     (apply-verdict-of-requires t)
     (apply-same-length t)
     (apply-returns t)
-    (apply-judge-pair-requires t)
+    (apply-element-copy-out-clauses-of t)
+    (apply-clauses-of-requires t)
+    (apply-plain-requires t)
+    (apply-schemas-of-requires t)
+    (apply-settle-requires t)
     (apply-same-length-2 t)
     (apply-same-length-3 t)
-    (apply-returns-2 t))
+    (apply-returns-2 t)
+    (apply-judge-pair-requires t)
+    (apply-same-length-4 t)
+    (apply-same-length-5 t)
+    (apply-returns-3 t))
     (λ t. judge-clause-lts.spec (judge-clause-claims t) (judge-clause-at t)
     judge-clause.Post
     judge-clause-Inv-loop
@@ -52,10 +60,10 @@ pub +apply+judge-clause+judge-pair-spec : {M : Type 1} → statement M
     (judge-pair-element-copy-out-clauses-of t)
     (judge-pair-clauses-of-requires t)
     (judge-pair-loop-holds t)
-    (judge-pair-tried-requires t)
-    (judge-pair-enum-known-so t)
-    (judge-pair-enum-told t)
+    (judge-pair-clause-row-requires t)
+    (judge-pair-applies-requires t)
     (judge-pair-judge-clause-requires t)
+    (judge-pair-holds-requires t)
     (judge-pair-next-clause-requires t)
     (judge-pair-loop-less t)
     (judge-pair-loop-again t)

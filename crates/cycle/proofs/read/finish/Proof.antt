@@ -30,11 +30,11 @@ element-copy-out-finish-of-3 c =
 
 finish-of-requires : tie.Need-finish-of-requires
 finish-of-requires c κs =
-    let S = lent-sheets (c .before .before .before .before .before .pre .0 .reads .all .sheets) (record-lent (c .before .before .before .before .before .pre .0 .reads .all) (c .before .before .before .before .record-form .ensures)) (rules-lent (c .before .before .before .before .before .pre .0 .reads .all) (c .before .before .before .rules-form .ensures)) in ((S .record-read .laid, row-low S (c .before .before .before .before .before .pre .0 .reads .inside)), (S .rules-read, rule-low S (c .before .before .before .before .before .pre .0 .reads .inside), c .before .before .before .before .before .pre .0 .clause-in))
+    let S = lent-sheets (c .before .before .before .before .before .pre .0 .reads .all .sheets) (record-lent (c .before .before .before .before .before .pre .0 .reads .all) (c .before .before .before .before .record-form .ensures)) (rules-lent (c .before .before .before .before .before .pre .0 .reads .all) (c .before .before .before .rules-form .ensures)) in ((S .record-read .laid, row-low S (c .before .before .before .before .before .pre .0 .reads .inside)), ((S .rules-read, rule-low S (c .before .before .before .before .before .pre .0 .reads .inside), c .before .before .before .before .before .pre .0 .clause-in), c .before .before .before .before .before .pre .1))
 
 returns : tie.Need-returns
 returns c =
-    let T = lentCase (c .before .before .before .before .before .before .args .sheets .now) (c .before .before .before .before .before .before .args .texts .now) (c .before .before .before .before .before .before .args .forms .now) in let p = pairIs (c .before .before .before .before .before .before .args .p) in c .finish-of .ensures (lent (c .before .before .before .before .before .before .args .texts .now) 0) ∙ ends-finish (T .doc) p (clauseAt T p (c .before .before .before .before .before .before .args .i)) (c .before .before .before .before .before .before .args .tally) (c .before .before .before .before .before .before .pre .1)
+    let T = lentCase (c .before .before .before .before .before .before .args .sheets .now) (c .before .before .before .before .before .before .args .texts .now) (c .before .before .before .before .before .before .args .forms .now) in let p = pairIs (c .before .before .before .before .before .before .args .p) in c .finish-of .ensures (lent (c .before .before .before .before .before .before .args .texts .now) 0) ∙ ends-finish (T .doc) p (clauseAt T p (c .before .before .before .before .before .before .args .i)) (c .before .before .before .before .before .before .args .tally) (c .before .before .before .before .before .before .pre .2)
 
 pub finish-spec : {M : Type 1} → statement M
 finish-spec =

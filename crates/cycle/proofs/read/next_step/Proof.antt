@@ -35,7 +35,7 @@ after-miss-requires : tie.Need-after-miss-requires
 after-miss-requires c κs =
     let A = c .before .before .before .before .before .pre .0 in
     let S = lent-sheets (A .reads .all .sheets) refl (rules-lent (A .reads .all) (c .before .before .rules-form .ensures)) in
-    (S .rules-read, rule-low S (A .reads .inside), A .clause-in, c .before .before .before .before .before .pre .1)
+    ((S .rules-read, rule-low S (A .reads .inside), A .clause-in, c .before .before .before .before .before .pre .2), c .before .before .before .before .before .pre .1)
 
 returns-2 : tie.Need-returns-2
 returns-2 c =

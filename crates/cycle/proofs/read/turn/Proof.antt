@@ -5,10 +5,10 @@ use Rattle.cycle.proofs.read.turn.Statement.{statement}
 use Rattle.cycle.proofs.read.turn.Tie as tie
 
 record-form-requires : tie.Need-record-form-requires
-record-form-requires c κs = forms-fit (c .before .pre .0 .reads .all)
+record-form-requires c κs = forms-fit (c .before .pre .0 .0 .reads .all)
 
 rules-form-requires : tie.Need-rules-form-requires
-rules-form-requires c κs = forms-fit (c .before .before .pre .0 .reads .all)
+rules-form-requires c κs = forms-fit (c .before .before .pre .0 .0 .reads .all)
 
 element-copy-out-turn-of : tie.Need-element-copy-out-turn-of
 element-copy-out-turn-of c = search needs
@@ -24,7 +24,7 @@ element-copy-out-turn-of-4 c = search needs
 
 turn-of-requires : tie.Need-turn-of-requires
 turn-of-requires c κs =
-    let A = c .before .before .before .before .before .before .before .pre .0 in
+    let A = c .before .before .before .before .before .before .before .pre .0 .0 in
     let B = c .before .before .before .before .before .before .before .pre .1 in
     let S = lent-sheets (A .reads .all .sheets) (record-lent (A .reads .all) (c .before .before .before .before .before .record-form .ensures)) (rules-lent (A .reads .all) (c .before .before .before .before .rules-form .ensures)) in
     record {
@@ -33,6 +33,7 @@ turn-of-requires c κs =
       rules-read = S .rules-read;
       rule-in = rule-low S (A .reads .inside);
       clause-in = A .clause-in;
+      row-is = c .before .before .before .before .before .before .before .pre .0 .1;
       started = B .started;
       room = rw (rows-are S, schemas-are S) (B .room);
       unsettled = rw (schemas-are S) (B .unsettled);
@@ -40,7 +41,7 @@ turn-of-requires c κs =
 
 returns : tie.Need-returns
 returns c =
-    let A = c .before .before .before .before .before .before .before .before .pre .0 in
+    let A = c .before .before .before .before .before .before .before .before .pre .0 .0 in
     let S = lent-sheets (A .reads .all .sheets) (record-lent (A .reads .all) (c .before .before .before .before .before .before .record-form .ensures)) (rules-lent (A .reads .all) (c .before .before .before .before .before .rules-form .ensures)) in
     rw (schemas-are S) at (c .turn-of .ensures)
 

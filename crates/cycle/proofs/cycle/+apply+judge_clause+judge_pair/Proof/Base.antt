@@ -16,18 +16,21 @@ use Rattle.cycle.proofs.cycle.judge_pair.Reads as judge-pair
 use Rattle.cycle.proofs.cycle.judge_pair.Kinds as judge-pair-kinds
 use Rattle.cycle.proofs.cycle.+apply+judge_clause+judge_pair.Lts-judge_pair as judge-pair-lts
 use Rattle.areas.proofs.settle.Reads as settle-reads
+use Rattle.cycle.proofs.read.clause_row.Reads as clause-row-reads
 use Rattle.cycle.proofs.read.clauses_of.Reads as clauses-of-reads
 use Rattle.cycle.proofs.read.finish.Reads as finish-reads
 use Rattle.cycle.proofs.read.give.Reads as give-reads
+use Rattle.cycle.proofs.read.holds.Reads as holds-reads
 use Rattle.cycle.proofs.read.moved.Reads as moved-reads
 use Rattle.cycle.proofs.read.next_clause.Reads as next-clause-reads
 use Rattle.cycle.proofs.read.next_step.Reads as next-step-reads
+use Rattle.cycle.proofs.read.plain.Reads as plain-reads
 use Rattle.cycle.proofs.read.schemas_of.Reads as schemas-of-reads
 use Rattle.cycle.proofs.read.shut.Reads as shut-reads
 use Rattle.cycle.proofs.read.start.Reads as start-reads
-use Rattle.cycle.proofs.read.tried.Reads as tried-reads
 use Rattle.cycle.proofs.read.turn.Reads as turn-reads
 use Rattle.cycle.proofs.read.verdict_of.Reads as verdict-of-reads
+use Rattle.rulesheet.proofs.few.applies.Reads as applies-reads
 
 abbrev pub μ-apply : Measures 4 apply-kinds.ps ℕ
 μ-apply κs a =
@@ -68,10 +71,10 @@ judge-pair-below t =
     and 4 judge-pair-kinds.ps (falls 4 judge-pair-kinds.ps _<_ μ-judge-pair t) judge-pair.Pre
 
 abbrev pub apply-claims : ℕ → apply-lts.Claims
-apply-claims t = (verdict-of-reads.Asked, verdict-of-reads.Learnt, judge-pair-below t, judge-pair.Post)
+apply-claims t = (verdict-of-reads.Asked, verdict-of-reads.Learnt, clauses-of-reads.Asked, clauses-of-reads.Learnt, plain-reads.Asked, plain-reads.Learnt, schemas-of-reads.Asked, schemas-of-reads.Learnt, settle-reads.Asked, settle-reads.Learnt, judge-pair-below t, judge-pair.Post)
 
 abbrev pub judge-clause-claims : ℕ → judge-clause-lts.Claims
 judge-clause-claims t = (start-reads.Asked, start-reads.Learnt, turn-reads.Asked, turn-reads.Learnt, finish-reads.Asked, finish-reads.Learnt, apply-below t, apply.Post, verdict-of-reads.Asked, verdict-of-reads.Learnt, moved-reads.Asked, moved-reads.Learnt, give-reads.Asked, give-reads.Learnt, next-step-reads.Asked, next-step-reads.Learnt)
 
 abbrev pub judge-pair-claims : ℕ → judge-pair-lts.Claims
-judge-pair-claims t = (clauses-of-reads.Asked, clauses-of-reads.Learnt, tried-reads.Asked, tried-reads.Learnt, judge-clause-below t, judge-clause.Post, next-clause-reads.Asked, next-clause-reads.Learnt, shut-reads.Asked, shut-reads.Learnt, schemas-of-reads.Asked, schemas-of-reads.Learnt, settle-reads.Asked, settle-reads.Learnt)
+judge-pair-claims t = (clauses-of-reads.Asked, clauses-of-reads.Learnt, clause-row-reads.Asked, clause-row-reads.Learnt, applies-reads.Asked, applies-reads.Learnt, judge-clause-below t, judge-clause.Post, holds-reads.Asked, holds-reads.Learnt, next-clause-reads.Asked, next-clause-reads.Learnt, shut-reads.Asked, shut-reads.Learnt, schemas-of-reads.Asked, schemas-of-reads.Learnt, settle-reads.Asked, settle-reads.Learnt)

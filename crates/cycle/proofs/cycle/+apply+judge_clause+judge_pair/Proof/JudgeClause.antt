@@ -17,16 +17,16 @@ use Rattle.cycle.proofs.cycle.+apply+judge_clause+judge_pair.Lts-judge_
 use Rattle.cycle.proofs.cycle.+apply+judge_clause+judge_pair.Proof.Base.{judge-clause-at, judge-clause-claims}
 
 abbrev pub judge-clause-Inv-loop : judge-clause-lts.InvT-loop
-judge-clause-Inv-loop sheets texts forms cells₀ list₀ count p i from tally₀ now₀ x₀ cells list tally now x =
+judge-clause-Inv-loop sheets texts forms cells₀ list₀ count p i row from tally₀ now₀ x₀ cells list tally now x =
     WhereDone (lentCase sheets texts forms) cells₀ list₀ count (λ d. Standing (lentCase sheets texts forms) (pairIs p) i d cells₀ list₀ x cells list now tally)
 
 abbrev pub judge-clause-μ-loop : judge-clause-lts.MeasureT-loop
-judge-clause-μ-loop sheets texts forms cells₀ list₀ count p i from tally₀ now₀ x₀ cells list tally now x =
+judge-clause-μ-loop sheets texts forms cells₀ list₀ count p i row from tally₀ now₀ x₀ cells list tally now x =
     many (lentCase sheets texts forms) (pairIs p) i - x
 
 pub judge-clause-start-requires : (t : ℕ) → judge-clause-lts.Need-start-requires (judge-clause-claims t) (judge-clause-at t) judge-clause.Post judge-clause-Inv-loop judge-clause-μ-loop
 judge-clause-start-requires t c κs =
-    reads-clause (c .before .before .pre .1 .0) (c .before .before .pre .1 .1 .0 .inside) (c .before .before .pre .1 .1 .1 .1 .0)
+    reads-clause (c .before .before .pre .1 .0) (c .before .before .pre .1 .1 .0 .inside) (c .before .before .pre .1 .1 .1 .1 .0 .0)
 
 pub judge-clause-loop-holds : (t : ℕ) → judge-clause-lts.Need-loop-holds (judge-clause-claims t) (judge-clause-at t) judge-clause.Post judge-clause-Inv-loop judge-clause-μ-loop
 judge-clause-loop-holds t c =
@@ -34,11 +34,11 @@ judge-clause-loop-holds t c =
 
 pub judge-clause-turn-requires : (t : ℕ) → judge-clause-lts.Need-turn-requires (judge-clause-claims t) (judge-clause-at t) judge-clause.Post judge-clause-Inv-loop judge-clause-μ-loop
 judge-clause-turn-requires t c κs =
-    (reads-clause (c .before .before .before .before .before .pre .1 .0) (c .before .before .before .before .before .pre .1 .1 .0 .inside) (c .before .before .before .before .before .pre .1 .1 .1 .1 .0), standing-asks (c .before .loop .inv (c .before .before .before .before .before .pre .1 .1 .0 .done) (c .before .before .before .before .before .pre .1 .1 .0 .areas)) (c .before .before .start .ensures))
+    ((reads-clause (c .before .before .before .before .before .pre .1 .0) (c .before .before .before .before .before .pre .1 .1 .0 .inside) (c .before .before .before .before .before .pre .1 .1 .1 .1 .0 .0), c .before .before .before .before .before .pre .1 .1 .1 .1 .1), standing-asks (c .before .loop .inv (c .before .before .before .before .before .pre .1 .1 .0 .done) (c .before .before .before .before .before .pre .1 .1 .0 .areas)) (c .before .before .start .ensures))
 
 pub judge-clause-finish-requires : (t : ℕ) → judge-clause-lts.Need-finish-requires (judge-clause-claims t) (judge-clause-at t) judge-clause.Post judge-clause-Inv-loop judge-clause-μ-loop
 judge-clause-finish-requires t c κs =
-    (reads-clause (c .before .before .before .before .before .before .before .before .pre .1 .0) (c .before .before .before .before .before .before .before .before .pre .1 .1 .0 .inside) (c .before .before .before .before .before .before .before .before .pre .1 .1 .1 .1 .0), c .before .before .before .before .before .before .before .before .pre .1 .1 .1 .1 .1)
+    (reads-clause (c .before .before .before .before .before .before .before .before .pre .1 .0) (c .before .before .before .before .before .before .before .before .pre .1 .1 .0 .inside) (c .before .before .before .before .before .before .before .before .pre .1 .1 .1 .1 .0 .0), c .before .before .before .before .before .before .before .before .pre .1 .1 .1 .1 .1, c .before .before .before .before .before .before .before .before .pre .1 .1 .1 .1 .0 .1)
 
 pub judge-clause-same-length : (t : ℕ) → judge-clause-lts.Need-same-length (judge-clause-claims t) (judge-clause-at t) judge-clause.Post judge-clause-Inv-loop judge-clause-μ-loop
 judge-clause-same-length t c =
@@ -56,12 +56,12 @@ pub judge-clause-apply-requires : (t : ℕ) → judge-clause-lts.Need-apply-requ
 judge-clause-apply-requires t c κs =
     let W = standing-turn (c .before .before .before .before .before .before .loop .inv (c .before .before .before .before .before .before .before .before .before .before .pre .1 .1 .0 .done) (c .before .before .before .before .before .before .before .before .before .before .pre .1 .1 .0 .areas)) (c .before .before .before .before .turn .ensures) in
     let go = not-false _ (c .before .before .if1 .left) in
-    let has = clause-has (c .before .before .before .before .before .before .before .before .before .before .pre .1 .0 .sheets) (c .before .before .before .before .before .before .before .before .before .before .pre .1 .1 .0 .inside) (c .before .before .before .before .before .before .before .before .before .before .pre .1 .1 .1 .1 .0) in
+    let has = clause-has (c .before .before .before .before .before .before .before .before .before .before .pre .1 .0 .sheets) (c .before .before .before .before .before .before .before .before .before .before .pre .1 .1 .0 .inside) (c .before .before .before .before .before .before .before .before .before .before .pre .1 .1 .1 .1 .0 .0) in
     (falls-by (c .before .before .before .before .before .before .before .before .before .before .pre .0) (turning-aim W go has), (c .before .before .before .before .before .before .before .before .before .before .pre .1 .0, turning-ready W go has))
 
 pub judge-clause-verdict-of-requires : (t : ℕ) → judge-clause-lts.Need-verdict-of-requires (judge-clause-claims t) (judge-clause-at t) judge-clause.Post judge-clause-Inv-loop judge-clause-μ-loop
 judge-clause-verdict-of-requires t c κs =
-    rw (schemas-lent (c .before .before .before .before .before .before .before .before .before .before .before .before .before .before .before .before .pre .1 .0)) (turning-cell (standing-turn (c .before .before .before .before .before .before .before .before .before .before .before .before .loop .inv (c .before .before .before .before .before .before .before .before .before .before .before .before .before .before .before .before .pre .1 .1 .0 .done) (c .before .before .before .before .before .before .before .before .before .before .before .before .before .before .before .before .pre .1 .1 .0 .areas)) (c .before .before .before .before .before .before .before .before .before .before .turn .ensures)) (not-false _ (c .before .before .before .before .before .before .before .before .if1 .left)) (clause-has (c .before .before .before .before .before .before .before .before .before .before .before .before .before .before .before .before .pre .1 .0 .sheets) (c .before .before .before .before .before .before .before .before .before .before .before .before .before .before .before .before .pre .1 .1 .0 .inside) (c .before .before .before .before .before .before .before .before .before .before .before .before .before .before .before .before .pre .1 .1 .1 .1 .0)) (c .before .before .before .before .before .apply .ensures))
+    rw (schemas-lent (c .before .before .before .before .before .before .before .before .before .before .before .before .before .before .before .before .pre .1 .0)) (turning-cell (standing-turn (c .before .before .before .before .before .before .before .before .before .before .before .before .loop .inv (c .before .before .before .before .before .before .before .before .before .before .before .before .before .before .before .before .pre .1 .1 .0 .done) (c .before .before .before .before .before .before .before .before .before .before .before .before .before .before .before .before .pre .1 .1 .0 .areas)) (c .before .before .before .before .before .before .before .before .before .before .turn .ensures)) (not-false _ (c .before .before .before .before .before .before .before .before .if1 .left)) (clause-has (c .before .before .before .before .before .before .before .before .before .before .before .before .before .before .before .before .pre .1 .0 .sheets) (c .before .before .before .before .before .before .before .before .before .before .before .before .before .before .before .before .pre .1 .1 .0 .inside) (c .before .before .before .before .before .before .before .before .before .before .before .before .before .before .before .before .pre .1 .1 .1 .1 .0 .0)) (c .before .before .before .before .before .apply .ensures))
 
 pub judge-clause-moved-requires : (t : ℕ) → judge-clause-lts.Need-moved-requires (judge-clause-claims t) (judge-clause-at t) judge-clause.Post judge-clause-Inv-loop judge-clause-μ-loop
 judge-clause-moved-requires t c κs =
@@ -70,14 +70,14 @@ judge-clause-moved-requires t c κs =
 
 pub judge-clause-give-requires : (t : ℕ) → judge-clause-lts.Need-give-requires (judge-clause-claims t) (judge-clause-at t) judge-clause.Post judge-clause-Inv-loop judge-clause-μ-loop
 judge-clause-give-requires t c κs =
-    (reads-by (c .before .before .before .before .before .before .before .before .before .before .before .before .before .before .before .before .before .before .before .before .pre .1 .0) (c .before .before .before .before .before .before .before .before .before .before .before .before .before .before .before .before .before .before .before .before .pre .1 .1 .0 .inside), turning-hands (standing-turn (c .before .before .before .before .before .before .before .before .before .before .before .before .before .before .before .before .loop .inv (c .before .before .before .before .before .before .before .before .before .before .before .before .before .before .before .before .before .before .before .before .pre .1 .1 .0 .done) (c .before .before .before .before .before .before .before .before .before .before .before .before .before .before .before .before .before .before .before .before .pre .1 .1 .0 .areas)) (c .before .before .before .before .before .before .before .before .before .before .before .before .before .before .turn .ensures)) (not-false _ (c .before .before .before .before .before .before .before .before .before .before .before .before .if1 .left)) (clause-has (c .before .before .before .before .before .before .before .before .before .before .before .before .before .before .before .before .before .before .before .before .pre .1 .0 .sheets) (c .before .before .before .before .before .before .before .before .before .before .before .before .before .before .before .before .before .before .before .before .pre .1 .1 .0 .inside) (c .before .before .before .before .before .before .before .before .before .before .before .before .before .before .before .before .before .before .before .before .pre .1 .1 .1 .1 .0)) (c .before .before .before .before .before .before .before .before .before .apply .ensures))
+    (reads-by (c .before .before .before .before .before .before .before .before .before .before .before .before .before .before .before .before .before .before .before .before .pre .1 .0) (c .before .before .before .before .before .before .before .before .before .before .before .before .before .before .before .before .before .before .before .before .pre .1 .1 .0 .inside), turning-hands (standing-turn (c .before .before .before .before .before .before .before .before .before .before .before .before .before .before .before .before .loop .inv (c .before .before .before .before .before .before .before .before .before .before .before .before .before .before .before .before .before .before .before .before .pre .1 .1 .0 .done) (c .before .before .before .before .before .before .before .before .before .before .before .before .before .before .before .before .before .before .before .before .pre .1 .1 .0 .areas)) (c .before .before .before .before .before .before .before .before .before .before .before .before .before .before .turn .ensures)) (not-false _ (c .before .before .before .before .before .before .before .before .before .before .before .before .if1 .left)) (clause-has (c .before .before .before .before .before .before .before .before .before .before .before .before .before .before .before .before .before .before .before .before .pre .1 .0 .sheets) (c .before .before .before .before .before .before .before .before .before .before .before .before .before .before .before .before .before .before .before .before .pre .1 .1 .0 .inside) (c .before .before .before .before .before .before .before .before .before .before .before .before .before .before .before .before .before .before .before .before .pre .1 .1 .1 .1 .0 .0)) (c .before .before .before .before .before .before .before .before .before .apply .ensures))
 
 pub judge-clause-next-step-requires : (t : ℕ) → judge-clause-lts.Need-next-step-requires (judge-clause-claims t) (judge-clause-at t) judge-clause.Post judge-clause-Inv-loop judge-clause-μ-loop
 judge-clause-next-step-requires t c κs =
     let start = c .before .before .before .before .before .before .before .before .before .before .before .before .before .before .before .before .before .before .before .before .before .before .before in
     let R = start .pre .1 .1 .0 in
     let h = turning-low (standing-turn (c .before .before .before .before .before .before .before .before .before .before .before .before .before .before .before .before .before .before .before .loop .inv (R .done) (R .areas)) (c .before .before .before .before .before .before .before .before .before .before .before .before .before .before .before .before .before .turn .ensures)) (not-false _ (c .before .before .before .before .before .before .before .before .before .before .before .before .before .before .before .if1 .left)) in
-    (reads-clause (start .pre .1 .0) (R .inside) (start .pre .1 .1 .1 .1 .0), h .0)
+    (reads-clause (start .pre .1 .0) (R .inside) (start .pre .1 .1 .1 .1 .0 .0), start .pre .1 .1 .1 .1 .1, h .0)
 
 pub judge-clause-loop-less : (t : ℕ) → judge-clause-lts.Need-loop-less (judge-clause-claims t) (judge-clause-at t) judge-clause.Post judge-clause-Inv-loop judge-clause-μ-loop
 judge-clause-loop-less t c =
@@ -91,6 +91,6 @@ judge-clause-loop-less t c =
 pub judge-clause-loop-again : (t : ℕ) → judge-clause-lts.Need-loop-again (judge-clause-claims t) (judge-clause-at t) judge-clause.Post judge-clause-Inv-loop judge-clause-μ-loop
 judge-clause-loop-again t c =
     let start = c .before .before .before .before .before .before .before .before .before .before .before .before .before .before .before .before .before .before .before .before .before .before .before .before in
-    let has = clause-has (start .pre .1 .0 .sheets) (start .pre .1 .1 .0 .inside) (start .pre .1 .1 .1 .1 .0) in
+    let has = clause-has (start .pre .1 .0 .sheets) (start .pre .1 .1 .0 .inside) (start .pre .1 .1 .1 .1 .0 .0) in
     λ d A.
     turning-more (standing-turn (c .before .before .before .before .before .before .before .before .before .before .before .before .before .before .before .before .before .before .before .before .loop .inv d A) (c .before .before .before .before .before .before .before .before .before .before .before .before .before .before .before .before .before .before .turn .ensures)) (not-false _ (c .before .before .before .before .before .before .before .before .before .before .before .before .before .before .before .before .if1 .left)) has (c .before .before .before .before .before .before .before .before .before .before .before .before .before .apply .ensures) (rw (schemas-lent (start .pre .1 .0)) at (c .before .before .before .before .before .before .before .verdict-of .ensures)) (c .before .before .before .before .before .before .moved .ensures) (c .before .before .before .give .ensures) (c .next-step .ensures)
