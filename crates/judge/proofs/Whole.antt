@@ -23,7 +23,7 @@ use Rattle.meaning.specs.Settling.{listed, root, settled, word, list, cell, cel
 use Rattle.meaning.specs.Answer.{Left, verdict, listRoom, listLeft, judged}
 use Rattle.meaning.proofs.Trees.{once}
 use Rattle.meaning.proofs.Rows.{by-rows}
-use Rattle.areas.specs.Cells.{cellOf, verd, bit, four, settledAs, column, markedBy, Cleared, cellAt}
+use Rattle.areas.specs.Cells.{Unsettled, cellOf, verd, bit, four, settledAs, column, markedBy, Cleared, cellAt}
 use Rattle.areas.specs.Writers.{Writes}
 use Rattle.areas.proofs.Cells.{settledAs-read, whole as both-parts, zero-verd, zero-bit, settled-blank}
 use Rattle.cycle.specs.declared.cycle.Verdict.{Verdict}
@@ -202,6 +202,10 @@ part-judged {T} {k} {q} {c₀} {l₀} {c} {l} r e f a h =
 pub root-ready : {T : Case} {c l : List ℕ} {t : ℕ} → Fresh T c l → Ready T t (pair 0 0) c l 0
 unfolding root
 root-ready F = fresh-ready F
+
+pub root-unsettled : {T : Case} {c l : List ℕ} → Fresh T c l → Unsettled (T .m) (pair 0 0) c
+unfolding Unsettled
+root-unsettled F = zero-verd _ (F .blank _)
 
 -- what cells of exactly n × m places held before does not matter
 same-left : (T : Case) (c c₀ l₀ : List ℕ) → length c ≡ T .n * T .m → length c₀ ≡ T .n * T .m → judgedOf T c₀ l₀ ≡ judgedOf T c l₀

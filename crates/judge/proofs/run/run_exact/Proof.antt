@@ -2,7 +2,7 @@
 use mathlib.Core.Path.{refl, _∙_}
 use native.Mathlib.Omega.{arith}
 use Rattle.cycle.specs.State.{pair, wayBy}
-use Rattle.judge.proofs.Whole.{cleared-fresh, root-ready, root-areas, root-writes, root-judged}
+use Rattle.judge.proofs.Whole.{cleared-fresh, root-ready, root-unsettled, root-areas, root-writes, root-judged}
 use Rattle.cycle.proofs.Turning.{cell-asks}
 use Rattle.cycle.proofs.Reading.{lends, way-lent, lent-schemas, schemas-are, row-low, kid-first, kid-many, kids-small}
 use borrow.Author.Needs.{needs}
@@ -16,13 +16,13 @@ clear-requires c κs =
 forms-of-requires : tie.Need-forms-of-requires
 forms-of-requires c κs = search needs
 
-apply-requires : tie.Need-apply-requires
-apply-requires c κs =
-    (lends (wayBy (c .before .before .before .before .before .before .before .before .before .before .before .before .before .before .before .before .args .cut)) (c .before .before .before .before .before .before .before .before .before .before .before .before .before .before .before .before .pre .0) (c .before .before .before .before .before .forms-of .ensures), rw (way-lent (wayBy (c .before .before .before .before .before .before .before .before .before .before .before .before .before .before .before .before .args .cut)) (c .before .before .before .before .before .forms-of .ensures)) (root-ready (cleared-fresh (c .before .before .before .before .before .before .before .before .before .before .before .before .before .before .before .before .pre .1) (c .before .before .before .before .before .before .before .before .clear .ensures))))
+judge-root-requires : tie.Need-judge-root-requires
+judge-root-requires c κs =
+    (lends (wayBy (c .before .before .before .before .before .before .before .before .before .before .before .before .before .before .before .before .args .cut)) (c .before .before .before .before .before .before .before .before .before .before .before .before .before .before .before .before .pre .0) (c .before .before .before .before .before .forms-of .ensures), (rw (way-lent (wayBy (c .before .before .before .before .before .before .before .before .before .before .before .before .before .before .before .before .args .cut)) (c .before .before .before .before .before .forms-of .ensures)) (root-ready (cleared-fresh (c .before .before .before .before .before .before .before .before .before .before .before .before .before .before .before .before .pre .1) (c .before .before .before .before .before .before .before .before .clear .ensures))), root-unsettled (cleared-fresh (c .before .before .before .before .before .before .before .before .before .before .before .before .before .before .before .before .pre .1) (c .before .before .before .before .before .before .before .before .clear .ensures))))
 
 verdict-of-requires : tie.Need-verdict-of-requires
 verdict-of-requires c κs =
-    rw (lent-schemas (wayBy (c .before .before .before .before .before .before .before .before .before .before .before .before .before .before .before .before .before .before .before .before .before .before .before .args .cut)) (c .before .before .before .before .before .before .before .before .before .before .before .before .before .before .before .before .before .before .before .before .before .before .before .pre .0) (c .before .before .before .before .before .before .before .before .before .before .before .before .forms-of .ensures)) (cell-asks ((c .before .before .before .before .before .before .before .before .before .before .before .before .before .before .before .before .before .before .before .before .before .before .before .pre .1) .fit) ((root-ready {t = 0} (cleared-fresh (c .before .before .before .before .before .before .before .before .before .before .before .before .before .before .before .before .before .before .before .before .before .before .before .pre .1) (c .before .before .before .before .before .before .before .before .before .before .before .before .before .before .before .clear .ensures))) .inside) (root-areas (cleared-fresh (c .before .before .before .before .before .before .before .before .before .before .before .before .before .before .before .before .before .before .before .before .before .before .before .pre .1) (c .before .before .before .before .before .before .before .before .before .before .before .before .before .before .before .clear .ensures)) (rw (way-lent (wayBy (c .before .before .before .before .before .before .before .before .before .before .before .before .before .before .before .before .before .before .before .before .before .before .before .args .cut)) (c .before .before .before .before .before .before .before .before .before .before .before .before .forms-of .ensures)) at (c .before .before .before .before .before .before .apply .ensures))))
+    rw (lent-schemas (wayBy (c .before .before .before .before .before .before .before .before .before .before .before .before .before .before .before .before .before .before .before .before .before .before .before .args .cut)) (c .before .before .before .before .before .before .before .before .before .before .before .before .before .before .before .before .before .before .before .before .before .before .before .pre .0) (c .before .before .before .before .before .before .before .before .before .before .before .before .forms-of .ensures)) (cell-asks ((c .before .before .before .before .before .before .before .before .before .before .before .before .before .before .before .before .before .before .before .before .before .before .before .pre .1) .fit) ((root-ready {t = 0} (cleared-fresh (c .before .before .before .before .before .before .before .before .before .before .before .before .before .before .before .before .before .before .before .before .before .before .before .pre .1) (c .before .before .before .before .before .before .before .before .before .before .before .before .before .before .before .clear .ensures))) .inside) (root-areas (cleared-fresh (c .before .before .before .before .before .before .before .before .before .before .before .before .before .before .before .before .before .before .before .before .before .before .before .pre .1) (c .before .before .before .before .before .before .before .before .before .before .before .before .before .before .before .clear .ensures)) (rw (way-lent (wayBy (c .before .before .before .before .before .before .before .before .before .before .before .before .before .before .before .before .before .before .before .before .before .before .before .args .cut)) (c .before .before .before .before .before .before .before .before .before .before .before .before .forms-of .ensures)) at (c .before .before .before .before .before .before .judge-root .ensures))))
 
 children-of-requires : tie.Need-children-of-requires
 children-of-requires c κs =
@@ -34,7 +34,7 @@ wide-requires c κs =
 
 marked-of-requires : tie.Need-marked-of-requires
 marked-of-requires c κs =
-    let ts = c .before .before .before .before .before .before .before .before .before .before .before .before .before .before .before .before .before .before .before .before .before .before .before .before .before .before .before .args .text .now in (rw (c .wide .ensures ∙ schemas-are (c .before .before .before .before .before .before .before .before .before .before .before .before .before .before .before .before .before .before .before .before .before .before .before .before .before .before .before .pre .0), (c .before .before .children-of .ensures) .first-is ts, (c .before .before .children-of .ensures) .count-is ts) (root-writes (cleared-fresh (c .before .before .before .before .before .before .before .before .before .before .before .before .before .before .before .before .before .before .before .before .before .before .before .before .before .before .before .pre .1) (c .before .before .before .before .before .before .before .before .before .before .before .before .before .before .before .before .before .before .before .clear .ensures)) (rw (way-lent (wayBy (c .before .before .before .before .before .before .before .before .before .before .before .before .before .before .before .before .before .before .before .before .before .before .before .before .before .before .before .args .cut)) (c .before .before .before .before .before .before .before .before .before .before .before .before .before .before .before .before .forms-of .ensures)) at (c .before .before .before .before .before .before .before .before .before .before .apply .ensures)) ((c .before .before .before .before .before .before .before .before .before .before .before .before .before .before .before .before .before .before .before .before .before .before .before .before .before .before .before .pre .1) .fit)), kids-small ts (c .before .before .before .before .before .before .before .before .before .before .before .before .before .before .before .before .before .before .before .before .before .before .before .before .before .before .before .pre .0) ((root-ready {t = 0} (cleared-fresh (c .before .before .before .before .before .before .before .before .before .before .before .before .before .before .before .before .before .before .before .before .before .before .before .before .before .before .before .pre .1) (c .before .before .before .before .before .before .before .before .before .before .before .before .before .before .before .before .before .before .before .clear .ensures))) .inside) (c .before .before .children-of .ensures) (omega arith))
+    let ts = c .before .before .before .before .before .before .before .before .before .before .before .before .before .before .before .before .before .before .before .before .before .before .before .before .before .before .before .args .text .now in (rw (c .wide .ensures ∙ schemas-are (c .before .before .before .before .before .before .before .before .before .before .before .before .before .before .before .before .before .before .before .before .before .before .before .before .before .before .before .pre .0), (c .before .before .children-of .ensures) .first-is ts, (c .before .before .children-of .ensures) .count-is ts) (root-writes (cleared-fresh (c .before .before .before .before .before .before .before .before .before .before .before .before .before .before .before .before .before .before .before .before .before .before .before .before .before .before .before .pre .1) (c .before .before .before .before .before .before .before .before .before .before .before .before .before .before .before .before .before .before .before .clear .ensures)) (rw (way-lent (wayBy (c .before .before .before .before .before .before .before .before .before .before .before .before .before .before .before .before .before .before .before .before .before .before .before .before .before .before .before .args .cut)) (c .before .before .before .before .before .before .before .before .before .before .before .before .before .before .before .before .forms-of .ensures)) at (c .before .before .before .before .before .before .before .before .before .before .judge-root .ensures)) ((c .before .before .before .before .before .before .before .before .before .before .before .before .before .before .before .before .before .before .before .before .before .before .before .before .before .before .before .pre .1) .fit)), kids-small ts (c .before .before .before .before .before .before .before .before .before .before .before .before .before .before .before .before .before .before .before .before .before .before .before .before .before .before .before .pre .0) ((root-ready {t = 0} (cleared-fresh (c .before .before .before .before .before .before .before .before .before .before .before .before .before .before .before .before .before .before .before .before .before .before .before .before .before .before .before .pre .1) (c .before .before .before .before .before .before .before .before .before .before .before .before .before .before .before .before .before .before .before .clear .ensures))) .inside) (c .before .before .children-of .ensures) (omega arith))
 
 same-length : tie.Need-same-length
 same-length c =
@@ -46,7 +46,7 @@ same-length-2 c =
 
 returns : tie.Need-returns
 returns c =
-    root-judged _ (c .before .before .before .before .before .before .before .before .before .before .before .before .before .before .before .before .before .before .before .before .before .before .before .before .before .before .before .before .pre .1) (cleared-fresh (c .before .before .before .before .before .before .before .before .before .before .before .before .before .before .before .before .before .before .before .before .before .before .before .before .before .before .before .before .pre .1) (c .before .before .before .before .before .before .before .before .before .before .before .before .before .before .before .before .before .before .before .before .clear .ensures)) (rw (way-lent (wayBy (c .before .before .before .before .before .before .before .before .before .before .before .before .before .before .before .before .before .before .before .before .before .before .before .before .before .before .before .before .args .cut)) (c .before .before .before .before .before .before .before .before .before .before .before .before .before .before .before .before .before .forms-of .ensures)) at (c .before .before .before .before .before .before .before .before .before .before .before .apply .ensures)) (rw (lent-schemas (wayBy (c .before .before .before .before .before .before .before .before .before .before .before .before .before .before .before .before .before .before .before .before .before .before .before .before .before .before .before .before .args .cut)) (c .before .before .before .before .before .before .before .before .before .before .before .before .before .before .before .before .before .before .before .before .before .before .before .before .before .before .before .before .pre .0) (c .before .before .before .before .before .before .before .before .before .before .before .before .before .before .before .before .before .forms-of .ensures)) at (c .before .before .before .before .verdict-of .ensures)) refl refl (kid-first (c .before .before .before .before .before .before .before .before .before .before .before .before .before .before .before .before .before .before .before .before .before .before .before .before .before .before .before .before .pre .0) (pair 0 0) (c .before .before .before .children-of .ensures) refl) (kid-many (c .before .before .before .before .before .before .before .before .before .before .before .before .before .before .before .before .before .before .before .before .before .before .before .before .before .before .before .before .pre .0) (pair 0 0) (c .before .before .before .children-of .ensures) refl) (c .before .wide .ensures ∙ schemas-are (c .before .before .before .before .before .before .before .before .before .before .before .before .before .before .before .before .before .before .before .before .before .before .before .before .before .before .before .before .pre .0)) (c .marked-of .ensures)
+    root-judged _ (c .before .before .before .before .before .before .before .before .before .before .before .before .before .before .before .before .before .before .before .before .before .before .before .before .before .before .before .before .pre .1) (cleared-fresh (c .before .before .before .before .before .before .before .before .before .before .before .before .before .before .before .before .before .before .before .before .before .before .before .before .before .before .before .before .pre .1) (c .before .before .before .before .before .before .before .before .before .before .before .before .before .before .before .before .before .before .before .before .clear .ensures)) (rw (way-lent (wayBy (c .before .before .before .before .before .before .before .before .before .before .before .before .before .before .before .before .before .before .before .before .before .before .before .before .before .before .before .before .args .cut)) (c .before .before .before .before .before .before .before .before .before .before .before .before .before .before .before .before .before .forms-of .ensures)) at (c .before .before .before .before .before .before .before .before .before .before .before .judge-root .ensures)) (rw (lent-schemas (wayBy (c .before .before .before .before .before .before .before .before .before .before .before .before .before .before .before .before .before .before .before .before .before .before .before .before .before .before .before .before .args .cut)) (c .before .before .before .before .before .before .before .before .before .before .before .before .before .before .before .before .before .before .before .before .before .before .before .before .before .before .before .before .pre .0) (c .before .before .before .before .before .before .before .before .before .before .before .before .before .before .before .before .before .forms-of .ensures)) at (c .before .before .before .before .verdict-of .ensures)) refl refl (kid-first (c .before .before .before .before .before .before .before .before .before .before .before .before .before .before .before .before .before .before .before .before .before .before .before .before .before .before .before .before .pre .0) (pair 0 0) (c .before .before .before .children-of .ensures) refl) (kid-many (c .before .before .before .before .before .before .before .before .before .before .before .before .before .before .before .before .before .before .before .before .before .before .before .before .before .before .before .before .pre .0) (pair 0 0) (c .before .before .before .children-of .ensures) refl) (c .before .wide .ensures ∙ schemas-are (c .before .before .before .before .before .before .before .before .before .before .before .before .before .before .before .before .before .before .before .before .before .before .before .before .before .before .before .before .pre .0)) (c .marked-of .ensures)
 
 pub run-exact-spec : {M : Type 1} → statement M
 run-exact-spec =
@@ -54,7 +54,7 @@ run-exact-spec =
     (tie.spec
     clear-requires
     forms-of-requires
-    apply-requires
+    judge-root-requires
     verdict-of-requires
     children-of-requires
     wide-requires
