@@ -1,7 +1,7 @@
--- Tests of numbers, as `leb` and `eqb` answer them: which of them say the same.
+-- Tests of numbers, as `leb` and `eqb` answer them: which of them say the same. And the test of two signs.
 -- Assumes nothing.
 use mathlib.Core.Path.{_≡_, refl, sym, _∙_}
-use mathlib.Core.Bool.{false, not, _&&_, and-false}
+use mathlib.Core.Bool.{Bool, true, false, not, _&&_, and-false, Bool·beq}
 use mathlib.Core.Logic.{⊎-elim}
 use Prim.Native.Nat.{ℕ, zero, suc, _+_, _*_, _≤_, _<_}
 use native.Mathlib.Nat.{eq-zero-or-pos, mul-pos}
@@ -35,3 +35,16 @@ zero-times n k h =
 
 pub sum-not-zero : (m n : ℕ) → (n ≡ 0 → ⊥) → eqb (m + n) 0 ≡ false
 sum-not-zero m n h = ne-eqb (m + n) 0 (λ e. omega (arith, h))
+
+pub signs-same : (x y : Bool) → Bool·beq x y ≡ true → x ≡ y
+signs-same true true e = refl
+signs-same true false e = cc
+signs-same false true e = cc
+signs-same false false e = refl
+
+-- signs that differ are not the same: anything follows
+pub signs-differ : (x y : Bool) (m n : ℕ) → Bool·beq x y ≡ false → x ≡ y → m ≡ n
+signs-differ true true m n e q = cc
+signs-differ true false m n e q = cc
+signs-differ false true m n e q = cc
+signs-differ false false m n e q = cc

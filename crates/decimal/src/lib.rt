@@ -71,26 +71,9 @@ fn size_at_most(a: Decimal, b: Decimal) -> bool
     (a.digits + (unit - 1)) / unit <= b.digits
 }
 
-// Whether a ≤ b, at whatever scales.
-fn unlike_at_most(a: Decimal, b: Decimal) -> bool
-    requires { ⌜ Plain a × Plain b ⌝ }
-    ensures { λ r. ⌜ r ≡ leZ (value a) (value b) ⌝ }
-{
-    if a.below {
-        if b.below {
-            return size_at_most(b, a);
-        }
-        return true;
-    }
-    if b.below {
-        return a.digits == 0 && b.digits == 0;
-    }
-    size_at_most(a, b)
-}
-
-// Whether a ≤ b, at one scale: then the digits are compared as they stand.
+// Whether a ≤ b, at one scale or with different signs: then the digits are compared as they stand.
 fn alike_at_most(a: Decimal, b: Decimal) -> bool
-    requires { ⌜ Plain a × Plain b × (a .scale ≡ b .scale) ⌝ }
+    requires { ⌜ Plain a × Plain b × (a .below ≡ b .below → a .scale ≡ b .scale) ⌝ }
     ensures { λ r. ⌜ r ≡ leZ (value a) (value b) ⌝ }
 {
     if a.below {
@@ -103,6 +86,20 @@ fn alike_at_most(a: Decimal, b: Decimal) -> bool
         return a.digits == 0 && b.digits == 0;
     }
     a.digits <= b.digits
+}
+
+// Whether a ≤ b, at whatever scales.
+fn unlike_at_most(a: Decimal, b: Decimal) -> bool
+    requires { ⌜ Plain a × Plain b ⌝ }
+    ensures { λ r. ⌜ r ≡ leZ (value a) (value b) ⌝ }
+{
+    if a.below == b.below {
+        if a.below {
+            return size_at_most(b, a);
+        }
+        return size_at_most(a, b);
+    }
+    alike_at_most(a, b)
 }
 
 // Whether a ≤ b. The two zeros are at most each other.

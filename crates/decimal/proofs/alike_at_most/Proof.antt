@@ -10,7 +10,7 @@ returns : tie.Need-returns
 returns c =
     let b = c .before .before .before in
     let s = b .before .args in
-    at-one-scale (s .b) (s .a) (sym (b .before .pre .2)) ∙ sym (most-is (s .a) (s .b) (b .if1 .taken) (c .before .before .if2 .taken))
+    at-one-scale (s .b) (s .a) (sym (b .before .pre .2 (b .if1 .taken ∙ sym (c .before .before .if2 .taken)))) ∙ sym (most-is (s .a) (s .b) (b .if1 .taken) (c .before .before .if2 .taken))
 
 returns-2 : tie.Need-returns-2
 returns-2 c =
@@ -33,7 +33,7 @@ returns-5 : tie.Need-returns-5
 returns-5 c =
     let b = c .before .before .before in
     let s = b .before .args in
-    at-one-scale (s .a) (s .b) (b .before .pre .2) ∙ sym (most-is (s .a) (s .b) (b .if1 .left) (c .before .before .if3 .left))
+    at-one-scale (s .a) (s .b) (b .before .pre .2 (b .if1 .left ∙ sym (c .before .before .if3 .left))) ∙ sym (most-is (s .a) (s .b) (b .if1 .left) (c .before .before .if3 .left))
 
 pub alike-at-most-spec : {M : Type 1} → statement M
 alike-at-most-spec = tie.close (tie.spec returns returns-2 returns-3 returns-4 returns-5)

@@ -1,8 +1,9 @@
--- `decimal::unlike_at_most` meets its contract, by the four cases of the two signs.
+-- `decimal::unlike_at_most` meets its contract: by the sizes where the signs are the same, and by the signs where they differ.
 -- Assumes nothing.
 use mathlib.Core.Path.{sym, _∙_}
 use borrow.Author.Needs.{needs}
-use Rattle.decimal.proofs.Sizes.{most-is, zero-most, above-not-most}
+use Rattle.decimal.proofs.Tests.{signs-same, signs-differ}
+use Rattle.decimal.proofs.Sizes.{most-is}
 use Rattle.decimal.proofs.unlike_at_most.Statement.{statement}
 use Rattle.decimal.proofs.unlike_at_most.Tie as tie
 
@@ -11,35 +12,24 @@ size-at-most-requires c κs = search needs
 
 returns : tie.Need-returns
 returns c =
-    let b = c .before .before in
-    let s = b .before .args in
-    c .size-at-most .ensures ∙ sym (most-is (s .a) (s .b) (b .if1 .taken) (c .before .if2 .taken))
-
-returns-2 : tie.Need-returns-2
-returns-2 c =
-    let s = c .before .before .args in
-    sym (most-is (s .a) (s .b) (c .before .if1 .taken) (c .if2 .left))
-
-returns-3 : tie.Need-returns-3
-returns-3 c =
-    let b = c .before .before .before in
-    let s = b .before .before .args in
-    zero-most (s .a) (s .b) (b .before .if1 .left) (b .if3 .taken) (c .before .if4 .taken)
-
-returns-4 : tie.Need-returns-4
-returns-4 c =
-    let b = c .before .before in
-    let s = b .before .before .args in
-    above-not-most (s .a) (s .b) (b .before .if1 .left) (b .if3 .taken) (c .if4 .left)
+    let s = c .before .before .before .before .before .args in
+    c .size-at-most .ensures ∙ sym (most-is (s .a) (s .b) (c .before .if2 .taken) (sym (signs-same _ _ (c .before .before .if1 .taken)) ∙ c .before .if2 .taken))
 
 size-at-most-requires-2 : tie.Need-size-at-most-requires-2
 size-at-most-requires-2 c κs = search needs
 
-returns-5 : tie.Need-returns-5
-returns-5 c =
-    let b = c .before .before in
-    let s = b .before .args in
-    c .size-at-most2 .ensures ∙ sym (most-is (s .a) (s .b) (b .if1 .left) (c .before .if3 .left))
+returns-2 : tie.Need-returns-2
+returns-2 c =
+    let s = c .before .before .before .before .before .args in
+    c .size-at-most2 .ensures ∙ sym (most-is (s .a) (s .b) (c .before .if2 .left) (sym (signs-same _ _ (c .before .before .if1 .taken)) ∙ c .before .if2 .left))
+
+alike-at-most-requires : tie.Need-alike-at-most-requires
+alike-at-most-requires c κs =
+    let p = c .before .before .before .pre in
+    (p .0, p .1, signs-differ _ _ _ _ (c .if1 .left))
+
+returns-3 : tie.Need-returns-3
+returns-3 c = search needs
 
 pub unlike-at-most-spec : {M : Type 1} → statement M
 unlike-at-most-spec =
@@ -47,8 +37,7 @@ unlike-at-most-spec =
     (tie.spec
     size-at-most-requires
     returns
-    returns-2
-    returns-3
-    returns-4
     size-at-most-requires-2
-    returns-5)
+    returns-2
+    alike-at-most-requires
+    returns-3)
