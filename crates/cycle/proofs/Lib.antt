@@ -4,5 +4,5 @@ pub mod Pairs
 pub mod Going
 pub mod Claused
 pub mod Turning
-pub mod Testing
 pub mod Reading
+pub mod Testing

@@ -18,6 +18,7 @@ use Rattle.rulesheet.specs.Ruleset as R
 use Rattle.rulesheet.specs.Ruleset.{Test, never, asserts, inPlace, ifThenElse, dependentSchemas, contains, takes}
 use Rattle.rulesheet.specs.Sheet as RS
 use Rattle.rulesheet.specs.Sheet.{schemaAt}
+use Rattle.rulesheet.specs.Faults.{clauseFine}
 use Rattle.rulesheet.specs.Clauses.{appliesAny}
 use Rattle.rulesheet.proofs.Items.{clause-item}
 use Rattle.meaning.specs.Rules.{Pair, Way, whole, cut, stops, passes}
@@ -25,11 +26,13 @@ use Rattle.areas.specs.Cells.{cellAt, Unsettled}
 use Rattle.areas.specs.Writers.{Open, Shut}
 use Rattle.areas.proofs.Writers.{marked-same, kept-all}
 use Rattle.clause.specs.Read.{Tries, PassedFirst}
+use Rattle.clause.proofs.Reading.{clause-low}
 use Rattle.plan.specs.Plan.{stepsOf, finishOf}
 use Rattle.cycle.specs.declared.cycle.Done.{Done}
 use Rattle.cycle.specs.State.{Case, lent, Lent, lentCase, InCase, rowOf, rankOf, clausesOf, clauseAt, goesOn, Ready, PassesFirst, WhereDone, Judged}
 use Rattle.cycle.proofs.Pairs.{resAt}
 use Rattle.cycle.proofs.Going.{many, Stepped, ready-as, stepped-none, stepped-end, going-unsettled, going-ready, going-open}
+use Rattle.cycle.proofs.Reading.{rule-low}
 use Rattle.cycle.proofs.Claused.{Claused, Clausing, claused-none, claused-more, claused-next, claused-end}
 
 no-steps : (T : Case) (p : Pair) (i : ℕ) (t : Test) → clauseAt T p i ≡ asserts t → 0 ≡ many T p i
@@ -55,9 +58,11 @@ claused-test {T} {p} {i = i} {c} {l} {n} {so = so} C on t e =
 
 pub applies-lent : {words texts : List (RefT (List ℕ))} {forms : List ℕ} → Lent words texts forms → {p : Pair} {i : ℕ} {row : ClauseRow} {r : Bool} → InCase (lentCase words texts forms) p
     → i < schemaAt (lent words 1) (p .rule) .count → row ≡ rowOf words p i
-    → ((vs xs : List ℕ) (k : ℕ) → row ≡ RS.clauseAt vs k → r ≡ appliesAny (RS.clauseOf vs xs k)) → r ≡ appliesAny (clauseAt (lentCase words texts forms) p i)
+    → ((vs xs : List ℕ) (k : ℕ) → clauseFine vs k ≡ true → row ≡ RS.clauseAt vs k → r ≡ appliesAny (RS.clauseOf vs xs k)) → r ≡ appliesAny (clauseAt (lentCase words texts forms) p i)
 applies-lent {words} {texts} all {p} {i} I h e f =
-    f (lent words 1) (lent texts 1) _ e ∙ ap appliesAny (sym (clause-item (lent words 1) (lent texts 1) (p .rule) (I .rule-in) i (asserts never) h))
+    let read = all .sheets .rules-read in
+    let fine = read .laid .clauses-laid .clauses-fine _ (clause-low read (rule-low (all .sheets) I) refl h) in
+    f (lent words 1) (lent texts 1) _ fine e ∙ ap appliesAny (sym (clause-item (lent words 1) (lent texts 1) (p .rule) (I .rule-in) i (asserts never) h))
 
 pub applying-by : (c : R.Clause) → appliesAny c ≡ true → (t : Test) → c ≡ asserts t → ⊥
 unfolding appliesAny

@@ -5,28 +5,32 @@
 --                       what each code that applies schemas is decoded to
 --     quiet             what is asked of a few codes is not asked of a clause of another
 --     telling-few, told-few, applying-few, sparing-few     the few of each question
---     applies-by, test-by     whether a clause applies schemas, by its code
+--     applies-by     whether a clause applies schemas, by its code
 -- Assumes nothing.
 use mathlib.Core.List.{List, [], _∷_}
 use mathlib.Core.Logic.{_⊎_, inl, inr, ⊎-elim}
-use mathlib.Core.Bool.{Bool, true, false}
+use mathlib.Core.Bool.{Bool, true, false, true≢false}
 use mathlib.Core.Path.{_≡_, refl, sym, ap, _∙_}
 use Prim.Native.Nat.{ℕ}
-use lib.Dec.{eqb}
+use lib.Dec.{eqb, leb}
 use borrow.Author.Tests.{eqb-true}
 use Rattle.decimal.specs.declared.Decimal.{Decimal}
 use Rattle.decimal.specs.Value.{OfWord}
 use Rattle.sheet.specs.declared.record.RuleRow.{RuleRow}
+use Rattle.rulesheet.specs.declared.code.Fields.{Fields}
+use Rattle.rulesheet.specs.declared.code.Fields.the-variants.{Unknown}
 use Rattle.rulesheet.specs.declared.form.ClauseRow.{ClauseRow}
 use Rattle.rulesheet.specs.declared.clause.Entries.{Entries}
 use Rattle.rulesheet.specs.declared.clause.Clause.the-variants.{Types, Minimum, Maximum, ExclusiveMinimum, ExclusiveMaximum, MinLength, MaxLength, MinItems, MaxItems, MinProperties, MaxProperties}
 use Rattle.rulesheet.specs.declared.clause.Clause.the-variants.{AllOf, AnyOf, OneOf, Not, Ref, IfThenElse, DependentSchemas, Properties, AdditionalProperties, PrefixItems, Items, Contains, UnevaluatedProperties, UnevaluatedItems}
 use Rattle.rulesheet.specs.Ruleset as R
 use Rattle.rulesheet.specs.Ruleset.{asserts, never, minimum, maximum, exclusiveMinimum, exclusiveMaximum}
-use Rattle.rulesheet.specs.Codes.{Parts, CodeLine, codes, unknown, pickLine, lineIn, meansOf}
-use Rattle.rulesheet.specs.Sheet.{clauseAt, partsOf, clauseOf}
+use Rattle.rulesheet.specs.Codes.{Parts, CodeLine, codes, unknown, pickLine, lineIn, shapeOf, meansOf}
+use Rattle.rulesheet.specs.Sheet.{schemasWord, clauseAt, partsOf, clauseOf}
+use Rattle.rulesheet.specs.Faults.{fieldsOk, fieldsAt, clauseFine}
 use Rattle.rulesheet.specs.Clauses.{Decoded, telling, applying, told, sparing, appliesAny}
 use Rattle.rulesheet.proofs.Reaching.{Every, done, and, in-table}
+use Rattle.rulesheet.proofs.Taking.{clause-facts}
 
 -- ---- what a code is decoded to
 
@@ -199,21 +203,27 @@ sparing-few = quiet sparing sparing-codes (and (λ d p. refl) (and (λ d p. refl
 
 -- ---- whether a clause applies schemas
 
--- a clause of which `applying` leaves nothing is a test
-left-over : (c : R.Clause) → applying c ≡ asserts never → false ≡ appliesAny c
-unfolding applying appliesAny
-left-over (asserts t) e = refl
-left-over (R.inPlace m ss) e = cc
-left-over (R.ifThenElse i t f) e = cc
-left-over (R.dependentSchemas es) e = cc
-left-over (R.contains s least most) e = cc
-left-over (R.takes c) e = cc
+-- a line's code is 30 or more exactly if its clause applies schemas
+Parted : CodeLine → Type 0
+Parted line = (p : Parts) → leb 30 (line .code) ≡ appliesAny (line .means p)
 
-module _ {row : ClauseRow} where
-  pub applies-by : {b : Bool} (n : ℕ) → row .code ≡ n → ((p : Parts) → b ≡ appliesAny (meansOf n p)) → (ws ts : List ℕ) (k : ℕ) → row ≡ clauseAt ws k → b ≡ appliesAny (clauseOf ws ts k)
-  unfolding clauseOf
-  applies-by {b} n e says ws ts k read =
-      says (partsOf ws ts (row .first) (row .count)) ∙ rw (sym e, read)
+table-parted : Every Parted codes
+unfolding Parted appliesAny
+table-parted = and (λ p. refl) (and (λ p. refl) (and (λ p. refl) (and (λ p. refl) (and (λ p. refl) (and (λ p. refl) (and (λ p. refl) (and (λ p. refl) (and (λ p. refl) (and (λ p. refl) (and (λ p. refl) (and (λ p. refl) (and (λ p. refl) (and (λ p. refl) (and (λ p. refl) (and (λ p. refl) (and (λ p. refl) (and (λ p. refl) (and (λ p. refl) (and (λ p. refl) (and (λ p. refl) (and (λ p. refl) (and (λ p. refl) (and (λ p. refl) (and (λ p. refl) (and (λ p. refl) (and (λ p. refl) (and (λ p. refl) (and (λ p. refl) done))))))))))))))))))))))))))))
 
-  pub test-by : Differs (row .code) applying-codes → (ws ts : List ℕ) (k : ℕ) → row ≡ clauseAt ws k → false ≡ appliesAny (clauseOf ws ts k)
-  test-by differs = applies-by (row .code) refl (λ p. left-over (meansOf (row .code) p) (applying-few (row .code) differs p))
+parted : (code : ℕ) → (shapeOf code .fields ≡ Unknown → ⊥) → (p : Parts) → leb 30 code ≡ appliesAny (meansOf code p)
+unfolding Parted appliesAny
+parted code known p =
+    ⊎-elim
+    (λ (same : lineIn codes code .code ≡ code). ap (leb 30) (sym same) ∙ in-table Parted codes code (λ q. refl) table-parted p)
+    (λ (none : lineIn codes code ≡ unknown). absurd (known (ap (λ (line : CodeLine). line .shape .fields) none)))
+    (found codes code)
+
+known-by : (fields : Fields) (m first count : ℕ) → fieldsOk fields m first count ≡ true → fields ≡ Unknown → ⊥
+known-by fields m first count fine e = true≢false (sym fine ∙ ap (λ (f : Fields). fieldsOk f m first count) e)
+
+pub applies-by : {row : ClauseRow} {b : Bool} → b ≡ leb 30 (row .code) → (ws ts : List ℕ) (k : ℕ) → clauseFine ws k ≡ true → row ≡ clauseAt ws k → b ≡ appliesAny (clauseOf ws ts k)
+unfolding clauseOf
+applies-by {row} e ws ts k fine read =
+    let known = known-by (fieldsAt ws k) (schemasWord ws) (clauseAt ws k .first) (clauseAt ws k .count) (clause-facts ws k fine .fields-fine) in
+    e ∙ ap (λ (r : ClauseRow). leb 30 (r .code)) read ∙ parted (clauseAt ws k .code) known (partsOf ws ts (clauseAt ws k .first) (clauseAt ws k .count))

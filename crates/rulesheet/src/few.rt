@@ -1,9 +1,11 @@
 // Clauses of a few codes. Who asks a clause one thing reads only the codes that matter for it, so that
 // reading and asking become one dispatch; each clause of another code reads as `Clause::Never`.
+ghost use mathlib.Core.Bool.{true};
 ghost use mathlib.Core.List.{List};
 ghost use mathlib.Core.Path.{_≡_};
 ghost use Prim.Native.Nat.{ℕ, _<_};
 ghost use Rattle.rulesheet.specs.Sheet.{clauseAt, clauseOf};
+ghost use Rattle.rulesheet.specs.Faults.{clauseFine};
 ghost use Rattle.rulesheet.specs.Read.{RulesFormed};
 ghost use Rattle.rulesheet.specs.Clauses.{clauseMeans, Tested, PlainRead, ReadBy, telling, applying, told, sparing, appliesAny};
 use crate::clause::Clause;
@@ -49,28 +51,14 @@ pub fn told_of(words: &[u32], form: RuleForm, k: u32) -> Clause
     }
 }
 
-// Whether the clause of these words applies schemas.
+// The least code that applies schemas: those below it are tests.
+const APPLYING: u32 = 30;
+
+// Whether the clause of these words, which breaks no layout, applies schemas.
 pub fn applies(row: ClauseRow) -> bool
-    ensures { λ r. ⌜ ((ws ts : List ℕ) (k : ℕ) → row ≡ clauseAt ws k → r ≡ appliesAny (clauseOf ws ts k)) ⌝ }
+    ensures { λ r. ⌜ ((ws ts : List ℕ) (k : ℕ) → clauseFine ws k ≡ true → row ≡ clauseAt ws k → r ≡ appliesAny (clauseOf ws ts k)) ⌝ }
 {
-    let code = row.code;
-    match code {
-        30 => true,
-        31 => true,
-        32 => true,
-        33 => true,
-        34 => true,
-        36 => true,
-        37 => true,
-        40 => true,
-        42 => true,
-        43 => true,
-        44 => true,
-        45 => true,
-        60 => true,
-        61 => true,
-        _ => false,
-    }
+    APPLYING <= row.code
 }
 
 // The clause of these words if it applies schemas.
