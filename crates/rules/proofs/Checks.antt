@@ -3,7 +3,7 @@
 --     at-trailer, at-schema, at-clause, at-entry, at-name, at-text, at-loop, at-chain     the refusals
 --     no-line                                         acceptance
 --     trailer-formed                                  the form, after 5
---     rest-text, rest-loop, rest-chain, rest-none, rest-short     the lines after 7, of a sheet that passed those up to it
+--     rest-text, rest-loop, rest-chain, rest-none, rest-short, rest-plain     the lines after 7, of a sheet that passed those up to it
 -- Assumes nothing.
 use mathlib.Core.Bool.{Bool, true, false, not, _&&_}
 use mathlib.Core.List.{List, [], _∷_}
@@ -31,6 +31,8 @@ use Rattle.unguarded.proofs.Steps.{same-next}
 use Rattle.unguarded.specs.Places.{chainPlace}
 use Rattle.unguarded.proofs.Grounds.{none-looped}
 use Rattle.rulepass.specs.Pass.{Laid}
+use Rattle.utf8.specs.Reach.{AllUtf8}
+use Rattle.rulelayout.proofs.Readable.{all-fine}
 use Rattle.rules.specs.Check.{rulesOutcome}
 use Rattle.rules.specs.Accepted.{TrailerFine}
 
@@ -214,3 +216,11 @@ module _ (ws ts : List ℕ) (form : RuleForm) (fine : TrailerFine ws ts form) (l
     -- where no chain is too long, there is no loop
     pub rest-short : schemasWord ws ≤ chainPlace (schemasWord ws) (nextOf ws) → rulesOutcome ws ts ≡ accepted (schemasWord ws)
     rest-short short = rest-none (omega (arith, none-looped (nextOf ws) (schemasWord ws) short)) short
+
+  -- where every text is UTF-8, and no chain is too long
+  pub rest-plain : AllUtf8 ts → schemasWord ws ≤ chainPlace (schemasWord ws) (nextOf ws) → rulesOutcome ws ts ≡ accepted (schemasWord ws)
+  rest-plain every = rest-short none-other
+    where
+      none-other : entriesWord ws ≤ lowest (notUtf8 ws ts) (entriesWord ws)
+      none-other =
+          omega (arith, none-found (notUtf8 ws ts) (entriesWord ws) 0 (λ (x : ℕ) low (h : x < 0 + entriesWord ws). all-fine ws ts form (laid .rules-laid) (text-length ws ts (fine .good)) every x (omega (arith, form-e ws form (formed ws ts form laid)))))

@@ -17,6 +17,7 @@ use rulelayout::texts;
 use rulesheet::form::RuleForm;
 use sheet::refusal::Checked;
 use sheet::refusal::Refusal;
+use utf8::reach::is_ascii;
 
 // The lines after 7 of the table, of a sheet that has passed those up to it. `short` says that 8 and 9
 // are known not to apply.
@@ -75,7 +76,7 @@ fn check_lines(words: &[u32], text: &[u8], form: RuleForm) -> Checked
 
 // Checks a rule sheet, whatever the words and the text: accepted with its number of schemas, or
 // refused with the first refusal of 5, 6, 7, 13, 8 and 9 that applies and its place. Most sheets are
-// in order, and one pass tells them; a place is sought only where it does not.
+// in order and their text is ASCII, and one pass tells them; a place is sought only where it does not.
 pub fn check_rules(words: &[u32], text: &[u8]) -> Checked
     ensures { λ r. ⌜ outcomeOf r ≡ rulesOutcome (now (words .entry)) (now (text .entry)) ⌝ }
 {
@@ -85,7 +86,13 @@ pub fn check_rules(words: &[u32], text: &[u8]) -> Checked
     let form = RuleForm::of(words);
     let order = rulepass::told(words, text, form);
     if order.laid {
-        return check_rest(words, text, form, order.short);
+        if !order.short {
+            return check_rest(words, text, form, false);
+        }
+        if is_ascii(text) {
+            return Checked::Accepted(form.m);
+        }
+        return check_rest(words, text, form, true);
     }
     check_lines(words, text, form)
 }
