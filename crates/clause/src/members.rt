@@ -102,8 +102,30 @@ fn mirrored(count: u32, hint: u32) -> u32 {
     if hint < count { count - 1 - hint } else { 0 }
 }
 
-// The same of an object. The child at `hint` is tried first, then the one as far from the end: members
-// mostly stand in the order of the rules, or in the reverse one.
+// The same of an object. The child as far from the end as `hint` is from the start is tried first:
+// members mostly stand in the order of the rules, or in the reverse one. This stands apart from what
+// tries the child at `hint`, so that the compiler makes that part of its callers.
+fn named_elsewhere<'a>(
+    record: &[u32],
+    text: &'a [u8],
+    form: RecordForm,
+    row: RecordRow,
+    rule_text: &'a [u8],
+    name: Range,
+    hint: u32,
+) -> u32
+    requires { ⌜ RecordRead (now «record») (now text) form × (row .0 < form .rows) × (isObject (docOf (now «record») (now text) .value (row .0)) ≡ true) ⌝ }
+    requires { ⌜ fits (length (now «rule_text»)) name ≡ true ⌝ }
+    ensures { λ r. ⌜ r ≡ childNamed (docOf (now («record» .entry)) (now (text .entry))) (row .0) (part (now («rule_text» .entry)) name) ⌝ }
+{
+    let other = mirrored(children_of(record, form, row).count, hint);
+    if named_at(record, text, form, row, rule_text, name, other) {
+        return other;
+    }
+    first_named(record, text, form, row, rule_text, name)
+}
+
+// The same. The child at `hint` is tried first.
 pub fn child_named<'a>(
     record: &[u32],
     text: &'a [u8],
@@ -120,11 +142,7 @@ pub fn child_named<'a>(
     if named_at(record, text, form, row, rule_text, name, hint) {
         return hint;
     }
-    let other = mirrored(children_of(record, form, row).count, hint);
-    if named_at(record, text, form, row, rule_text, name, other) {
-        return other;
-    }
-    first_named(record, text, form, row, rule_text, name)
+    named_elsewhere(record, text, form, row, rule_text, name, hint)
 }
 
 // Whether one of the members of the row, an object, has this name; that at `hint` is tried first.
@@ -145,11 +163,7 @@ fn has_member<'a>(
     if named_at(record, text, form, row, rule_text, name, hint) {
         return true;
     }
-    let other = mirrored(members, hint);
-    if named_at(record, text, form, row, rule_text, name, other) {
-        return true;
-    }
-    first_named(record, text, form, row, rule_text, name) != members
+    named_elsewhere(record, text, form, row, rule_text, name, hint) != members
 }
 
 // Whether the row, if it is an object, has a member of each name of the list.

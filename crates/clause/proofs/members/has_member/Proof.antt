@@ -16,31 +16,11 @@ returns c =
     let found = c .before .named-at .ensures (c .if1 .taken) in
     sym (ap not (ne-eqb _ _ (not-end (found .0) (found .1) (c .before .before .before .before .before .pre .1 .1))))
 
-mirrored-requires : tie.Need-mirrored-requires
-mirrored-requires c κs = search needs
-
-named-at-requires-2 : tie.Need-named-at-requires-2
-named-at-requires-2 c κs = search needs
+named-elsewhere-requires : tie.Need-named-elsewhere-requires
+named-elsewhere-requires c κs = search needs
 
 returns-2 : tie.Need-returns-2
-returns-2 c =
-    let found = c .before .named-at2 .ensures (c .if2 .taken) in
-    sym (ap not (ne-eqb _ _ (not-end (found .0) (found .1) (c .before .before .before .before .before .before .before .before .pre .1 .1))))
-
-first-named-requires : tie.Need-first-named-requires
-first-named-requires c κs = search needs
-
-returns-3 : tie.Need-returns-3
-returns-3 c = ap (λ x. not (eqb x (c .before .before .before .before .before .before .before .before .before .args .members))) (c .first-named .ensures)
+returns-2 c = ap (λ x. not (eqb x (c .before .before .before .before .before .before .args .members))) (c .named-elsewhere .ensures)
 
 pub has-member-spec : {M : Type 1} → statement M
-has-member-spec =
-    tie.close
-    (tie.spec
-    named-at-requires
-    returns
-    mirrored-requires
-    named-at-requires-2
-    returns-2
-    first-named-requires
-    returns-3)
+has-member-spec = tie.close (tie.spec named-at-requires returns named-elsewhere-requires returns-2)
