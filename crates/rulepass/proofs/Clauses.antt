@@ -1,7 +1,7 @@
 -- A clause that was passed, and the steps that it has.
 --     counted-so                    what is told of its steps, in other words
 --     counted, uncounted            the same by the flag that was read
---     ends-within                   a list that passed its tests ends within the entries
+--     listed-within                 a list that passed its tests ends within the entries
 --     passed-list, passed-other     it is in order, by the shape that was read
 -- Assumes nothing.
 use mathlib.Core.Bool.{Bool, true, false, _&&_, false≢true}
@@ -31,7 +31,7 @@ use Rattle.rulesheet.proofs.Sizes.{counts-of}
 use Rattle.rulelayout.proofs.Passes.{list-fields}
 use Rattle.rulepass.specs.declared.Pass.{Pass}
 use Rattle.rulepass.specs.Pass as Pass
-use Rattle.rulepass.specs.Pass.{ListFine, schemaIn, AllLater, schemasBy, LeadsOn, ClausePassed}
+use Rattle.rulepass.specs.Pass.{ListFine, listedBy, schemaIn, AllLater, schemasBy, LeadsOn, ClausePassed}
 
 pub counted-so : {u : Bool} {A B : Type 0} {steps r : ℕ} → (A → B) → Pass.Counted u A steps r → Pass.Counted u B steps r
 counted-so f c = record { count = c .count; leads = λ l t. f (c .leads l t) }
@@ -43,9 +43,15 @@ pub uncounted : (u : Bool) {A : Type 0} {steps : ℕ} → u ≡ false → Pass.C
 uncounted u {A} {steps} none =
     record { count = λ l. rw none (omega arith); leads = λ l (t : u ≡ true). absurd (false≢true (sym none ∙ t)) }
 
--- the tests of a list's place, and that it ends within the entries
-pub ends-within : (at fits enough : Bool) (sum e : ℕ) → fits ≡ leb sum e → (at && (fits && enough)) ≡ true → sum ≤ e
-ends-within at fits enough sum e is tests = leb-true sum e (sym is ∙ left fits enough (right at (fits && enough) tests))
+-- a list that passed its tests ends within the entries
+pub listed-within : (e : ℕ) (shape : Shape) (start : ℕ) (clause : ClauseRow) → listedBy e shape start clause ≡ true → clause .first + clause .count ≤ e
+listed-within e shape start clause tests = leb-true sum e (left (leb sum e) enough (right (eqb (clause .first) start) (leb sum e && enough) tests))
+  where
+    sum : ℕ
+    sum = clause .first + clause .count
+
+    enough : Bool
+    enough = leb (shape .least) (clause .count) && leb (clause .count) (shape .most)
 
 -- ---- the schemas that a list names
 
@@ -120,7 +126,7 @@ module _ (ws ts : List ℕ) (form : RuleForm) (formed : RulesFormed ws form) (s 
       }
 
   pub passed-list : isList (shape .fields) ≡ true
-      → (eqb (clause .first) start && (leb (clause .first + clause .count) (form .e) && (leb (shape .least) (clause .count) && leb (clause .count) (shape .most)))) ≡ true
+      → listedBy (form .e) shape start clause ≡ true
       → ListFine ws ts (shape .fields) (clause .first) (clause .count)
       → r .start ≡ clause .first + clause .count
       → Pass.Counted (shape .unguarded) (AllLater ws (isNamed (shape .fields)) s (clause .first) (clause .first + clause .count)) steps (r .steps)

@@ -1,12 +1,16 @@
 -- What one pass over a rule sheet tells. Only `Told` is cited by the check of a sheet; the rest says how far a pass has come.
 -- Assumes nothing.
-use mathlib.Core.Bool.{Bool, true, false, cond}
+use mathlib.Core.Bool.{Bool, true, false, cond, _&&_}
 use mathlib.Core.List.{List, map, List·Memᴰ as In}
 use mathlib.Core.Path.{_≡_}
-use Prim.Native.Nat.{ℕ, zero, suc, _+_, _≤_, _<_}
+use Prim.Native.Nat.{ℕ, zero, suc, _+_, _-_, _*_, _≤_, _<_}
+use lib.Dec.{eqb, leb, ltb}
+use lib.ListN.{length, getD}
 use Rattle.text.specs.Part.{fits}
 use Rattle.names.specs.Names.{repeatsBy}
 use Rattle.rulesheet.specs.declared.code.Fields.{Fields}
+use Rattle.rulesheet.specs.declared.code.Fields.the-variants.{Unknown, Bare, Types, Number, Positive, Limit, Schema, Values, Names, Schemas, Members, Branches, Counted as CountedOf}
+use Rattle.rulesheet.specs.declared.code.Shape.{Shape}
 use Rattle.rulesheet.specs.declared.form.EntryRow.{EntryRow}
 use Rattle.rulesheet.specs.declared.form.ClauseRow.{ClauseRow}
 use Rattle.rulesheet.specs.declared.form.RuleForm.{RuleForm}
@@ -33,6 +37,33 @@ pub record Told (ws ts : List ℕ) (form : RuleForm) (r : Order) : Type 0 where
   pub short : r .short ≡ true → schemasWord ws ≤ chainPlace (schemasWord ws) (nextOf ws)
 
 -- ---- entries
+
+-- below which number the third word of an entry stands, of a list of things with names
+abbrev pub boundOf : Fields → ℕ → ℕ
+boundOf Unknown m = 1
+boundOf Bare m = 1
+boundOf Types m = 1
+boundOf Number m = 1
+boundOf Positive m = 1
+boundOf Limit m = 1
+boundOf Schema m = 1
+boundOf Values m = 1
+boundOf Names m = 1
+boundOf Schemas m = 1
+boundOf Members m = m
+boundOf Branches m = 1
+boundOf CountedOf m = 1
+
+-- an entry's name lies within a text of `size` bytes, and its third word stands below the bound
+abbrev pub namedOk : ℕ → ℕ → EntryRow → Bool
+namedOk size bound entry = fits size (entryRange entry) && ltb (entry .third) bound
+
+pub record AllNamed (ws : List ℕ) (size bound first end : ℕ) : Type 0 where
+  pub named : (x : ℕ) → first ≤ x → x < end → namedOk size bound (entryAt ws x) ≡ true
+
+-- a key of a name, by its length and its last byte
+unfoldable pub keyOf : List ℕ → ℕ
+keyOf bs = let n = length bs in cond (eqb n 0) 0 (256 * n + getD bs (n - 1) 0)
 
 -- the names of `count` entries from `first` on lie within a text of `size` bytes
 pub record NamesFit (ws : List ℕ) (size first count : ℕ) : Type 0 where
@@ -81,6 +112,11 @@ pub record LeadsOn (ws : List ℕ) (s : ℕ) (clause : ClauseRow) : Type 0 where
   pub later : (t : ℕ) → In t (schemasBy ws clause) → s < t
 
 -- ---- clauses and schemas
+
+-- a list of this shape starts where the next one does, ends within e entries, and has as many as its shape asks
+abbrev pub listedBy : ℕ → Shape → ℕ → ClauseRow → Bool
+listedBy e shape start clause =
+    eqb (clause .first) start && (leb (clause .first + clause .count) e && (leb (shape .least) (clause .count) && leb (clause .count) (shape .most)))
 
 -- a clause of schema s was passed, from where the next list started and how many clauses had had steps
 pub record ClausePassed (ws ts : List ℕ) (s : ℕ) (clause : ClauseRow) (start steps : ℕ) (r : Pass) : Type 0 where

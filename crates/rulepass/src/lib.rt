@@ -3,19 +3,20 @@
 // those are asked.
 //
 // Its contracts cite `specs/Pass.antt`.
-ghost use mathlib.Core.Bool.{true};
+ghost use mathlib.Core.Bool.{true, false};
 ghost use mathlib.Core.Path.{_≡_};
 ghost use Prim.Native.Nat.{_+_, _≤_, _<_};
 ghost use lib.ListN.{length};
 ghost use Rattle.rulesheet.specs.Sheet.{textWord, schemaAt};
 ghost use Rattle.rulesheet.specs.Codes.{shapeOf};
-ghost use Rattle.rulesheet.specs.Faults.{isList, listStart};
+ghost use Rattle.rulesheet.specs.Faults.{isList, isNamed, listStart};
 ghost use Rattle.rulesheet.specs.Read.{RulesFormed};
-ghost use Rattle.rulepass.specs.Pass.{ClausePassed, SchemaPassed, Told};
+ghost use Rattle.rulepass.specs.Pass.{listedBy, ClausePassed, SchemaPassed, Told};
 use crate::later::MANY;
 use crate::later::after_list;
 use crate::later::after_one;
 use crate::lists::entries_fine;
+use crate::lists::named_fine;
 use rulelayout::layout::fields_ok;
 use rulesheet::code::Shape;
 use rulesheet::form::ClauseRow;
@@ -42,6 +43,49 @@ pub struct Order {
     pub short: bool,
 }
 
+// Whether the entries of a list clause start where the next list does, end within the sheet's, and
+// are as many as its shape asks.
+fn listed(form: RuleForm, clause: ClauseRow, shape: Shape, start: u32) -> bool
+    ensures { λ r. ⌜ r ≡ listedBy (form .e) shape start clause ⌝ }
+{
+    let first = clause.first;
+    let count = clause.count;
+    (first == start)
+        & ((wide(first) + wide(count) <= wide(form.e))
+            & ((shape.least <= count) & (count <= shape.most)))
+}
+
+// Passes a list clause whose entries have names and which has no steps.
+fn pass_named(
+    words: &[u32],
+    text: &[u8],
+    form: RuleForm,
+    s: RuleRow,
+    clause: ClauseRow,
+    shape: Shape,
+    start: u32,
+    steps: u32,
+) -> Pass
+    requires { ⌜ RulesFormed (now words) form × (length (now text) ≡ textWord (now words)) × (shape ≡ shapeOf (clause .code)) × (isList (shape .fields) ≡ true) × (isNamed (shape .fields) ≡ true) × (shape .unguarded ≡ false) ⌝ }
+    ensures { λ r. ⌜ (r .fine ≡ true → ClausePassed (now (words .entry)) (now (text .entry)) (s .0) clause start steps r) ⌝ }
+{
+    let first = clause.first;
+    let count = clause.count;
+    if !listed(form, clause, shape, start) {
+        return Pass {
+            fine: false,
+            start: start,
+            steps: steps,
+        };
+    }
+    let fields = shape.fields;
+    Pass {
+        fine: named_fine(words, text, form, fields, first, count),
+        start: first + count,
+        steps: steps,
+    }
+}
+
 // Passes a list clause of schema s.
 fn pass_list(
     words: &[u32],
@@ -58,9 +102,7 @@ fn pass_list(
 {
     let first = clause.first;
     let count = clause.count;
-    if !((first == start)
-        & ((wide(first) + wide(count) <= wide(form.e))
-            & ((shape.least <= count) & (count <= shape.most)))) {
+    if !listed(form, clause, shape, start) {
         return Pass {
             fine: false,
             start: start,
@@ -92,14 +134,17 @@ fn pass_clause(
 {
     let shape = Shape::of(clause.code);
     let fields = shape.fields;
-    if fields.is_list() {
-        return pass_list(words, text, form, s, clause, shape, start, steps);
+    if !fields.is_list() {
+        return Pass {
+            fine: fields_ok(fields, form.m, clause.first, clause.count),
+            start: start,
+            steps: after_one(s, shape.unguarded, clause.first, steps),
+        };
     }
-    Pass {
-        fine: fields_ok(fields, form.m, clause.first, clause.count),
-        start: start,
-        steps: after_one(s, shape.unguarded, clause.first, steps),
+    if fields.is_named() & !shape.unguarded {
+        return pass_named(words, text, form, s, clause, shape, start, steps);
     }
+    pass_list(words, text, form, s, clause, shape, start, steps)
 }
 
 // Passes the clauses of schema s. No code is 0, so the first one's must rise above 0 too.
