@@ -8,10 +8,9 @@
 --     named-entry           an entry that has a name, by its bound
 --     all-named             entries that have names, by their bound
 --     name-fits             one name of those that lie within the text
---     neither               a disjunction that fails
 --     two-differ, three-differ, four-differ     names whose keys differ
 -- Assumes nothing.
-use mathlib.Core.Bool.{Bool, true, false, not, _||_}
+use mathlib.Core.Bool.{true, false, not}
 use mathlib.Core.List.{List}
 use mathlib.Core.Path.{_≡_, refl, sym, ap, _∙_}
 use Prim.Native.Nat.{ℕ, _+_, _-_, _*_, _≤_, _<_}
@@ -101,13 +100,6 @@ all-named ws fields size m bound first end named text many is all x low high =
 
 pub name-fits : (ws : List ℕ) (size first count x i : ℕ) → NamesFit ws size first count → x ≡ first + i → i < count → fits size (entryRange (entryAt ws x)) ≡ true
 name-fits ws size first count x i fit is h = rw is (fit .fitting i h)
-
-pub neither : (p q : Bool) → (p || q) ≡ false → (p ≡ false) × (q ≡ false)
-neither true q e = absurd (no e)
-  where
-    no : true ≡ false → ⊥
-    no t = let z : _≡_ {A = ℕ} 0 1 = cc in omega arith
-neither false q e = (refl, e)
 
 module _ (ws ts : List ℕ) (first : ℕ) where
   abbrev nameOf : ℕ → List ℕ

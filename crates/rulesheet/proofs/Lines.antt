@@ -1,6 +1,6 @@
 -- A code's line in the table: of each number in a span, and of a number that no line has.
 -- Assumes nothing.
-use mathlib.Core.Bool.{Bool, true, _&&_, _||_}
+use mathlib.Core.Bool.{Bool, true, false, _&&_, _||_}
 use mathlib.Core.List.{List, [], _∷_}
 use mathlib.Core.Logic.{⊎-elim}
 use mathlib.Core.Path.{_≡_, refl, subst, _∙_}
@@ -20,6 +20,14 @@ line-past line lines code other = rw (ne-eqb code (line .code) other)
 pub line-none : (code : ℕ) → lineIn [] code ≡ unknown
 unfolding lineIn
 line-none code = refl
+
+-- a disjunction that fails
+pub neither : (p q : Bool) → (p || q) ≡ false → (p ≡ false) × (q ≡ false)
+neither true q e = absurd (no e)
+  where
+    no : true ≡ false → ⊥
+    no t = let z : _≡_ {A = ℕ} 0 1 = cc in omega arith
+neither false q e = (refl, e)
 
 -- a fact of each of `many` numbers from `low` on
 unfoldable pub Each : (ℕ → Type 0) → ℕ → ℕ → Type 0

@@ -1,6 +1,7 @@
 // What belongs to a code: its fields. Nothing else in the code knows a code's number but the reader
 // of clauses; `specs/Codes.antt` has 01's table.
 ghost use mathlib.Core.Path.{_≡_};
+ghost use Prim.Native.Nat.{_≤_, _<_};
 ghost use Rattle.rulesheet.specs.declared.code.Fields.the-variants.{Unknown};
 ghost use Rattle.rulesheet.specs.Codes.{guardedShape, inPlaceShape, exactShape, shapeOf};
 ghost use Rattle.rulesheet.specs.Faults.{isList, isNamed};
@@ -35,8 +36,7 @@ impl Shape {
     // More than a sheet has entries.
     const NO_MOST: u32 = 4_294_967_295;
 
-    // The shape of one of the codes that few sheets have. They stand apart since the compiler makes a
-    // table of the others.
+    // The shape of one of the codes that few sheets have, or of none.
     fn seldom(code: u32) -> Shape
         requires { ⌜ ((code ≡ 36 → ⊥) → (code ≡ 37 → ⊥) → (code ≡ 45 → ⊥) → shapeOf code ≡ guardedShape Unknown 0) ⌝ }
         ensures { λ r. ⌜ r ≡ shapeOf code ⌝ }
@@ -53,25 +53,95 @@ impl Shape {
         Shape::guarded(Fields::Unknown, 0)
     }
 
-    // The shape of a code, `Fields::Unknown` where there is no such code.
+    // The shape of a code below 10.
+    fn below_ten(code: u32) -> Shape
+        requires { ⌜ code < 10 ⌝ }
+        ensures { λ r. ⌜ r ≡ shapeOf code ⌝ }
+    {
+        if code == 2 {
+            return Shape::guarded(Fields::Types, 0);
+        }
+        if code == 1 {
+            return Shape::guarded(Fields::Bare, 0);
+        }
+        if code == 3 {
+            return Shape::guarded(Fields::Values, 1);
+        }
+        Shape::seldom(code)
+    }
+
+    // The shape of a code below 26.
+    fn low(code: u32) -> Shape
+        requires { ⌜ code < 26 ⌝ }
+        ensures { λ r. ⌜ r ≡ shapeOf code ⌝ }
+    {
+        if code < 10 {
+            return Shape::below_ten(code);
+        }
+        if code < 14 {
+            return Shape::guarded(Fields::Number, 0);
+        }
+        if 20 <= code {
+            return Shape::guarded(Fields::Limit, 0);
+        }
+        if code == 14 {
+            return Shape::guarded(Fields::Positive, 0);
+        }
+        Shape::seldom(code)
+    }
+
+    // The shape of a code from 27 to 39.
+    fn middle(code: u32) -> Shape
+        requires { ⌜ (27 ≤ code) × (code < 40) ⌝ }
+        ensures { λ r. ⌜ r ≡ shapeOf code ⌝ }
+    {
+        if code < 30 {
+            return Shape::seldom(code);
+        }
+        if code < 33 {
+            return Shape::in_place(Fields::Schemas, 1);
+        }
+        if code < 35 {
+            return Shape::in_place(Fields::Schema, 0);
+        }
+        Shape::seldom(code)
+    }
+
+    // The shape of a code above 40.
+    fn high(code: u32) -> Shape
+        requires { ⌜ 41 ≤ code ⌝ }
+        ensures { λ r. ⌜ r ≡ shapeOf code ⌝ }
+    {
+        if (code == 42) | (code == 44) {
+            return Shape::guarded(Fields::Schema, 0);
+        }
+        if (code == 60) | (code == 61) {
+            return Shape::guarded(Fields::Schema, 0);
+        }
+        if code == 43 {
+            return Shape::guarded(Fields::Schemas, 1);
+        }
+        Shape::seldom(code)
+    }
+
+    // The shape of a code, `Fields::Unknown` where there is no such code: those that most sheets have
+    // are told after a few comparisons.
     pub fn of(code: u32) -> Shape
         ensures { λ r. ⌜ r ≡ shapeOf code ⌝ }
     {
-        match code {
-            1 => Shape::guarded(Fields::Bare, 0),
-            2 => Shape::guarded(Fields::Types, 0),
-            3 => Shape::guarded(Fields::Values, 1),
-            10 | 11 | 12 | 13 => Shape::guarded(Fields::Number, 0),
-            14 => Shape::guarded(Fields::Positive, 0),
-            20 | 21 | 22 | 23 | 24 | 25 => Shape::guarded(Fields::Limit, 0),
-            26 => Shape::guarded(Fields::Names, 0),
-            30 | 31 | 32 => Shape::in_place(Fields::Schemas, 1),
-            33 | 34 => Shape::in_place(Fields::Schema, 0),
-            40 => Shape::guarded(Fields::Members, 0),
-            42 | 44 | 60 | 61 => Shape::guarded(Fields::Schema, 0),
-            43 => Shape::guarded(Fields::Schemas, 1),
-            _ => Shape::seldom(code),
+        if code < 26 {
+            return Shape::low(code);
         }
+        if code == 26 {
+            return Shape::guarded(Fields::Names, 0);
+        }
+        if code == 40 {
+            return Shape::guarded(Fields::Members, 0);
+        }
+        if code < 40 {
+            return Shape::middle(code);
+        }
+        Shape::high(code)
     }
 
     fn guarded(fields: Fields, least: u32) -> Shape

@@ -6,7 +6,8 @@ use Prim.Native.Nat.{_+_}
 use lib.Dec.{eqb}
 use lib.ListN.{length}
 use borrow.Author.Tests.{eqb-false}
-use Rattle.rulepass.proofs.Entries.{name-fits, neither, two-differ, three-differ, four-differ}
+use Rattle.rulesheet.proofs.Lines.{neither}
+use Rattle.rulepass.proofs.Entries.{name-fits, two-differ, three-differ, four-differ}
 use borrow.Author.Needs.{needs}
 use Rattle.rulepass.proofs.lists.keys_differ.Statement.{statement}
 use Rattle.rulepass.proofs.lists.keys_differ.Tie as tie
