@@ -113,12 +113,16 @@ pub fn at_most(a: Decimal, b: Decimal) -> bool
     unlike_at_most(a, b)
 }
 
-// Whether a < b: not b ≤ a.
+// Whether a < b: not b ≤ a. It calls what `at_most` calls, which so has two callers: the compiler keeps it behind a call, and makes
+// the comparison at one scale part of whoever asks.
 pub fn less(a: Decimal, b: Decimal) -> bool
     requires { ⌜ Plain a × Plain b ⌝ }
     ensures { λ r. ⌜ r ≡ ltZ (value a) (value b) ⌝ }
 {
-    !at_most(b, a)
+    if b.scale == a.scale {
+        return !alike_at_most(b, a);
+    }
+    !unlike_at_most(b, a)
 }
 
 // Whether a = b, at whatever scales: a ≤ b and b ≤ a.
