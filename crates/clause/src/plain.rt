@@ -1,5 +1,5 @@
 // The tests that a row's own words tell, tried before anything else is done for a pair. Most clauses
-// are passed here, in one loop that calls nothing: where an exact test would count characters or
+// are passed here, in one loop that calls nothing: where an exact test would count many characters or
 // divide by a power of ten, the answer is left open.
 ghost use mathlib.Core.Bool.{true};
 ghost use mathlib.Core.List.{List};

@@ -4,7 +4,7 @@
 --     passes-many, claused-first             the first clauses are tests that the row passes
 --     told-open, told-end                    and they are all: the pair is settled at once
 -- Assumes nothing.
-use mathlib.Core.Bool.{Bool, true, false, not, _&&_, cond, true≢false}
+use mathlib.Core.Bool.{Bool, true, false, _&&_, cond, true≢false}
 use mathlib.Core.List.{List}
 use mathlib.Core.Path.{_≡_, refl, sym, ap, _∙_, subst}
 use Prim.Native.Nat.{ℕ, zero, suc, _+_, _≤_, _<_}
@@ -21,7 +21,7 @@ use Rattle.rulesheet.specs.Sheet.{schemaAt}
 use Rattle.rulesheet.specs.Faults.{clauseFine}
 use Rattle.rulesheet.specs.Clauses.{appliesAny}
 use Rattle.rulesheet.proofs.Items.{clause-item}
-use Rattle.meaning.specs.Rules.{Pair, Way, whole, cut, stops, passes}
+use Rattle.meaning.specs.Rules.{Pair, stops, passes}
 use Rattle.areas.specs.Cells.{cellAt, Unsettled}
 use Rattle.areas.specs.Writers.{Open, Shut}
 use Rattle.areas.proofs.Writers.{marked-same, kept-all}
@@ -29,7 +29,8 @@ use Rattle.clause.specs.Read.{Tries, PassedFirst}
 use Rattle.clause.proofs.Reading.{clause-low}
 use Rattle.plan.specs.Plan.{stepsOf, finishOf}
 use Rattle.cycle.specs.declared.cycle.Done.{Done}
-use Rattle.cycle.specs.State.{Case, lent, Lent, lentCase, InCase, rowOf, rankOf, clausesOf, clauseAt, goesOn, Ready, PassesFirst, WhereDone, Judged}
+use Rattle.cycle.specs.State.{Case, lent, Lent, lentCase, InCase, rowOf, rankOf, clausesOf, clauseAt, Ready, PassesFirst, WhereDone, Judged}
+use Rattle.cycle.proofs.Ways.{goes-on}
 use Rattle.cycle.proofs.Pairs.{resAt}
 use Rattle.cycle.proofs.Going.{many, Stepped, ready-as, stepped-none, stepped-end, going-unsettled, going-ready, going-open}
 use Rattle.cycle.proofs.Reading.{rule-low}
@@ -82,10 +83,6 @@ tries-by d j (takes c) e f = absurd (true≢false e)
 pub passes-many : {d : Doc} {j : ℕ} {f : ℕ → R.Clause} {n m r : ℕ} → n ≡ m → PassedFirst d j f n r → PassedFirst d j f m r
 passes-many e F = record { within = omega (arith, F .within); passed = F .passed }
 
-goes-true : (w : Way) → goesOn w true ≡ true
-goes-true whole = refl
-goes-true cut = refl
-
 module _ {T : Case} {p : Pair} {m : ℕ} {c l : List ℕ} {n r : ℕ} (R : Ready T (rankOf T p + 1) p c l n) (u : Unsettled (T .m) p c) (F : PassesFirst T p m r) where
   first : (k : ℕ) → k ≤ r → WhereDone T c l n (λ d. Clausing T p m d c l k c l n true)
   first zero h = claused-none R u
@@ -94,7 +91,7 @@ module _ {T : Case} {p : Pair} {m : ℕ} {c l : List ℕ} {n r : ℕ} (R : Ready
       let w : k < m = omega arith in
       let L : Clausing T p m d c l k c l n true = first k (omega arith) d A in
       subst (λ (x : ℕ). Clausing T p m d c l x c l n true) (add-one k)
-      (claused-next (claused-test (L .claused) (L .unstopped w) (F .passed k (omega arith)) refl) w (sym (ap (λ b. cond b (k + 1) m) (goes-true (T .way)))))
+      (claused-next (claused-test (L .claused) (L .unstopped w) (F .passed k (omega arith)) refl) w (ap (λ b. cond b (k + 1) m) (goes-on (T .way))))
 
   pub claused-first : WhereDone T c l n (λ d. Clausing T p m d c l r c l n true)
   claused-first = first r (omega arith)

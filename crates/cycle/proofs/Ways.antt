@@ -1,4 +1,5 @@
 -- Whether judging goes on after a failure, as the code asks it.
+--     goes-on                    after what holds, in whole and cut
 --     goes-held, goes-failed     by what holds, and by the number that is lent where it fails
 --     goes-stops                 by the misses of a clause
 -- Assumes nothing.
@@ -12,12 +13,12 @@ use Rattle.meaning.specs.Rules.{Way, whole, cut}
 use Rattle.plan.specs.Plan.{stopsBy}
 use Rattle.cycle.specs.State.{wayLent, goesOn}
 
-held : (w : Way) → true ≡ goesOn w true
-held whole = refl
-held cut = refl
+pub goes-on : (w : Way) → true ≡ goesOn w true
+goes-on whole = refl
+goes-on cut = refl
 
 pub goes-held : (forms : List ℕ) (ok : Bool) → ok ≡ true → true ≡ goesOn (wayLent forms) ok
-goes-held forms ok e = held (wayLent forms) ∙ ap (goesOn (wayLent forms)) (sym e)
+goes-held forms ok e = goes-on (wayLent forms) ∙ ap (goesOn (wayLent forms)) (sym e)
 
 failed : (b : Bool) → b ≡ goesOn (cond b whole cut) false
 failed true = refl
