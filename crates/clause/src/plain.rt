@@ -8,17 +8,14 @@ ghost use Prim.Native.Nat.{ℕ, _<_};
 ghost use Rattle.decimal.specs.declared.Decimal.{Decimal};
 ghost use Rattle.decimal.specs.Value.{Plain};
 ghost use Rattle.sheet.specs.Record.{docOf};
-ghost use Rattle.sheet.specs.Accepted.{Laid};
 ghost use Rattle.rulesheet.specs.Sheet.{schemaAt};
 ghost use Rattle.rulesheet.specs.Clauses.{clauseMeans, number, held};
 ghost use Rattle.areas.specs.Cells.{pairIs, Unsettled};
 ghost use Rattle.clause.specs.Read.{RecordRead, RulesRead, clauseIn, Tries, PassedFirst};
-use crate::bounds::exclusive_maximum;
-use crate::bounds::exclusive_minimum;
-use crate::bounds::maximum;
-use crate::bounds::minimum;
-use crate::numbers::Numbered;
-use crate::numbers::number_in;
+use crate::bounds::plainly_exclusive_maximum;
+use crate::bounds::plainly_exclusive_minimum;
+use crate::bounds::plainly_maximum;
+use crate::bounds::plainly_minimum;
 use crate::sizes::FEW;
 use crate::sizes::few_bytes;
 use crate::sizes::few_characters;
@@ -26,7 +23,7 @@ use crate::sizes::max_items;
 use crate::sizes::max_properties;
 use crate::sizes::min_items;
 use crate::sizes::min_properties;
-use crate::types::typed;
+use crate::types::plainly_typed;
 use rulesheet::clause::Clause;
 use rulesheet::few::plain_of;
 use rulesheet::form::RuleForm;
@@ -35,17 +32,6 @@ use sheet::record::Pair;
 use sheet::record::RecordForm;
 use sheet::record::RecordRow;
 
-// Whether the row is no number, or one of this scale: then nothing is divided to compare it.
-fn scaled(record: &[u32], form: RecordForm, row: RecordRow, scale: u32) -> bool
-    requires { ⌜ Laid (now «record») form × (row .0 < form .rows) ⌝ }
-{
-    let found = number_in(record, form, row);
-    match found {
-        Numbered::Number(number) => number.scale == scale,
-        Numbered::Other => true,
-    }
-}
-
 // Whether the row's own words tell that it passes the clause. A yes is one; a no leaves it open.
 fn plainly(record: &[u32], text: &[u8], form: RecordForm, row: RecordRow, clause: Clause) -> bool
     requires { ⌜ RecordRead (now «record») (now text) form × (row .0 < form .rows) ⌝ }
@@ -53,18 +39,18 @@ fn plainly(record: &[u32], text: &[u8], form: RecordForm, row: RecordRow, clause
     ensures { λ r. ⌜ (r ≡ true → (rs us : List ℕ) → Tries (docOf (now («record» .entry)) (now (text .entry))) (row .0) (clauseMeans rs us clause) true) ⌝ }
 {
     match clause {
-        Clause::Types(mask) => scaled(record, form, row, 0) && typed(record, form, row, mask),
+        Clause::Types(mask) => plainly_typed(record, form, row, mask),
         Clause::Minimum(limit) => {
-            scaled(record, form, row, limit.scale) && minimum(record, form, row, limit)
+            plainly_minimum(record, form, row, limit)
         }
         Clause::Maximum(limit) => {
-            scaled(record, form, row, limit.scale) && maximum(record, form, row, limit)
+            plainly_maximum(record, form, row, limit)
         }
         Clause::ExclusiveMinimum(limit) => {
-            scaled(record, form, row, limit.scale) && exclusive_minimum(record, form, row, limit)
+            plainly_exclusive_minimum(record, form, row, limit)
         }
         Clause::ExclusiveMaximum(limit) => {
-            scaled(record, form, row, limit.scale) && exclusive_maximum(record, form, row, limit)
+            plainly_exclusive_maximum(record, form, row, limit)
         }
         Clause::MinLength(k) => (k <= FEW) && few_characters(record, text, form, row, k),
         Clause::MaxLength(k) => few_bytes(record, form, row, k),

@@ -1,4 +1,5 @@
 // The keyword `type`: a row has one of the types of a mask.
+ghost use mathlib.Core.Bool.{true};
 ghost use mathlib.Core.List.{List};
 ghost use mathlib.Core.Path.{_≡_};
 ghost use Prim.Native.Nat.{ℕ, _<_};
@@ -63,5 +64,28 @@ pub(crate) fn typed(record: &[u32], form: RecordForm, row: RecordRow, mask: u32)
     match found {
         Numbered::Number(number) => numeric(mask, number),
         Numbered::Other => has_type(mask, type_of(kind_of(record, form, row))),
+    }
+}
+
+// Whether a number has one of the mask's types, as far as it tells without a division. A yes is one.
+fn plainly_numeric(mask: u32, it: Decimal) -> bool
+    requires { ⌜ Plain it ⌝ }
+    ensures { λ r. ⌜ (r ≡ true → typed mask (number (value it)) ≡ true) ⌝ }
+{
+    if it.scale == 0 {
+        return numeric(mask, it);
+    }
+    has_type(mask, type_of(RowKind::Number))
+}
+
+// Whether the row's own words tell that the row has one of the mask's types. A yes is one.
+pub(crate) fn plainly_typed(record: &[u32], form: RecordForm, row: RecordRow, mask: u32) -> bool
+    requires { ⌜ Laid (now «record») form × (row .0 < form .rows) ⌝ }
+    ensures { λ r. ⌜ (r ≡ true → (ts : List ℕ) → typed mask (docOf (now («record» .entry)) ts .value (row .0)) ≡ true) ⌝ }
+{
+    let found = number_in(record, form, row);
+    match found {
+        Numbered::Number(number) => plainly_numeric(mask, number),
+        Numbered::Other => typed(record, form, row, mask),
     }
 }

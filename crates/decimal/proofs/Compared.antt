@@ -1,8 +1,8 @@
 -- Sizes compared by their digits: as they stand where the scales are equal, and else with the digits that have more places divided.
 -- Assumes nothing.
 use mathlib.Core.Path.{_≡_, sym, _∙_}
-use Prim.Native.Nat.{ℕ, suc, _+_, _-_, _*_, _/_, _^_, _≤_, _<_}
-use native.Mathlib.Nat.{mul-assoc, suc-mul, mul-le-mul-right, mul-lt-mul-of-pos-right, le-div-iff-mul-le, div-lt-iff-lt-mul}
+use Prim.Native.Nat.{ℕ, zero, suc, _+_, _-_, _*_, _/_, _^_, _≤_, _<_}
+use native.Mathlib.Nat.{mul-assoc, suc-mul, zero-mul, mul-le-mul-right, mul-lt-mul-of-pos-right, le-div-iff-mul-le, div-lt-iff-lt-mul}
 use native.Mathlib.Omega.{arith}
 use lib.Dec.{leb}
 use lib.IntN.{natAbs}
@@ -26,12 +26,25 @@ divided-left m n u p =
     (λ (h : (m + (u - 1)) / u ≤ n). let g : m + (u - 1) < suc n * u = div-lt-iff-lt-mul p .0 (omega arith) in omega (arith, suc-mul n u))
     (λ (h : n < (m + (u - 1)) / u). let g : suc n * u ≤ m + (u - 1) = le-div-iff-mul-le p .0 h in omega (arith, suc-mul n u))
 
+-- digits compare as they stand where their factors are the same, or the first are zero
+alike : (m n j k : ℕ) → 0 < k → (0 < m → j ≡ k) → (leb m n ≡ leb (m * j) (n * k)) × (leb n m ≡ leb (n * k) (m * j))
+alike zero n j k p e = (leb-same 0 n (0 * j) (n * k) (λ (h : 0 ≤ n). omega (arith, zero-mul j)) (λ (h : n < 0). absurd (omega arith)), leb-same n 0 (n * k) (0 * j) (λ (h : n ≤ 0). none n h) (λ (h : 0 < n). omega (arith, zero-mul j, mul-lt-mul-of-pos-right h p, zero-mul k)))
+  where
+    none : (n : ℕ) → n ≤ 0 → n * k ≤ 0 * j
+    none zero h = omega (arith, zero-mul j, zero-mul k)
+    none (suc n) h = absurd (omega arith)
+alike (suc m) n j k p e = let z : j ≡ k = e (omega arith) in rw z (times-most (suc m) n k p, times-most n (suc m) k p)
+
 module _ (a b : Decimal) where
   by-sizes : leb (natAbs (value a)) (natAbs (value b)) ≡ leb (a .digits * 10 ^ (scale-max - a .scale)) (b .digits * 10 ^ (scale-max - b .scale))
   by-sizes = rw (size-is a, size-is b)
 
-  pub at-one-scale : a .scale ≡ b .scale → leb (a .digits) (b .digits) ≡ leb (natAbs (value a)) (natAbs (value b))
-  at-one-scale e = sym (by-sizes ∙ rw (e, ← times-most (a .digits) (b .digits) (10 ^ (scale-max - b .scale)) (ten-above (scale-max - b .scale))))
+  -- zero is as small at any scale
+  pub at-one-scale : (0 < a .digits → a .scale ≡ b .scale) → leb (a .digits) (b .digits) ≡ leb (natAbs (value a)) (natAbs (value b))
+  at-one-scale e = sym (by-sizes ∙ sym (alike (a .digits) (b .digits) (10 ^ (scale-max - a .scale)) (10 ^ (scale-max - b .scale)) (ten-above (scale-max - b .scale)) (λ h. rw (e h)) .0))
+
+  pub at-one-scale-back : (0 < a .digits → a .scale ≡ b .scale) → leb (b .digits) (a .digits) ≡ leb (natAbs (value b)) (natAbs (value a))
+  at-one-scale-back e = rw (size-is a, size-is b) (alike (a .digits) (b .digits) (10 ^ (scale-max - a .scale)) (10 ^ (scale-max - b .scale)) (ten-above (scale-max - b .scale)) (λ h. rw (e h)) .1)
 
   -- u stands for 10 ^ the difference of the scales
   pub places-right : (u : ℕ) → u ≡ 10 ^ (b .scale - a .scale) → a .scale < b .scale → b .scale ≤ scale-max → leb (a .digits) (b .digits / u) ≡ leb (natAbs (value a)) (natAbs (value b))

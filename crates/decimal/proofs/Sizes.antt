@@ -42,14 +42,6 @@ module _ (d : Decimal) where
   pub zero-is : eqb (natAbs (value d)) 0 ≡ eqb (d .digits) 0
   zero-is = ap (λ (n : ℕ). eqb n 0) size-is ∙ zero-times (d .digits) (10 ^ (scale-max - d .scale)) (ten-above (scale-max - d .scale))
 
--- one place more, in the digits and in the scale, is the same value
-pub place-more : (b : Bool) (n s : ℕ) → s < scale-max → value (record { below = b; digits = n * 10; scale = s + 1 }) ≡ value (record { below = b; digits = n; scale = s })
-place-more b n s h =
-    let e : 10 ^ (scale-max - s) ≡ 10 * 10 ^ (scale-max - (s + 1)) = ten-split (scale-max - s) 1 (scale-max - (s + 1)) (omega arith) in
-    scaled (record { below = b; digits = n * 10; scale = s + 1 })
-    ∙ ap (withSign b) (rw (e, ← mul-assoc))
-    ∙ sym (scaled (record { below = b; digits = n; scale = s }))
-
 module _ (a b : Decimal) where
   -- two decimals in order, by their signs p and q and their sizes
   pub most-is : {p q : Bool} → a .below ≡ p → b .below ≡ q → leZ (value a) (value b) ≡ bySigns p q (natAbs (value a)) (natAbs (value b))

@@ -1,14 +1,14 @@
 -- Tests of numbers, as `leb` and `eqb` answer them: which of them say the same. And the test of two signs.
 -- Assumes nothing.
 use mathlib.Core.Path.{_≡_, refl, sym, _∙_}
-use mathlib.Core.Bool.{Bool, true, false, not, _&&_, and-false, Bool·beq}
+use mathlib.Core.Bool.{Bool, true, false, not, _&&_, _||_, and-false, Bool·beq}
 use mathlib.Core.Logic.{⊎-elim}
 use Prim.Native.Nat.{ℕ, zero, suc, _+_, _*_, _≤_, _<_}
 use native.Mathlib.Nat.{eq-zero-or-pos, mul-pos}
 use native.Mathlib.Omega.{arith}
 use lib.Dec.{leb, ltb, eqb, leb·suc-zero, leb·suc-suc, eqb·zero-suc, eqb·suc-zero, eqb·suc-suc}
 use Rattle.laws.proofs.Tests.{le-or-lt}
-use borrow.Author.Tests.{le-leb, lt-leb, lt-ltb, le-ltb, eq-eqb, ne-eqb}
+use borrow.Author.Tests.{le-leb, lt-leb, lt-ltb, le-ltb, eq-eqb, ne-eqb, eqb-true}
 
 -- two tests are equal if each answer of the first brings the same answer of the second
 pub leb-same : (a b c d : ℕ) → (a ≤ b → c ≤ d) → (b < a → d < c) → leb a b ≡ leb c d
@@ -48,3 +48,8 @@ signs-differ true true m n e q = cc
 signs-differ true false m n e q = cc
 signs-differ false true m n e q = cc
 signs-differ false false m n e q = cc
+
+-- digits that are zero, or scales that are the same
+pub zero-or-same : (d m n : ℕ) → (eqb d 0 || eqb m n) ≡ true → 0 < d → m ≡ n
+zero-or-same zero m n e h = absurd (omega arith)
+zero-or-same (suc d) m n e h = eqb-true m n (rw (eqb·suc-zero d) at e)

@@ -3,6 +3,7 @@
 //
 // The contracts cite `specs/Value.antt`: `value` is what a decimal stands for, a whole number of billionths, and `Plain` says that a
 // decimal is within the limits, which every question about its value asks.
+ghost use mathlib.Core.Bool.{true};
 ghost use mathlib.Core.Path.{_≡_};
 ghost use Prim.Native.Nat.{_*_, _%_, _^_, _≤_, _<_};
 ghost use lib.Dec.{leb};
@@ -71,9 +72,9 @@ fn size_at_most(a: Decimal, b: Decimal) -> bool
     (a.digits + (unit - 1)) / unit <= b.digits
 }
 
-// Whether a ≤ b, at one scale or with different signs: then the digits are compared as they stand.
+// Whether a ≤ b, at one scale, with different signs, or of zero: then the digits are compared as they stand.
 fn alike_at_most(a: Decimal, b: Decimal) -> bool
-    requires { ⌜ Plain a × Plain b × (a .below ≡ b .below → a .scale ≡ b .scale) ⌝ }
+    requires { ⌜ Plain a × Plain b × (a .below ≡ b .below → 0 < a .digits → a .scale ≡ b .scale) ⌝ }
     ensures { λ r. ⌜ r ≡ leZ (value a) (value b) ⌝ }
 {
     if a.below {
@@ -123,6 +124,22 @@ pub fn less(a: Decimal, b: Decimal) -> bool
         return !alike_at_most(b, a);
     }
     !unlike_at_most(b, a)
+}
+
+// Whether the digits as they stand tell that a ≤ b: those of zero do, whatever the scales. A yes is one; a no leaves it open.
+pub fn plainly_at_most(a: Decimal, b: Decimal) -> bool
+    requires { ⌜ Plain a × Plain b ⌝ }
+    ensures { λ r. ⌜ (r ≡ true → leZ (value a) (value b) ≡ true) ⌝ }
+{
+    ((a.digits == 0) | (a.scale == b.scale)) && alike_at_most(a, b)
+}
+
+// Whether they tell that a < b. A yes is one; a no leaves it open.
+pub fn plainly_less(a: Decimal, b: Decimal) -> bool
+    requires { ⌜ Plain a × Plain b ⌝ }
+    ensures { λ r. ⌜ (r ≡ true → ltZ (value a) (value b) ≡ true) ⌝ }
+{
+    a.scale == b.scale && !alike_at_most(b, a)
 }
 
 // Whether a = b, at whatever scales: a ≤ b and b ≤ a.

@@ -2,7 +2,7 @@
 -- Assumes nothing.
 use mathlib.Core.Path.{sym, _∙_}
 use Rattle.decimal.proofs.Sizes.{most-is, zero-most, above-not-most}
-use Rattle.decimal.proofs.Compared.{at-one-scale}
+use Rattle.decimal.proofs.Compared.{at-one-scale, at-one-scale-back}
 use Rattle.decimal.proofs.alike_at_most.Statement.{statement}
 use Rattle.decimal.proofs.alike_at_most.Tie as tie
 
@@ -10,7 +10,7 @@ returns : tie.Need-returns
 returns c =
     let b = c .before .before .before in
     let s = b .before .args in
-    at-one-scale (s .b) (s .a) (sym (b .before .pre .2 (b .if1 .taken ∙ sym (c .before .before .if2 .taken)))) ∙ sym (most-is (s .a) (s .b) (b .if1 .taken) (c .before .before .if2 .taken))
+    at-one-scale-back (s .a) (s .b) (b .before .pre .2 (b .if1 .taken ∙ sym (c .before .before .if2 .taken))) ∙ sym (most-is (s .a) (s .b) (b .if1 .taken) (c .before .before .if2 .taken))
 
 returns-2 : tie.Need-returns-2
 returns-2 c =

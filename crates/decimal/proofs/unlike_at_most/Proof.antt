@@ -26,7 +26,7 @@ returns-2 c =
 alike-at-most-requires : tie.Need-alike-at-most-requires
 alike-at-most-requires c κs =
     let p = c .before .before .before .pre in
-    (p .0, p .1, signs-differ _ _ _ _ (c .if1 .left))
+    (p .0, p .1, λ same above. signs-differ _ _ _ _ (c .if1 .left) same)
 
 returns-3 : tie.Need-returns-3
 returns-3 c = search needs
