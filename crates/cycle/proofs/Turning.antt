@@ -20,7 +20,7 @@ use Rattle.areas.specs.Cells.{pairIs, cellAt, verd, Unsettled, column}
 use Rattle.areas.specs.Writers.{Marked, HandsOn}
 use Rattle.steps.specs.declared.turn.Turn.{Turn}
 use Rattle.plan.specs.Plan.{countsHits, branches, moved, stepsOf, finishOf, wayOf, stopsBy}
-use Rattle.steps.specs.Read.{Started}
+use Rattle.told.specs.Read.{Started}
 use Rattle.steps.specs.Turns.{Skipped, Turned}
 use Rattle.cycle.specs.declared.cycle.Done.{Done}
 use Rattle.cycle.specs.State.{Case, Fits, InCase, firstKid, kidCount, rankOf, clausesOf, clauseAt, beforeOf, bitsOf, Areas, Ready, WhereDone, Judged, ClauseJudged, Turns, TurnsTo, nextAt, givenOn}

@@ -23,7 +23,7 @@ use Rattle.areas.specs.Cells.{cellAt, verd, Unsettled, bit, settledAs, column}
 use Rattle.areas.specs.Writers.{Writes, Marked, handedOn, HandsOn}
 use Rattle.steps.specs.declared.turn.Turn.{Turn}
 use Rattle.plan.specs.Plan.{finishOf, stopsBy, afterMiss}
-use Rattle.steps.specs.Read.{Started}
+use Rattle.told.specs.Read.{Started}
 use Rattle.steps.specs.Turns.{Turned}
 use Rattle.cycle.specs.declared.cycle.Done.{Done}
 

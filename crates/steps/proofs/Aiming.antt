@@ -27,7 +27,7 @@ use Rattle.areas.specs.Cells.{cellOf}
 use Rattle.clause.specs.Read as C
 use Rattle.steps.specs.declared.turn.Turn.{Turn}
 use Rattle.plan.specs.Plan.{memberCount, elementCount, no-member, countsHits, branches, branchGoes, branchOf, own, childNamed, prefixed, unnamed, stepsIn, aimIn, goIn, stepsOf, aimOf, goOf}
-use Rattle.steps.specs.Read.{Started}
+use Rattle.told.specs.Read.{Started}
 use Rattle.steps.specs.Turns.{goesAt, Skipped, Turned}
 use Rattle.steps.proofs.Turns.{at, skipped-none, skipped-more, goes-on, stops}
 

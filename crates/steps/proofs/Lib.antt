@@ -1,4 +1,3 @@
-pub mod Earlier
 pub mod Reading
 pub mod Aiming
 pub mod Choosing

@@ -18,7 +18,7 @@ use Rattle.clause.specs.Read.{RecordRead, RulesRead, clauseIn, beforeIn, wordsI
 use Rattle.areas.specs.Cells.{pairIs, Unsettled, column}
 use Rattle.steps.specs.declared.turn.Turn.{Turn}
 use Rattle.plan.specs.Plan.{countsHits, branches, stepsOf, aimOf, goOf}
-use Rattle.steps.specs.Read.{Started}
+use Rattle.told.specs.Read.{Started}
 
 module _ (D : Doc) (p : Pair) (before : List Clause) (c : Clause) where
   -- step k is applied

@@ -12,7 +12,7 @@ ghost use Rattle.rulesheet.specs.Clauses.{entryIn, schemasIn};
 ghost use Rattle.meaning.specs.Rules.{Pair as Meant, Marks};
 ghost use Rattle.clause.specs.Read.{sizeIn, orNone};
 ghost use Rattle.plan.specs.Plan.{memberCount, elementCount};
-ghost use Rattle.steps.specs.Read.{Started};
+ghost use Rattle.told.specs.Read.{Started};
 ghost use Rattle.steps.specs.Turns.{Turned, TurnedOn, TurnedFresh};
 use crate::turn::Turn;
 use crate::turn::at_step;

@@ -1,6 +1,5 @@
 // The steps of a clause on a row: how many there are, which pair each aims at, whether it is applied,
 // and what the clause says in the end.
-pub mod before;
 mod children;
 pub mod finish;
 mod here;

@@ -11,7 +11,7 @@ use Rattle.clause.specs.Read.{beforeIn}
 use Rattle.clause.proofs.Naming.{child-inside}
 use Rattle.steps.specs.Turns.{Skipped}
 use Rattle.steps.proofs.Turns.{skipped-none}
-use Rattle.steps.proofs.Earlier.{before-long}
+use Rattle.told.proofs.Earlier.{before-long}
 use Rattle.steps.proofs.Aiming.{members-some, other-turn, other-more, other-end}
 use borrow.Author.Needs.{needs}
 use Rattle.steps.proofs.members.other_turn.Statement.{statement}

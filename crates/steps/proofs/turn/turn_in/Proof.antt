@@ -9,7 +9,7 @@ use Rattle.areas.specs.Cells.{pairIs, column}
 use Rattle.clause.specs.Read.{beforeIn}
 use Rattle.clause.proofs.Asserting.{sizes, list-read}
 use Rattle.steps.proofs.Reading.{no-steps}
-use Rattle.steps.proofs.Earlier.{started-as}
+use Rattle.told.proofs.Earlier.{started-as}
 use Rattle.steps.proofs.Aiming.{members-some, elements-some}
 use Rattle.steps.proofs.Turns.{turned-as, stops, skipped-none}
 use borrow.Author.Needs.{needs}

@@ -1,13 +1,13 @@
 // What the clauses before a clause of the same schema tell it: to `items` how many elements they
 // speak of, to `additionalProperties` which members they name.
-ghost use mathlib.Core.Bool.{false};
+ghost use mathlib.Core.Bool.{true};
 ghost use mathlib.Core.List.{List, [], map};
 ghost use mathlib.Core.Path.{_≡_};
 ghost use Prim.Native.Nat.{ℕ, _*_, _≤_, _<_};
 ghost use lib.ListN.{length, take};
 ghost use Rattle.sheet.specs.Record.{docOf};
 ghost use Rattle.rulesheet.specs.declared.code.Fields.the-variants.{Members};
-ghost use Rattle.rulesheet.specs.Sheet.{schemaAt};
+ghost use Rattle.rulesheet.specs.Sheet.{schemaAt, clauseOf};
 ghost use Rattle.rulesheet.specs.Clauses.{membersIn, clauseMeans, held, Bounded, Tested};
 ghost use Rattle.rulesheet.specs.Faults.{parts-max};
 ghost use Rattle.rulesheet.specs.Read.{RulesLaid};
@@ -16,13 +16,15 @@ ghost use Rattle.meaning.specs.Lists.{concatMap};
 ghost use Rattle.meaning.specs.Rules.{Pair, namesOf, prefixOf};
 ghost use Rattle.clause.specs.Read.{RecordRead, RulesRead, ListRead, clauseIn, beforeIn};
 ghost use Rattle.plan.specs.Plan.{unnamed};
-ghost use Rattle.steps.specs.Read.{namedBy, Started};
+ghost use Rattle.told.specs.Read.{namedBy, namesAny, marksNamed, NamesFrom, NamesOnly, byMarks, Started};
 use rulesheet::clause::Clause;
 use rulesheet::clause::Entries;
 use rulesheet::clause::entry_name;
+use rulesheet::few::applies;
 use rulesheet::few::telling_of;
 use rulesheet::few::told_of;
 use rulesheet::form::RuleForm;
+use rulesheet::form::clause_at;
 use rulesheet::form::schema_at;
 use sheet::record::RecordForm;
 use sheet::record::RecordRow;
@@ -58,7 +60,7 @@ fn prefix_before(rules: &[u32], form: RuleForm, s: RuleRow, first: u32, i: u32) 
 
 // Whether the clause names members: a `properties` does.
 fn has_names(clause: Clause) -> bool
-    ensures { λ r. ⌜ (r ≡ false → (rs us : List ℕ) → namesOf (clauseMeans rs us clause) ≡ []) ⌝ }
+    ensures { λ r. ⌜ ((rs us : List ℕ) → r ≡ namesAny (clauseMeans rs us clause)) ⌝ }
 {
     match clause {
         Clause::Properties(_) => true,
@@ -82,16 +84,67 @@ fn names_from(rules: &[u32], form: RuleForm, s: RuleRow, first: u32, i: u32) -> 
     k
 }
 
+// Whether clause k marks no member but those that it names.
+fn marks_named(rules: &[u32], form: RuleForm, k: u32) -> bool
+    requires { ⌜ RulesLaid (now rules) form × (k < form .c) ⌝ }
+    ensures { λ r. ⌜ ((us : List ℕ) → r ≡ marksNamed (clauseOf (now (rules .entry)) us k)) ⌝ }
+{
+    if applies(clause_at(rules, form, k)) {
+        return has_names(telling_of(rules, form, k));
+    }
+    true
+}
+
+// Whether each of the first i clauses of the schema marks no member but those that it names.
+fn only_names(rules: &[u32], form: RuleForm, s: RuleRow, first: u32, i: u32) -> bool
+    requires { ⌜ RulesLaid (now rules) form × (s .0 < form .m) × (first ≡ schemaAt (now rules) (s .0) .first) × (i ≤ schemaAt (now rules) (s .0) .count) ⌝ }
+    ensures { λ r. ⌜ (r ≡ true → (us : List ℕ) → NamesOnly (beforeIn (now (rules .entry)) us (s .0) i)) ⌝ }
+{
+    let mut k = 0;
+    while k < i {
+        if !marks_named(rules, form, first + k) {
+            return false;
+        }
+        k += 1;
+    }
+    true
+}
+
+// Whether the last of the first i clauses of the schema names members.
+fn last_names(rules: &[u32], form: RuleForm, s: RuleRow, first: u32, i: u32) -> bool
+    requires { ⌜ RulesLaid (now rules) form × (s .0 < form .m) × (first ≡ schemaAt (now rules) (s .0) .first) × (i ≤ schemaAt (now rules) (s .0) .count) ⌝ }
+{
+    if i == 0 {
+        return false;
+    }
+    has_names(telling_of(rules, form, first + (i - 1)))
+}
+
+// Said where the marks tell which members are named.
+pub const BY_MARKS: u32 = 0xffff_ffff;
+
+// What the first i clauses of the schema tell an `additionalProperties`: from which of them on they name
+// members, or that the marks tell it. The marks are asked only where the last of them names some.
+fn names_told(rules: &[u32], form: RuleForm, s: RuleRow, first: u32, i: u32) -> u32
+    requires { ⌜ RulesLaid (now rules) form × (s .0 < form .m) × (first ≡ schemaAt (now rules) (s .0) .first) × (i ≤ schemaAt (now rules) (s .0) .count) ⌝ }
+    ensures { λ r. ⌜ ((us : List ℕ) → (r ≡ byMarks → ⊥) → NamesFrom (beforeIn (now (rules .entry)) us (s .0) i) r) ⌝ }
+    ensures { λ r. ⌜ ((us : List ℕ) → r ≡ byMarks → NamesOnly (beforeIn (now (rules .entry)) us (s .0) i)) ⌝ }
+{
+    if last_names(rules, form, s, first, i) && only_names(rules, form, s, first, i) {
+        return BY_MARKS;
+    }
+    names_from(rules, form, s, first, i)
+}
+
 // What the first i clauses of the schema tell the clause after them: `items` how many elements they
 // speak of, `additionalProperties` from which of them on they name members, any other nothing.
 fn start_in(rules: &[u32], form: RuleForm, s: RuleRow, first: u32, i: u32, clause: Clause) -> u32
     requires { ⌜ RulesLaid (now rules) form × (s .0 < form .m) × (first ≡ schemaAt (now rules) (s .0) .first) × (i ≤ schemaAt (now rules) (s .0) .count) ⌝ }
     ensures { λ r. ⌜ ((us : List ℕ) → Started (beforeIn (now (rules .entry)) us (s .0) i) (clauseMeans (now (rules .entry)) us clause) r) ⌝ }
-    ensures { λ r. ⌜ r ≤ parts-max * parts-max ⌝ }
 {
     match clause {
         Clause::Items(_) => prefix_before(rules, form, s, first, i),
-        Clause::AdditionalProperties(_) => names_from(rules, form, s, first, i),
+        Clause::AdditionalProperties(_) => names_told(rules, form, s, first, i),
         _ => 0,
     }
 }
@@ -176,7 +229,7 @@ fn clause_names<'a>(
 
 // Whether no `properties` among the first i clauses of the schema names the row, where those before
 // `from` name nothing. In each the entry at `hint` is tried first.
-pub(crate) fn unnamed_in<'a>(
+pub fn unnamed_in<'a>(
     record: &[u32],
     text: &'a [u8],
     form: RecordForm,

@@ -7,10 +7,10 @@ use borrow.Author.Needs.{needs}
 use Rattle.sheet.specs.Record.{docOf}
 use Rattle.meaning.specs.Lists.{concatMap}
 use Rattle.meaning.specs.Rules.{namesOf}
-use Rattle.steps.specs.Read.{namedBy}
-use Rattle.steps.proofs.Earlier.{firstClauses, clauses-few, unnamed-from, unnamed-more, named-here, unnamed-is}
-use Rattle.steps.proofs.before.unnamed_in.Statement.{statement}
-use Rattle.steps.proofs.before.unnamed_in.Tie as tie
+use Rattle.told.specs.Read.{namedBy}
+use Rattle.told.proofs.Earlier.{firstClauses, clauses-few, unnamed-from, unnamed-more, named-here, unnamed-is}
+use Rattle.told.proofs.unnamed_in.Statement.{statement}
+use Rattle.told.proofs.unnamed_in.Tie as tie
 
 abbrev Inv-loop : tie.InvT-loop
 Inv-loop «record» text form rules rule-text rule-form first i from row hint k₀ k = (k ≤ i) × (namedBy (docOf «record» text) (concatMap namesOf (firstClauses rules rule-text first k)) (row .0) ≡ false)

@@ -10,9 +10,9 @@ use Rattle.rulesheet.specs.Ruleset.{Clause}
 use Rattle.rulesheet.specs.Sheet.{run}
 use Rattle.meaning.specs.Lists.{concatMap}
 use Rattle.meaning.specs.Rules.{prefixOf}
-use Rattle.steps.proofs.Earlier.{firstClauses, prefix-more, before-is, clauses-few, entries-few}
-use Rattle.steps.proofs.before.prefix_before.Statement.{statement}
-use Rattle.steps.proofs.before.prefix_before.Tie as tie
+use Rattle.told.proofs.Earlier.{firstClauses, prefix-more, before-is, clauses-few, entries-few}
+use Rattle.told.proofs.prefix_before.Statement.{statement}
+use Rattle.told.proofs.prefix_before.Tie as tie
 
 abbrev Inv-loop : tie.InvT-loop
 Inv-loop rules form first i elements₀ k₀ elements k = (k ≤ i) × (elements ≤ parts-max * k) × ((us : List ℕ) → elements ≡ length (concatMap prefixOf (firstClauses rules us first k)))

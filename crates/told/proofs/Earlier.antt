@@ -15,7 +15,8 @@ use Prim.Native.Nat.{ℕ, zero, suc, _+_, _≤_, _<_}
 use native.Mathlib.Nat.{add-zero}
 use native.Mathlib.Numerals.{add-one}
 use native.Mathlib.Omega.{arith}
-use lib.ListN.{length, take, length-append, length-map}
+use lib.ListN.{length, getD, take, length-append, length-map}
+use lib.Seq.{getD-take}
 use borrow.Author.Tests.{lt-ltb}
 use types.Run.{OneOf, miss}
 use denote.Enum.Declared.{tagOf}
@@ -35,47 +36,63 @@ use Rattle.rulesheet.specs.Ruleset.{Reach, properties, additionalProperties, pr
 use Rattle.rulesheet.specs.Codes.{entryName, entryMember}
 use Rattle.rulesheet.specs.Sheet.{schemasWord, schemaAt, entryAt, run, clauseOf, rulesOf}
 use Rattle.rulesheet.specs.Faults.{parts-max}
-use Rattle.rulesheet.specs.Clauses.{entriesOf, membersIn, clauseMeans, EntryNameRead, telling, applying, told}
+use Rattle.rulesheet.specs.Clauses.{entriesOf, membersIn, clauseMeans, EntryNameRead, telling, applying, told, appliesAny}
 use Rattle.rulesheet.specs.Read.{RulesLaid}
 use Rattle.rulesheet.proofs.Trailers.{facts, form-m, form-c, form-e}
 use Rattle.rulesheet.proofs.Taking.{schema-within}
 use Rattle.rulesheet.proofs.Reaching.{run-long, item-is}
+use Rattle.rulesheet.proofs.Items.{clause-item}
 use Rattle.meaning.specs.Lists.{any, concatMap}
 use Rattle.meaning.specs.Rules.{Pair, none?, namesOf, prefixOf, called}
 use Rattle.clause.proofs.Having.{never-not}
 use Rattle.clause.proofs.Listing.{any-found, entry-found, entry-nowhere}
 use Rattle.clause.specs.Read.{beforeIn}
 use Rattle.plan.specs.Plan.{unnamed}
-use Rattle.steps.specs.Read.{namedBy, Started}
+use Rattle.told.specs.Read.{namedBy, namesAny, marksNamed, NamesFrom, NamesOnly, byMarks, Started}
+
+-- a clause that names no member has no names
+pub unnaming : (c : R.Clause) → namesAny c ≡ false → namesOf c ≡ []
+unfolding namesAny namesOf
+unnaming (R.asserts t) e = refl
+unnaming (R.inPlace m ss) e = refl
+unnaming (R.ifThenElse i t x) e = refl
+unnaming (R.dependentSchemas es) e = refl
+unnaming (R.contains s least most) e = refl
+unnaming (R.takes (R.properties es)) e = absurd (never-not e)
+unnaming (R.takes (R.additionalProperties s)) e = refl
+unnaming (R.takes (R.prefixItems ss)) e = refl
+unnaming (R.takes (R.items s)) e = refl
+unnaming (R.takes (R.unevaluatedProperties s)) e = refl
+unnaming (R.takes (R.unevaluatedItems s)) e = refl
 
 -- ---- by the variant that was read
 
 -- the clause c of the variant at place `tag`: only `Properties` (22) names members and only `PrefixItems` (24) speaks of elements; only
 -- `AdditionalProperties` (23) and `Items` (25) are told of them
 record Told (tag : ℕ) (c : R.Clause) : Type 0 where
-  no-names : (tag ≡ 22 → ⊥) → namesOf c ≡ []
+  no-names : (tag ≡ 22 → ⊥) → namesAny c ≡ false
   no-additional : (tag ≡ 23 → ⊥) → (s : ℕ) → c ≡ takes (additionalProperties s) → true ≡ false
   no-prefix : (tag ≡ 24 → ⊥) → prefixOf c ≡ []
   no-items : (tag ≡ 25 → ⊥) → (s : ℕ) → c ≡ takes (items s) → true ≡ false
 
 told-test : (tag : ℕ) (t : R.Test) → Told tag (asserts t)
-unfolding namesOf prefixOf
+unfolding namesAny prefixOf
 told-test tag t = record { no-names = λ n. refl; no-additional = λ n s e. cc; no-prefix = λ n. refl; no-items = λ n s e. cc }
 
 told-if : (tag i t e : ℕ) → Told tag (R.ifThenElse i t e)
-unfolding namesOf prefixOf
+unfolding namesAny prefixOf
 told-if tag i t e = record { no-names = λ n. refl; no-additional = λ n s e. cc; no-prefix = λ n. refl; no-items = λ n s e. cc }
 
 told-depended : (tag : ℕ) (es : List (List ℕ × ℕ)) → Told tag (R.dependentSchemas es)
-unfolding namesOf prefixOf
+unfolding namesAny prefixOf
 told-depended tag es = record { no-names = λ n. refl; no-additional = λ n s e. cc; no-prefix = λ n. refl; no-items = λ n s e. cc }
 
 told-counted : (tag s least most : ℕ) → Told tag (R.contains s least most)
-unfolding namesOf prefixOf
+unfolding namesAny prefixOf
 told-counted tag s least most = record { no-names = λ n. refl; no-additional = λ n s e. cc; no-prefix = λ n. refl; no-items = λ n s e. cc }
 
 told-here : (tag : ℕ) (m : R.Mode) (ss : List ℕ) → Told tag (inPlace m ss)
-unfolding namesOf prefixOf
+unfolding namesAny prefixOf
 told-here tag m ss = record { no-names = λ n. refl; no-additional = λ n s e. cc; no-prefix = λ n. refl; no-items = λ n s e. cc }
 
 abbrev place : Reach → ℕ
@@ -87,7 +104,7 @@ place (unevaluatedProperties s) = 27
 place (unevaluatedItems s) = 28
 
 told-child : (c : Reach) → Told (place c) (takes c)
-unfolding namesOf prefixOf
+unfolding namesAny prefixOf
 told-child (properties es) = record { no-names = λ n. absurd (n refl); no-additional = λ n s e. cc; no-prefix = λ n. refl; no-items = λ n s e. cc }
 told-child (additionalProperties s) = record { no-names = λ n. refl; no-additional = λ n s e. absurd (n refl); no-prefix = λ n. refl; no-items = λ n s e. cc }
 told-child (prefixItems ss) = record { no-names = λ n. refl; no-additional = λ n s e. cc; no-prefix = λ n. absurd (n refl); no-items = λ n s e. cc }
@@ -145,8 +162,11 @@ not-told-at = 20 ∷ 21 ∷ 22 ∷ 24 ∷ 26 ∷ 27 ∷ 28 ∷ []
 
 module _ (rs us : List ℕ) (clause : Clause) where
   -- any but a `properties`
+  pub naming-none : OneOf (places no-names-at) (tagOf the-type clause) → namesAny (clauseMeans rs us clause) ≡ false
+  naming-none k = tells-by rs us clause .no-names (lacked no-names-at _ 22 k (miss (places no-names-at) 22 tt))
+
   pub names-none : OneOf (places no-names-at) (tagOf the-type clause) → namesOf (clauseMeans rs us clause) ≡ []
-  names-none k = tells-by rs us clause .no-names (lacked no-names-at _ 22 k (miss (places no-names-at) 22 tt))
+  names-none k = unnaming (clauseMeans rs us clause) (naming-none k)
 
   -- any but a `prefixItems`
   pub prefix-none : OneOf (places no-prefix-at) (tagOf the-type clause) → prefixOf (clauseMeans rs us clause) ≡ []
@@ -156,11 +176,11 @@ module _ (rs us : List ℕ) (clause : Clause) where
   module _ (before : List R.Clause) (r : ℕ) where
     pub started-items : (row : RuleRow) → clause ≡ Items row → r ≡ length (concatMap prefixOf before) → Started before (clauseMeans rs us clause) r
     started-items row e is =
-        rw e (record { prefix-is = λ s f. is; within = λ s f. let z : true ≡ false = cc in absurd (never-not z); names-from = λ s f. let z : true ≡ false = cc in absurd (never-not z) })
+        rw e (record { prefix-is = λ s f. is; names-from = λ s f. let z : true ≡ false = cc in absurd (never-not z); names-only = λ s f. let z : true ≡ false = cc in absurd (never-not z) })
 
-    pub started-additional : (row : RuleRow) → clause ≡ AdditionalProperties row → r ≤ length before → concatMap namesOf (take r before) ≡ [] → Started before (clauseMeans rs us clause) r
-    started-additional row e few none =
-        rw e (record { prefix-is = λ s f. let z : true ≡ false = cc in absurd (never-not z); within = λ s f. few; names-from = λ s f. none })
+    pub started-additional : (row : RuleRow) → clause ≡ AdditionalProperties row → ((r ≡ byMarks → ⊥) → NamesFrom before r) → (r ≡ byMarks → NamesOnly before) → Started before (clauseMeans rs us clause) r
+    started-additional row e from only =
+        rw e (record { prefix-is = λ s f. let z : true ≡ false = cc in absurd (never-not z); names-from = λ s f. from; names-only = λ s f. only })
 
     -- any other
     pub started-other : OneOf (places not-told-at) (tagOf the-type clause) → Started before (clauseMeans rs us clause) r
@@ -168,8 +188,8 @@ module _ (rs us : List ℕ) (clause : Clause) where
         let t = tells-by rs us clause in
         record {
           prefix-is = λ s f. absurd (never-not (t .no-items (lacked not-told-at _ 25 k (miss (places not-told-at) 25 tt)) s f));
-          within = λ s f. absurd (never-not (t .no-additional (lacked not-told-at _ 23 k (miss (places not-told-at) 23 tt)) s f));
           names-from = λ s f. absurd (never-not (t .no-additional (lacked not-told-at _ 23 k (miss (places not-told-at) 23 tt)) s f));
+          names-only = λ s f. absurd (never-not (t .no-additional (lacked not-told-at _ 23 k (miss (places not-told-at) 23 tt)) s f));
         }
 
 -- ---- the first clauses of a schema
@@ -227,6 +247,30 @@ prefix-told (R.takes (R.items s)) = refl
 prefix-told (R.takes (R.unevaluatedProperties s)) = refl
 prefix-told (R.takes (R.unevaluatedItems s)) = refl
 
+-- whether it names members
+naming-told : (c : R.Clause) → namesAny (telling c) ≡ namesAny c
+unfolding telling namesAny
+naming-told (R.asserts t) = refl
+naming-told (R.inPlace m ss) = refl
+naming-told (R.ifThenElse i t e) = refl
+naming-told (R.dependentSchemas es) = refl
+naming-told (R.contains s least most) = refl
+naming-told (R.takes (R.properties es)) = refl
+naming-told (R.takes (R.additionalProperties s)) = refl
+naming-told (R.takes (R.prefixItems ss)) = refl
+naming-told (R.takes (R.items s)) = refl
+naming-told (R.takes (R.unevaluatedProperties s)) = refl
+naming-told (R.takes (R.unevaluatedItems s)) = refl
+
+-- a test marks no member, and another clause no other than it names if it does
+pub test-marks : (c : R.Clause) → appliesAny c ≡ false → true ≡ marksNamed c
+unfolding marksNamed
+test-marks c e = sym (ap (λ (b : Bool). not b || namesAny c) e)
+
+pub applied-marks : (c told : R.Clause) {r : Bool} → appliesAny c ≡ true → told ≡ telling c → r ≡ namesAny told → r ≡ marksNamed c
+unfolding marksNamed
+applied-marks c told e read is = is ∙ ap namesAny read ∙ naming-told c ∙ sym (ap (λ (b : Bool). not b || namesAny c) e)
+
 -- what clause k tells was read
 module _ (rs us : List ℕ) (first k : ℕ) (c : R.Clause) (read : c ≡ telling (clauseOf rs us (first + k))) where
   names-read : namesOf c ≡ namesOf (clauseOf rs us (first + k))
@@ -258,6 +302,13 @@ module _ {rs : List ℕ} {form : RuleForm} (s first i : ℕ) (asked : Asked rs f
       let in-sheet : s < schemasWord rs = omega (arith, form-m rs form (asked .0 .clauses-laid .schemas-laid .formed)) in
       rw (e, lt-ltb s (schemasWord rs) in-sheet, asked .2) (sym (take-run (clauseOf rs us) i (schemaAt rs s .count) (schemaAt rs s .first) (asked .3)))
 
+  pub before-item : (us : List ℕ) (k : ℕ) → k < i → getD (beforeIn rs us s i) k (asserts R.never) ≡ clauseOf rs us (first + k)
+  before-item us k h =
+      let low = asked .3 in
+      getD-take i (rulesOf rs us .clauses s) k (asserts R.never) h
+      ∙ clause-item rs us s (omega (arith, form-m rs form (asked .0 .clauses-laid .schemas-laid .formed))) k (asserts R.never) (omega arith)
+      ∙ rw (asked .2)
+
   pub before-long : (us : List ℕ) → length (beforeIn rs us s i) ≡ i
   before-long us = ap length (sym (before-is us i refl)) ∙ simp (length-map, run-long)
 
@@ -284,15 +335,15 @@ unfolding told
 told-started c start =
     record {
       prefix-is = λ s e. start .prefix-is s (ap told e);
-      within = λ s e. start .within s (ap told e);
       names-from = λ s e. start .names-from s (ap told e);
+      names-only = λ s e. start .names-only s (ap told e);
     }
 
 -- and as far as it applies schemas
 pub applied-started : {before : List R.Clause} {from : ℕ} (c : R.Clause) → Started before c from → Started before (applying c) from
 unfolding applying
 applied-started (asserts t) start =
-    record { prefix-is = λ s e. absurd (nothing cc); within = λ s e. absurd (nothing cc); names-from = λ s e. absurd (nothing cc) }
+    record { prefix-is = λ s e. absurd (nothing cc); names-from = λ s e. absurd (nothing cc); names-only = λ s e. absurd (nothing cc) }
   where
     nothing : true ≡ false → ⊥
     nothing = never-not

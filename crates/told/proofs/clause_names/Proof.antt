@@ -7,11 +7,11 @@ use Rattle.rulesheet.specs.declared.code.Fields.the-variants.{Members}
 use Rattle.meaning.specs.Lists.{any}
 use Rattle.meaning.specs.Rules.{namesOf}
 use Rattle.clause.proofs.Asserting.{list-read}
-use Rattle.steps.specs.Read.{namedBy}
-use Rattle.steps.proofs.Earlier.{names-none}
+use Rattle.told.specs.Read.{namedBy}
+use Rattle.told.proofs.Earlier.{names-none}
 use borrow.Author.Needs.{needs}
-use Rattle.steps.proofs.before.clause_names.Statement.{statement}
-use Rattle.steps.proofs.before.clause_names.Tie as tie
+use Rattle.told.proofs.clause_names.Statement.{statement}
+use Rattle.told.proofs.clause_names.Tie as tie
 
 enum-known-clause : tie.Need-enum-known-clause
 enum-known-clause c = search needs

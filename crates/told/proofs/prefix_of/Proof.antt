@@ -7,9 +7,9 @@ use Rattle.rulesheet.specs.declared.clause.Clause.the-variants.{PrefixItems}
 use Rattle.rulesheet.specs.Clauses.{held, Bounded}
 use Rattle.rulesheet.proofs.Items.{schemas-long}
 use Rattle.meaning.specs.Rules.{prefixOf}
-use Rattle.steps.proofs.Earlier.{prefix-none}
-use Rattle.steps.proofs.before.prefix_of.Statement.{statement}
-use Rattle.steps.proofs.before.prefix_of.Tie as tie
+use Rattle.told.proofs.Earlier.{prefix-none}
+use Rattle.told.proofs.prefix_of.Statement.{statement}
+use Rattle.told.proofs.prefix_of.Tie as tie
 
 enum-known-clause : tie.Need-enum-known-clause
 enum-known-clause c = search needs

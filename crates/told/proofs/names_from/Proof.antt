@@ -1,15 +1,15 @@
 -- `names_from` meets its contract: the clauses passed name nothing. Assumes nothing.
 use mathlib.Core.List.{List, []}
-use mathlib.Core.Path.{_≡_, refl, ap, _∙_}
+use mathlib.Core.Path.{_≡_, refl, sym, ap, _∙_}
 use Prim.Native.Nat.{ℕ, _-_, _≤_}
 use native.Mathlib.Omega.{arith}
 use borrow.Author.Needs.{needs}
 use Rattle.rulesheet.specs.Sheet.{run}
 use Rattle.meaning.specs.Lists.{concatMap}
 use Rattle.meaning.specs.Rules.{namesOf}
-use Rattle.steps.proofs.Earlier.{firstClauses, names-more, before-part, clauses-few}
-use Rattle.steps.proofs.before.names_from.Statement.{statement}
-use Rattle.steps.proofs.before.names_from.Tie as tie
+use Rattle.told.proofs.Earlier.{unnaming, firstClauses, names-more, before-part, clauses-few}
+use Rattle.told.proofs.names_from.Statement.{statement}
+use Rattle.told.proofs.names_from.Tie as tie
 
 abbrev Inv-loop : tie.InvT-loop
 Inv-loop rules form first i k₀ k = (k ≤ i) × ((us : List ℕ) → concatMap namesOf (firstClauses rules us first k) ≡ [])
@@ -42,7 +42,7 @@ loop-less c = search needs
 loop-again : tie.Need-loop-again Inv-loop μ-loop
 loop-again c =
     let start = c .before .before .before .before .before .before in
-    (omega arith, λ us. names-more (start .args .rules .now) us (start .args .first) (c .before .before .before .before .loop .k) _ (c .before .before .telling-of .ensures .0 us) (c .before .before .before .before .loop .inv .1 us) (c .before .has-names .ensures (c .if1 .left) (start .args .rules .now) us))
+    (omega arith, λ us. names-more (start .args .rules .now) us (start .args .first) (c .before .before .before .before .loop .k) _ (c .before .before .telling-of .ensures .0 us) (c .before .before .before .before .loop .inv .1 us) (unnaming _ (sym (c .before .has-names .ensures (start .args .rules .now) us) ∙ c .if1 .left)))
 
 returns-2 : tie.Need-returns-2 Inv-loop μ-loop
 returns-2 c = (λ us. ap (concatMap namesOf) (before-part _ _ _ (c .before .before .before .pre) us (c .before .loop .k) (omega arith)) ∙ c .before .loop .inv .1 us, omega arith)

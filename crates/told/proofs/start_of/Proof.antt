@@ -5,11 +5,11 @@ use Rattle.rulesheet.specs.declared.form.SchemaRow.{SchemaRow}
 use Rattle.rulesheet.specs.Clauses.{told}
 use Rattle.clause.specs.Read.{clauseIn, beforeIn}
 use Rattle.clause.proofs.Reading.{clause-low, clause-small, clause-read}
-use Rattle.steps.specs.Read.{Started}
-use Rattle.steps.proofs.Earlier.{told-started}
+use Rattle.told.specs.Read.{Started}
+use Rattle.told.proofs.Earlier.{told-started}
 use borrow.Author.Needs.{needs}
-use Rattle.steps.proofs.before.start_of.Statement.{statement}
-use Rattle.steps.proofs.before.start_of.Tie as tie
+use Rattle.told.proofs.start_of.Statement.{statement}
+use Rattle.told.proofs.start_of.Tie as tie
 
 schema-at-requires : tie.Need-schema-at-requires
 schema-at-requires c κs = search needs
@@ -35,7 +35,7 @@ returns c =
     let start = c .before .before .before .before .before in
     let asked = start .pre in
     let read = (clause-read (asked .0) (asked .1) (ap (λ (row : SchemaRow). row .first) (c .before .before .schema-at .ensures)) (asked .2) told (c .before .told-of .ensures .0) (c .before .told-of .ensures .1)) in
-    told-started (clauseIn (start .args .rules .now) (start .args .rule-text .now) (start .args .s .0) (start .args .i)) (subst (λ x. Started (beforeIn (start .args .rules .now) (start .args .rule-text .now) (start .args .s .0) (start .args .i)) x (c .start-in .result)) (read .means) (c .start-in .ensures .0 (start .args .rule-text .now)))
+    told-started (clauseIn (start .args .rules .now) (start .args .rule-text .now) (start .args .s .0) (start .args .i)) (subst (λ x. Started (beforeIn (start .args .rules .now) (start .args .rule-text .now) (start .args .s .0) (start .args .i)) x (c .start-in .result)) (read .means) (c .start-in .ensures (start .args .rule-text .now)))
 
 pub start-of-spec : {M : Type 1} → statement M
 start-of-spec =

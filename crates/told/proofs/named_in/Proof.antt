@@ -12,9 +12,9 @@ use Rattle.rulesheet.specs.Codes.{entryName}
 use Rattle.rulesheet.specs.Sheet.{entryAt}
 use Rattle.clause.proofs.Listing.{list-few}
 use Rattle.clause.proofs.Naming.{compared}
-use Rattle.steps.proofs.Earlier.{entry-same, entry-names, none-names}
-use Rattle.steps.proofs.before.named_in.Statement.{statement}
-use Rattle.steps.proofs.before.named_in.Tie as tie
+use Rattle.told.proofs.Earlier.{entry-same, entry-names, none-names}
+use Rattle.told.proofs.named_in.Statement.{statement}
+use Rattle.told.proofs.named_in.Tie as tie
 
 abbrev Inv-loop : tie.InvT-loop
 Inv-loop «record» text rules rule-text rule-form list hint own many i₀ i = (i ≤ many) × ((k : ℕ) → k < i → sameBytes (part text own) (entryName rule-text (entryAt rules (list .first + k))) ≡ false)
