@@ -40,18 +40,10 @@ fn plainly(record: &[u32], text: &[u8], form: RecordForm, row: RecordRow, clause
 {
     match clause {
         Clause::Types(mask) => plainly_typed(record, form, row, mask),
-        Clause::Minimum(limit) => {
-            plainly_minimum(record, form, row, limit)
-        }
-        Clause::Maximum(limit) => {
-            plainly_maximum(record, form, row, limit)
-        }
-        Clause::ExclusiveMinimum(limit) => {
-            plainly_exclusive_minimum(record, form, row, limit)
-        }
-        Clause::ExclusiveMaximum(limit) => {
-            plainly_exclusive_maximum(record, form, row, limit)
-        }
+        Clause::Minimum(limit) => { plainly_minimum(record, form, row, limit) }
+        Clause::Maximum(limit) => { plainly_maximum(record, form, row, limit) }
+        Clause::ExclusiveMinimum(limit) => { plainly_exclusive_minimum(record, form, row, limit) }
+        Clause::ExclusiveMaximum(limit) => { plainly_exclusive_maximum(record, form, row, limit) }
         Clause::MinLength(k) => (k <= FEW) && few_characters(record, text, form, row, k),
         Clause::MaxLength(k) => few_bytes(record, form, row, k),
         Clause::MinItems(k) => min_items(record, form, row, k),

@@ -32,11 +32,11 @@ use sheet::record::RecordForm;
 use sheet::record::RuleRow;
 use sheet::record::children_of;
 use sheet::record::wide;
-use told::start_of;
 use steps::finish::after_miss;
 use steps::finish::finish_of;
 use steps::turn::Turn;
 use steps::turn::turn_of;
+use told::start_of;
 
 // Which of the two sheets, and of their texts, is the record's and which the rules'.
 pub(crate) const RECORD: usize = 0;

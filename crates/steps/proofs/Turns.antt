@@ -1,25 +1,26 @@
 -- A clause between two of its steps.
 --     skipped-none, skipped-more, skipped-least   no step is passed over; one more that is not applied; fewer of them
 --     goes-on, goes-of, stops                              at a step that is applied, and at the end
---     applied-turned, turned-as                   as far as the clause applies schemas, and by the variant that was read
+--     applied-turned, applied-child, turned-as    as far as the clause applies schemas, and by the variant that was read
+--     marked-turned                               additionalProperties by the marks
 -- Assumes nothing.
-use mathlib.Core.Bool.{Bool, true, false}
+use mathlib.Core.Bool.{Bool, true, false, not}
 use mathlib.Core.List.{List}
-use mathlib.Core.Path.{_≡_, sym, ap, _∙_}
+use mathlib.Core.Path.{_≡_, refl, sym, ap, _∙_}
 use Prim.Native.Nat.{ℕ, _+_, _≤_, _<_}
 use native.Mathlib.Omega.{arith}
 use borrow.Author.Count.{below-more}
 use Rattle.sheet.specs.declared.record.RecordRow.{RecordRow}
 use Rattle.sheet.specs.declared.record.RuleRow.{RuleRow}
 use Rattle.sheet.specs.Doc.{Doc}
-use Rattle.rulesheet.specs.Ruleset.{Clause, asserts, inPlace, ifThenElse, dependentSchemas, contains, takes}
+use Rattle.rulesheet.specs.Ruleset.{Reach, additionalProperties, unevaluatedProperties, Clause, asserts, inPlace, ifThenElse, dependentSchemas, contains, takes}
 use Rattle.rulesheet.specs.declared.clause.Clause.{Clause as Read}
 use Rattle.rulesheet.specs.Clauses.{clauseMeans, applying}
-use Rattle.meaning.specs.Rules.{Pair, Marks}
+use Rattle.meaning.specs.Rules.{Pair, Marks, to}
 use Rattle.clause.proofs.Having.{never, never-not}
 use Rattle.steps.specs.declared.turn.Turn.{Turn}
-use Rattle.plan.specs.Plan.{countsHits, branches, stepsOf, aimOf}
-use Rattle.steps.specs.Turns.{goesAt, Skipped, Turned}
+use Rattle.plan.specs.Plan.{memberCount, own, childRow, unnamed, countsHits, branches, stepsOf, stepsIn, goOf, goIn, aimOf, aimIn}
+use Rattle.steps.specs.Turns.{goesAt, Skipped, NamesMarked, Turned}
 
 -- at step x, which applies the schema to the row
 abbrev pub at : ℕ → RecordRow → RuleRow → Turn
@@ -67,6 +68,44 @@ applied-turned (ifThenElse i t e) t-is = t-is
 applied-turned (dependentSchemas es) t-is = t-is
 applied-turned (contains s least most) t-is = t-is
 applied-turned (takes c) t-is = t-is
+
+pub applied-child : (c : Clause) (r : Reach) → takes r ≡ applying c → c ≡ takes r
+unfolding applying
+applied-child (asserts t) r e = let z : true ≡ false = cc in absurd (never-not z)
+applied-child (inPlace m ss) r e = sym e
+applied-child (ifThenElse i t x) r e = sym e
+applied-child (dependentSchemas es) r e = sym e
+applied-child (contains s least most) r e = sym e
+applied-child (takes c) r e = sym e
+
+-- where the marks tell which members are named, those that are not named are those that are not marked
+pub marked-turned : {D : Doc} {p : Pair} {before : List Clause} {κ : Marks} {t x : ℕ} {r : Turn} (s : ℕ) → NamesMarked D p before x κ
+    → Turned D p before (takes (unevaluatedProperties s)) x κ t r → Turned D p before (takes (additionalProperties s)) x κ t r
+unfolding countsHits branches stepsOf stepsIn goOf goIn aimOf aimIn to
+marked-turned {D} {p} {before} {κ} {t} {x} {r} s marked turn =
+    record {
+      goes =
+          λ e.
+          let G = turn .goes e in
+          record {
+            ahead = G .ahead;
+            within = G .within;
+            small = G .small;
+            skipped = record { idle = λ k a b. same k a (let w = G .within in omega arith) ∙ G .skipped .idle k a b };
+            applied = same (r .step) (G .ahead) (G .within) ∙ G .applied;
+            hits-is = G .hits-is;
+            branch-is = G .branch-is;
+            aim-is = G .aim-is;
+          };
+      ends = λ e. record { idle = λ k a b. same k a b ∙ turn .ends e .idle k a b };
+    }
+  where
+    twice : (b : Bool) → not (not b) ≡ b
+    twice true = refl
+    twice false = refl
+
+    same : (k : ℕ) → x ≤ k → k < memberCount (own D p) → unnamed D p before (childRow D p k) ≡ not (κ (childRow D p k))
+    same k a b = sym (ap not (marked k a b) ∙ twice (unnamed D p before (childRow D p k)))
 
 -- by the variant that was read
 pub turned-as : {D : Doc} {p : Pair} {before : List Clause} {κ : Marks} {k x : ℕ} {r : Turn} (rs us : List ℕ) (clause variant : Read) → clause ≡ variant

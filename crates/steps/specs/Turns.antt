@@ -1,7 +1,7 @@
 -- A clause between two of its steps: which step is applied next, if one is. κ are the marks that stand in the cells, t what is carried.
 -- Assumes nothing.
 use Prim.Native.Nat.{ℕ, _*_, _≤_, _<_}
-use mathlib.Core.Bool.{Bool, true, false}
+use mathlib.Core.Bool.{Bool, true, false, not}
 use mathlib.Core.List.{List}
 use mathlib.Core.Path.{_≡_}
 use lib.ListN.{length}
@@ -11,14 +11,14 @@ use Rattle.sheet.specs.Doc.{Doc}
 use Rattle.sheet.specs.Record.{docOf}
 use Rattle.rulesheet.specs.declared.form.ClauseRow.{ClauseRow}
 use Rattle.rulesheet.specs.declared.form.RuleForm.{RuleForm}
-use Rattle.rulesheet.specs.Ruleset.{Clause}
+use Rattle.rulesheet.specs.Ruleset.{Clause, takes, additionalProperties}
 use Rattle.rulesheet.specs.Sheet.{schemaAt}
 use Rattle.meaning.specs.Rules.{Pair, Marks}
 use Rattle.clause.specs.Read.{RecordRead, RulesRead, clauseIn, beforeIn, wordsIn}
 use Rattle.areas.specs.Cells.{pairIs, Unsettled, column}
 use Rattle.steps.specs.declared.turn.Turn.{Turn}
-use Rattle.plan.specs.Plan.{countsHits, branches, stepsOf, aimOf, goOf}
-use Rattle.told.specs.Read.{Started}
+use Rattle.plan.specs.Plan.{memberCount, own, childRow, unnamed, countsHits, branches, stepsOf, aimOf, goOf}
+use Rattle.told.specs.Read.{byMarks, Started}
 
 module _ (D : Doc) (p : Pair) (before : List Clause) (c : Clause) where
   -- step k is applied
@@ -49,9 +49,13 @@ module _ (D : Doc) (p : Pair) (before : List Clause) (c : Clause) where
 abbrev pub TurnedOn : Doc → ℕ → Clause → ℕ → Turn → Type 0
 TurnedOn D j c x r = (t : ℕ) (p : Pair) (before : List Clause) (κ : Marks) → p .row ≡ j → Turned D p before c x κ t r
 
--- what is asked where clause i of an unsettled pair stands: both sheets are read, the clause's words are `row`, `from` is what the clauses before tell it,
--- and each pair has its cell
-pub record TurnAsked (ws ts : List ℕ) (form : RecordForm) (rs us : List ℕ) (rule-form : RuleForm) (cells : List ℕ) (p : P.Pair) (i : ℕ) (row : ClauseRow) (from : ℕ) : Type 0 where
+-- of the members from number x on the marks tell which the clauses before name
+abbrev pub NamesMarked : Doc → Pair → List Clause → ℕ → Marks → Type 0
+NamesMarked D p before x κ = (k : ℕ) → x ≤ k → k < memberCount (own D p) → κ (childRow D p k) ≡ not (unnamed D p before (childRow D p k))
+
+-- what is asked where clause i of an unsettled pair stands after x steps: both sheets are read, the clause's words are `row`, `from` is what the clauses before
+-- tell it, and each pair has its cell
+pub record TurnAsked (ws ts : List ℕ) (form : RecordForm) (rs us : List ℕ) (rule-form : RuleForm) (cells : List ℕ) (p : P.Pair) (i : ℕ) (row : ClauseRow) (from x : ℕ) : Type 0 where
   pub record-read : RecordRead ws ts form
   pub row-in : p .row .0 < form .rows
   pub rules-read : RulesRead rs us rule-form
@@ -59,6 +63,8 @@ pub record TurnAsked (ws ts : List ℕ) (form : RecordForm) (rs us : List ℕ) (
   pub clause-in : i < schemaAt rs (p .rule .0) .count
   pub row-is : row ≡ wordsIn rs (p .rule .0) i
   pub started : Started (beforeIn rs us (p .rule .0) i) (clauseIn rs us (p .rule .0) i) from
+  pub marked : (s : ℕ) → clauseIn rs us (p .rule .0) i ≡ takes (additionalProperties s) → from ≡ byMarks
+      → NamesMarked (docOf ws ts) (pairIs p) (beforeIn rs us (p .rule .0) i) x (column (rule-form .m) cells (p .rule .0))
   pub room : form .rows * rule-form .m ≤ length cells
   pub unsettled : Unsettled (rule-form .m) (pairIs p) cells
 

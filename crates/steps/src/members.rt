@@ -1,17 +1,18 @@
 // The steps of a clause that takes members by their names.
 ghost use mathlib.Core.Path.{_≡_};
-ghost use Prim.Native.Nat.{ℕ, _<_};
+ghost use Prim.Native.Nat.{ℕ, _*_, _≤_, _<_};
+ghost use lib.ListN.{length};
 ghost use Rattle.sheet.specs.Record.{docOf};
 ghost use Rattle.rulesheet.specs.declared.code.Fields.the-variants.{Members};
 ghost use Rattle.rulesheet.specs.Ruleset as R;
 ghost use Rattle.rulesheet.specs.Sheet.{schemaAt};
 ghost use Rattle.rulesheet.specs.Clauses.{membersIn};
 ghost use Rattle.meaning.specs.Rules.{Pair as Meant, Marks};
-ghost use Rattle.areas.specs.Cells.{pairIs};
+ghost use Rattle.areas.specs.Cells.{pairIs, column};
 ghost use Rattle.clause.specs.Read.{RecordRead, RulesRead, ListRead, beforeIn};
-ghost use Rattle.told.specs.Read.{Started};
-ghost use Rattle.steps.specs.Turns.{Turned, TurnedOn};
-use told::unnamed_in;
+ghost use Rattle.told.specs.Read.{NamesFrom, byMarks};
+ghost use Rattle.steps.specs.Turns.{NamesMarked, Turned, TurnedOn};
+use crate::children::fresh_turn;
 use crate::children::members_in;
 use crate::turn::Turn;
 use crate::turn::at_step;
@@ -27,6 +28,8 @@ use sheet::record::RecordForm;
 use sheet::record::RecordRow;
 use sheet::record::RuleRow;
 use sheet::record::children_of;
+use told::BY_MARKS;
+use told::unnamed_in;
 
 // Of `properties`: the member that has the name of an entry, with the entry's schema.
 pub(crate) fn named_turn<'a>(
@@ -67,7 +70,7 @@ pub(crate) fn named_turn<'a>(
 }
 
 // Of `additionalProperties`: each member that no clause before names.
-pub(crate) fn other_turn<'a>(
+fn other_turn<'a>(
     record: &[u32],
     text: &'a [u8],
     form: RecordForm,
@@ -82,7 +85,7 @@ pub(crate) fn other_turn<'a>(
 ) -> Turn
     requires { ⌜ RecordRead (now «record») (now text) form × (p .row .0 < form .rows) ⌝ }
     requires { ⌜ RulesRead (now rules) (now «rule_text») «rule_form» × (p .rule .0 < «rule_form» .m) × (i < schemaAt (now rules) (p .rule .0) .count) ⌝ }
-    requires { ⌜ Started (beforeIn (now rules) (now «rule_text») (p .rule .0) i) (R.takes (R.additionalProperties (rule .0))) from ⌝ }
+    requires { ⌜ NamesFrom (beforeIn (now rules) (now «rule_text») (p .rule .0) i) from ⌝ }
     ensures { λ r. ⌜ ((κ : Marks) (t : ℕ) → Turned (docOf (now («record» .entry)) (now (text .entry))) (pairIs p) (beforeIn (now (rules .entry)) (now («rule_text» .entry)) (p .rule .0) i) (R.takes (R.additionalProperties (rule .0))) x κ t r) ⌝ }
 {
     let start = schema_at(rules, rule_form, p.rule).first;
@@ -110,4 +113,45 @@ pub(crate) fn other_turn<'a>(
         at += 1;
     }
     ended()
+}
+
+// The same. Where the clauses before mark the members that they name and no other, the marks tell which
+// those are, and no name is compared again.
+pub(crate) fn additional_turn<'a>(
+    record: &[u32],
+    text: &'a [u8],
+    form: RecordForm,
+    rules: &[u32],
+    rule_text: &'a [u8],
+    rule_form: RuleForm,
+    cells: &[u8],
+    p: Pair,
+    i: u32,
+    from: u32,
+    rule: RuleRow,
+    x: u32,
+) -> Turn
+    requires { ⌜ RecordRead (now «record») (now text) form × (p .row .0 < form .rows) × (form .rows * «rule_form» .m ≤ length (now cells)) ⌝ }
+    requires { ⌜ RulesRead (now rules) (now «rule_text») «rule_form» × (p .rule .0 < «rule_form» .m) × (i < schemaAt (now rules) (p .rule .0) .count) ⌝ }
+    requires { ⌜ ((from ≡ byMarks → ⊥) → NamesFrom (beforeIn (now rules) (now «rule_text») (p .rule .0) i) from) ⌝ }
+    requires { ⌜ (from ≡ byMarks → NamesMarked (docOf (now «record») (now text)) (pairIs p) (beforeIn (now rules) (now «rule_text») (p .rule .0) i) x (column («rule_form» .m) (now cells) (p .rule .0))) ⌝ }
+    ensures { λ r. ⌜ ((t : ℕ) → Turned (docOf (now («record» .entry)) (now (text .entry))) (pairIs p) (beforeIn (now (rules .entry)) (now («rule_text» .entry)) (p .rule .0) i) (R.takes (R.additionalProperties (rule .0))) x (column («rule_form» .m) (now (cells .entry)) (p .rule .0)) t r) ⌝ }
+{
+    if from == BY_MARKS {
+        let many = members_in(record, form, p.row);
+        return fresh_turn(record, form, cells, rule_form.m, p, rule, many, x);
+    }
+    other_turn(
+        record,
+        text,
+        form,
+        rules,
+        rule_text,
+        rule_form,
+        p,
+        i,
+        from,
+        rule,
+        x,
+    )
 }

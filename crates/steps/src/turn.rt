@@ -14,8 +14,8 @@ use crate::here::branch_turn;
 use crate::here::depended_turn;
 use crate::here::listed_turn;
 use crate::here::single_turn;
+use crate::members::additional_turn;
 use crate::members::named_turn;
-use crate::members::other_turn;
 use rulesheet::clause::Clause;
 use rulesheet::few::applied_by;
 use rulesheet::form::ClauseRow;
@@ -92,7 +92,7 @@ fn turn_in<'a>(
     x: u32,
     tally: u32,
 ) -> Turn
-    requires { ⌜ TurnAsked (now «record») (now text) form (now rules) (now «rule_text») «rule_form» (now cells) p i (wordsIn (now rules) (p .rule .0) i) from ⌝ }
+    requires { ⌜ TurnAsked (now «record») (now text) form (now rules) (now «rule_text») «rule_form» (now cells) p i (wordsIn (now rules) (p .rule .0) i) from x ⌝ }
     requires { ⌜ ClauseRead applying (now rules) (now «rule_text») «rule_form» (p .rule .0) i clause ⌝ }
     ensures { λ r. ⌜ TurnedIn (now («record» .entry)) (now (text .entry)) (now (rules .entry)) (now («rule_text» .entry)) p i (clauseMeans (now (rules .entry)) (now («rule_text» .entry)) clause) x tally («rule_form» .m) (now (cells .entry)) r ⌝ }
 {
@@ -111,13 +111,14 @@ fn turn_in<'a>(
         Clause::Properties(es) => {
             named_turn(record, text, form, rules, rule_text, rule_form, row, es, x)
         }
-        Clause::AdditionalProperties(rule) => other_turn(
+        Clause::AdditionalProperties(rule) => additional_turn(
             record,
             text,
             form,
             rules,
             rule_text,
             rule_form,
+            cells,
             p,
             i,
             from,
@@ -156,7 +157,7 @@ pub fn turn_of<'a>(
     x: u32,
     tally: u32,
 ) -> Turn
-    requires { ⌜ TurnAsked (now «record») (now text) form (now rules) (now «rule_text») «rule_form» (now cells) p i row from ⌝ }
+    requires { ⌜ TurnAsked (now «record») (now text) form (now rules) (now «rule_text») «rule_form» (now cells) p i row from x ⌝ }
     ensures { λ r. ⌜ TurnedIn (now («record» .entry)) (now (text .entry)) (now (rules .entry)) (now («rule_text» .entry)) p i (clauseIn (now (rules .entry)) (now («rule_text» .entry)) (p .rule .0) i) x tally («rule_form» .m) (now (cells .entry)) r ⌝ }
 {
     let clause = applied_by(row);

@@ -49,7 +49,7 @@ unnamed-in-requires c κs =
     let at = ap (λ (row : SchemaRow). row .first) (c .before .before .before .before .schema-at .ensures) in
     let low = rules .2 in
     let long = before-long (start .args .p .rule .0) _ (start .args .i) (rules .0 .laid, rules .1, at, omega arith) (start .args .rule-text .now) in
-    ((start .pre .0 .0, child-inside (start .args .«record» .now) (start .args .text .now) (start .args .form) (start .pre .0 .0 .laid) (start .args .p .row .0) (c .before .before .children-of .result .first) (c .before .before .children-of .result .count) (c .before .loop .at) (start .pre .0 .1) (c .before .before .children-of .ensures .first-is (start .args .text .now)) (c .before .before .children-of .ensures .count-is (start .args .text .now)) (omega (arith, members-some (docOf (start .args .«record» .now) (start .args .text .now) .value (start .args .p .row .0)), c .before .before .before .members-in .ensures (start .args .text .now), c .before .before .children-of .ensures .count-is (start .args .text .now), c .loop-test .taken)) .0), ((rules .0, rules .1, at, omega arith), (omega (arith, told .within (start .args .rule .0) refl, long), told .names-from (start .args .rule .0) refl)))
+    ((start .pre .0 .0, child-inside (start .args .«record» .now) (start .args .text .now) (start .args .form) (start .pre .0 .0 .laid) (start .args .p .row .0) (c .before .before .children-of .result .first) (c .before .before .children-of .result .count) (c .before .loop .at) (start .pre .0 .1) (c .before .before .children-of .ensures .first-is (start .args .text .now)) (c .before .before .children-of .ensures .count-is (start .args .text .now)) (omega (arith, members-some (docOf (start .args .«record» .now) (start .args .text .now) .value (start .args .p .row .0)), c .before .before .before .members-in .ensures (start .args .text .now), c .before .before .children-of .ensures .count-is (start .args .text .now), c .loop-test .taken)) .0), ((rules .0, rules .1, at, omega arith), (omega (arith, told .within, long), told .none)))
 
 at-step-requires : tie.Need-at-step-requires Inv-loop μ-loop
 at-step-requires c κs = search needs

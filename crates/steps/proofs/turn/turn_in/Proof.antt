@@ -1,9 +1,10 @@
 -- `turn_in` meets its contract, keyword by keyword. Assumes nothing.
 use native.Mathlib.Omega.{arith}
-use mathlib.Core.Path.{refl}
+use mathlib.Core.Path.{refl, sym, ap, _∙_}
 use Rattle.sheet.specs.Record.{docOf}
 use Rattle.rulesheet.specs.declared.code.Fields.the-variants.{Schemas, Members, Branches, Counted}
 use Rattle.rulesheet.specs.declared.clause.Clause.the-variants.{AllOf, AnyOf, OneOf as Exactly, IfThenElse, DependentSchemas, Contains, Properties, PrefixItems}
+use Rattle.rulesheet.specs.Clauses.{clauseMeans}
 use Rattle.rulesheet.specs.Ruleset.{allOf, anyOf, oneOf, notOf, ref}
 use Rattle.areas.specs.Cells.{pairIs, column}
 use Rattle.clause.specs.Read.{beforeIn}
@@ -11,7 +12,7 @@ use Rattle.clause.proofs.Asserting.{sizes, list-read}
 use Rattle.steps.proofs.Reading.{no-steps}
 use Rattle.told.proofs.Earlier.{started-as}
 use Rattle.steps.proofs.Aiming.{members-some, elements-some}
-use Rattle.steps.proofs.Turns.{turned-as, stops, skipped-none}
+use Rattle.steps.proofs.Turns.{applied-child, turned-as, stops, skipped-none}
 use borrow.Author.Needs.{needs}
 use Rattle.steps.proofs.turn.turn_in.Statement.{statement}
 use Rattle.steps.proofs.turn.turn_in.Tie as tie
@@ -92,9 +93,13 @@ enum-known-clause-10 : tie.Need-enum-known-clause-10
 enum-known-clause-10 c =
     search needs
 
-other-turn-requires : tie.Need-other-turn-requires
-other-turn-requires c κs =
-    ((c .before .before .before .before .before .before .before .before .before .pre .0 .record-read, c .before .before .before .before .before .before .before .before .before .pre .0 .row-in), ((c .before .before .before .before .before .before .before .before .before .pre .0 .rules-read, c .before .before .before .before .before .before .before .before .before .pre .0 .rule-in, c .before .before .before .before .before .before .before .before .before .pre .0 .clause-in), started-as (c .before .before .before .before .before .before .before .before .before .args .rules .now) (c .before .before .before .before .before .before .before .before .before .args .rule-text .now) _ (c .before .before .before .before .before .before .before .before .before .args .clause) _ (c .before .clause10 .given .1) (c .before .before .before .before .before .before .before .before .before .pre .1 .means) (c .before .before .before .before .before .before .before .before .before .pre .0 .started)))
+additional-turn-requires : tie.Need-additional-turn-requires
+additional-turn-requires c κs =
+    let start = c .before .before .before .before .before .before .before .before .before in
+    let asked = start .pre .0 in
+    let started = started-as (start .args .rules .now) (start .args .rule-text .now) _ (start .args .clause) _ (c .before .clause10 .given .1) (start .pre .1 .means) (asked .started) in
+    let is = applied-child _ _ (sym (ap (clauseMeans (start .args .rules .now) (start .args .rule-text .now)) (c .before .clause10 .given .1)) ∙ start .pre .1 .means) in
+    ((asked .record-read, asked .row-in, asked .room), ((asked .rules-read, asked .rule-in, asked .clause-in), (started .names-from _ refl, asked .marked _ is)))
 
 enum-known-clause-11 : tie.Need-enum-known-clause-11
 enum-known-clause-11 c =
@@ -178,7 +183,8 @@ returns-9 c =
 
 returns-10 : tie.Need-returns-10
 returns-10 c =
-    turned-as (c .before .before .before .before .before .before .before .before .before .before .args .rules .now) (c .before .before .before .before .before .before .before .before .before .before .args .rule-text .now) (c .before .before .before .before .before .before .before .before .before .before .args .clause) _ (c .before .before .clause10 .given .1) (c .other-turn .ensures (column (c .before .before .before .before .before .before .before .before .before .before .args .rule-form .m) (c .before .before .before .before .before .before .before .before .before .before .args .cells .now) (c .before .before .before .before .before .before .before .before .before .before .args .p .rule .0)) (c .before .before .before .before .before .before .before .before .before .before .args .tally))
+    let start = c .before .before .before .before .before .before .before .before .before .before in
+    turned-as (start .args .rules .now) (start .args .rule-text .now) (start .args .clause) _ (c .before .before .clause10 .given .1) (c .additional-turn .ensures (start .args .tally))
 
 returns-11 : tie.Need-returns-11
 returns-11 c =
@@ -223,7 +229,7 @@ turn-in-spec =
     enum-known-clause-9
     named-turn-requires
     enum-known-clause-10
-    other-turn-requires
+    additional-turn-requires
     enum-known-clause-11
     placed-turn-requires
     enum-known-clause-12
