@@ -4,8 +4,6 @@
 --     marked-more, marked-later             one row more, and a row that was not reached
 --     marked-as                             the same marks in other words
 --     merged-marked, merged-unmarked, merged-later, unmarked, one-row     one row's marks in both columns, and in one, as they were read
---     kept-all, kept-none                   the marks of a pair that holds, and of one that fails
---     merged-handed, marked-child           what is handed on: a pair's marks, or the child that it is of
 --     cell-below, writes-one, writes-row    one of the rows that may be written
 -- Assumes nothing.
 use mathlib.Core.Bool.{Bool, true, false, _||_, or-true, or-false}
@@ -16,10 +14,9 @@ use native.Mathlib.Decide.{ℕ-discrete}
 use native.Mathlib.Omega.{arith}
 use lib.ListN.{length, getD, set, length-set}
 use lib.Seq.{getD-set-same, getD-set-other}
-use borrow.Author.Tests.{eq-eqb, ne-eqb}
 use Rattle.meaning.specs.Rules.{Marks}
 use Rattle.areas.specs.Cells.{cellOf, verd, bit, four, column}
-use Rattle.areas.specs.Writers.{Writes, Marked, merged, kept, handedOn}
+use Rattle.areas.specs.Writers.{Writes, Marked, merged}
 use Rattle.areas.proofs.Cells.{verd-write, bit-write, write-small, same-row, same-rule}
 
 -- ---- one mark
@@ -111,39 +108,6 @@ unmarked m k s cells v t = marked-same cells (λ x l h. here-from m k s s cells 
 -- one row's marks, wherever it stands among them
 pub one-row : {m k s : ℕ} {to : Marks} {c₀ c₁ : List ℕ} → Marked m k 1 s to c₀ c₁ → Marked m k 1 s (λ x. to k) c₀ c₁
 one-row {k = k} {to = to} M = marked-as M (λ x l h. let e : x ≡ k = omega arith in ap to e)
-
--- a pair that holds keeps its marks, and one that fails has none
-module _ (m : ℕ) (cells : List ℕ) (s : ℕ) (ok : Bool) (k : ℕ) where
-  pub kept-all : ok ≡ true → column m cells s k ≡ kept m cells s ok k
-  unfolding kept
-  kept-all e = rw e
-
-  pub kept-none : ok ≡ false → false ≡ kept m cells s ok k
-  unfolding kept
-  kept-none e = rw e
-
--- ---- what is handed on
-
-module _ (m row rule aimed from : ℕ) where
-  pub merged-handed : (cells : List ℕ) (k : ℕ) → aimed ≡ row → merged m cells rule from k ≡ handedOn m cells row rule aimed from k
-  unfolding merged handedOn
-  merged-handed cells k e = rw (eq-eqb aimed row e)
-
-  pub marked-child : (first many : ℕ) {c₀ c₁ : List ℕ} → rule < m → (aimed ≡ row → ⊥) → (first ≤ aimed) × (aimed < first + many) → Marked m aimed 1 rule (λ x. true) c₀ c₁ → Marked m first many rule (handedOn m c₀ row rule aimed from) c₀ c₁
-  unfolding handedOn
-  marked-child first many {c₀} l n w p =
-      let a = w .0 in
-      let b = w .1 in
-      record {
-        len = p .len;
-        verdicts = p .verdicts;
-        small = p .small;
-        here = λ x u v. elim (ℕ-discrete x aimed) [
-          | yes e ↦ p .here x (omega arith) (omega arith) ∙ sym (rw (ne-eqb aimed row n, eq-eqb x aimed e) (or-true (column m c₀ rule x)))
-          | no e ↦ ap bit (p .there x rule l (λ r g h. e (omega arith))) ∙ sym (rw (ne-eqb aimed row n, ne-eqb x aimed e) (or-false (column m c₀ rule x)))
-        ];
-        there = λ x t q r. p .there x t q (λ d u v. r d (omega arith) (omega arith));
-      }
 
 -- ---- what may be written
 

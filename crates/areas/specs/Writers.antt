@@ -1,11 +1,10 @@
 -- The two writers of cells (paper 01, 'Rules of judgement', the last paragraph): one settles a pair, the other writes marks. What they ask,
 -- and what they leave.
 -- Assumes nothing.
-use mathlib.Core.Bool.{Bool, _&&_, _||_, cond}
+use mathlib.Core.Bool.{Bool, _||_}
 use mathlib.Core.List.{List}
 use mathlib.Core.Path.{_≡_}
 use Prim.Native.Nat.{ℕ, _+_, _≤_, _<_}
-use lib.Dec.{eqb}
 use lib.ListN.{length, getD, set}
 use Rattle.meaning.specs.Rules.{Marks}
 use Rattle.areas.specs.Cells.{cellOf, verd, settledAs, column}
@@ -44,17 +43,3 @@ pub record Marked (m first many s : ℕ) (to : Marks) (cells₀ cells : List ℕ
 -- the marks of two columns together
 unfoldable pub merged : ℕ → List ℕ → ℕ → ℕ → Marks
 merged m cells s from k = column m cells s k || column m cells from k
-
--- the marks of a pair that was judged: none if it failed
-unfoldable pub kept : ℕ → List ℕ → ℕ → Bool → Marks
-kept m cells s ok k = ok && column m cells s k
-
--- the marks of the pair (row, rule) once it has applied the pair (aimed, from): more by that pair's, if it is of the row itself, and else by
--- the child that it is of
-unfoldable pub handedOn : ℕ → List ℕ → ℕ → ℕ → ℕ → ℕ → Marks
-handedOn m cells row rule aimed from k = column m cells rule k || cond (eqb aimed row) (column m cells from k) (eqb k aimed)
-
--- before: as above for the children of the row, and `aimed` is the row or one of them
-pub record HandsOn (m first many row rule aimed from : ℕ) (cells : List ℕ) : Type 0 where
-  pub writes : Writes m first many rule from cells
-  pub child : (aimed ≡ row → ⊥) → (first ≤ aimed) × (aimed < first + many)

@@ -10,8 +10,8 @@ use mathlib.Core.Bool.{Bool, true, false, not, _&&_, _||_, cond}
 use mathlib.Core.List.{List, List·Memᴰ as Has}
 use mathlib.Core.Logic.{⊎-elim}
 use mathlib.Core.Path.{_≡_, refl, sym, ap, ap₂, _∙_, subst}
-use Prim.Native.Nat.{ℕ, zero, suc, _+_, _-_, _*_, _<_, _≤_}
-use native.Mathlib.Nat.{le-refl, mul-le-mul-right, mul-comm}
+use Prim.Native.Nat.{ℕ, zero, suc, _+_, _-_, _<_, _≤_}
+use native.Mathlib.Nat.{le-refl}
 use native.Mathlib.Numerals.{add-one}
 use native.Mathlib.Omega.{arith}
 use lib.Dec.{eqb}
@@ -23,15 +23,17 @@ use Rattle.meaning.specs.Settling.{samePair, listed, inTurn}
 use Rattle.meaning.proofs.Words.{row-inside}
 use Rattle.meaning.proofs.Settled.{same-pair}
 use Rattle.areas.specs.Cells.{verd, column, cellAt, Unsettled}
-use Rattle.areas.specs.Writers.{Open, Writes, Marked, handedOn, HandsOn}
+use Rattle.areas.specs.Writers.{Open, Writes, Marked}
 use Rattle.areas.proofs.Cells.{settledAs-read, settled-room}
 use Rattle.plan.specs.Folds.{tallyBy, gives, marksBy, doneBy}
 use Rattle.plan.specs.Plan.{countsHits, branches, moved, stepsOf, aimOf, goOf, finishOf, wayOf, stopsBy}
 use Rattle.steps.specs.Turns.{Skipped}
 use Rattle.plan.proofs.Folds.{or-no, tally-few, done-picked}
 use Rattle.plan.proofs.Plans.{Aimed, applied-is, holds-is, marks-is, go-is, go-same, aimed}
+use Rattle.lent.specs.Lent.{Case, Fits, InCase, Kid, firstKid, kidCount, clausesOf, clauseAt, beforeOf, handedOn, HandsOn, givenOn}
+use Rattle.lent.proofs.Reading.{pairs-few}
 use Rattle.cycle.specs.declared.cycle.Done.{Done}
-use Rattle.cycle.specs.State.{Case, Fits, InCase, Kid, firstKid, kidCount, rankOf, truthOf, settleOf, clausesOf, clauseAt, beforeOf, bitsOf, overlay, Areas, Quiet, Ready, WhereDone, Judged, ClauseJudged, givenOn}
+use Rattle.cycle.specs.State.{rankOf, truthOf, settleOf, bitsOf, overlay, Areas, Quiet, Ready, WhereDone, Judged, ClauseJudged}
 use Rattle.cycle.proofs.Pairs.{settle-self, settle-still, settle-new, settle-grows}
 use Rattle.cycle.proofs.State.{cond-else, not-same, overlay-self, overlay-other, areas-bits, areas-marks, areas-self, areas-free, areas-unsettled, areas-cell, areas-then, areas-mark}
 
@@ -95,14 +97,6 @@ going-pair {T} {p} {c} {l} {n} a u =
       free = f;
       quiet = λ q k i h e ch. a .quiet q k i (omega arith) e ch;
     }
-
--- how many pairs there are at most
-pub pairs-few : (n m : ℕ) → n ≤ 1024 → m ≤ 1024 → n * m ≤ 1048576
-pairs-few n m a b =
-    let x : n * m ≤ 1024 * m = mul-le-mul-right m a in
-    let y : m * 1024 ≤ 1024 * 1024 = mul-le-mul-right 1024 b in
-    let z : m * 1024 ≡ 1024 * m = mul-comm m 1024 in
-    omega arith
 
 module _ {T : Case} {p : Pair} {held : Pair → Marks} {l₀ : List ℕ} {done : List Pair} {κ : Marks} {c l : List ℕ} {n : ℕ} (G : Going T p held l₀ done κ c l n) where
   pub going-bits : (k : ℕ) → Kid T (p .row) k → bitsOf (T .m) c p k ≡ κ k

@@ -23,7 +23,8 @@ use Rattle.plan.proofs.Folds.{map-append, eq-or}
 use Rattle.areas.specs.Cells.{verd, bit, settledAs, column, cellAt, Unsettled}
 use Rattle.areas.specs.Writers.{Open, Shut, Writes, Marked}
 use Rattle.areas.proofs.Cells.{settledAs-some, same-row, same-rule, verd-settle, bit-settle, settle-small, settled-set, settled-same}
-use Rattle.cycle.specs.State.{Case, Fits, InCase, Kid, firstKid, kidCount, truthOf, bitsOf, overlay, written, Areas}
+use Rattle.lent.specs.Lent.{Case, Fits, InCase, Kid, firstKid, kidCount}
+use Rattle.cycle.specs.State.{truthOf, bitsOf, overlay, written, Areas}
 
 -- ---- tests
 

@@ -24,16 +24,18 @@ use Rattle.rulesheet.proofs.Items.{clause-item}
 use Rattle.meaning.specs.Rules.{Pair, stops, passes}
 use Rattle.areas.specs.Cells.{cellAt, Unsettled}
 use Rattle.areas.specs.Writers.{Open, Shut}
-use Rattle.areas.proofs.Writers.{marked-same, kept-all}
+use Rattle.areas.proofs.Writers.{marked-same}
 use Rattle.clause.specs.Read.{Tries, PassedFirst}
 use Rattle.clause.proofs.Reading.{clause-low}
 use Rattle.plan.specs.Plan.{stepsOf, finishOf}
+use Rattle.lent.specs.Lent.{Case, lent, Lent, lentCase, InCase, clausesOf, clauseAt, rowOf, PassesFirst}
+use Rattle.lent.proofs.Ways.{goes-on}
+use Rattle.lent.proofs.Reading.{rule-low}
+use Rattle.lent.proofs.Marks.{kept-all}
 use Rattle.cycle.specs.declared.cycle.Done.{Done}
-use Rattle.cycle.specs.State.{Case, lent, Lent, lentCase, InCase, rowOf, rankOf, clausesOf, clauseAt, Ready, PassesFirst, WhereDone, Judged}
-use Rattle.cycle.proofs.Ways.{goes-on}
+use Rattle.cycle.specs.State.{rankOf, Ready, WhereDone, Judged}
 use Rattle.cycle.proofs.Pairs.{resAt}
 use Rattle.cycle.proofs.Going.{many, Stepped, ready-as, stepped-none, stepped-end, going-unsettled, going-ready, going-open}
-use Rattle.cycle.proofs.Reading.{rule-low}
 use Rattle.cycle.proofs.Claused.{Claused, Clausing, claused-none, claused-more, claused-next, claused-end}
 
 no-steps : (T : Case) (p : Pair) (i : ℕ) (t : Test) → clauseAt T p i ≡ asserts t → 0 ≡ many T p i

@@ -4,6 +4,7 @@
 --     turning-more              a pair that it applies was judged
 --     turning-aim, turning-ready      that pair, and what applying it asks
 --     turning-hands             what handing on asks
+--     falls-by                  the number that falls to that pair
 --     cell-asks                 what reading a pair's cell asks
 -- Assumes nothing.
 use mathlib.Core.Bool.{Bool, true, false, not, _&&_, _||_, cond}
@@ -14,20 +15,24 @@ use Prim.Native.Nat.{ℕ, _+_, _-_, _*_, _<_, _≤_}
 use native.Mathlib.Omega.{arith}
 use lib.Dec.{eqb}
 use lib.ListN.{length, getD}
-use Rattle.rulesheet.specs.Ruleset.{Test, asserts}
+use Rattle.sheet.specs.Doc.{Doc}
+use Rattle.rulesheet.specs.Ruleset.{Test, asserts, Ruleset}
 use Rattle.meaning.specs.Rules.{Pair, Marks, Way, whole, cut, stops, passes}
+use Rattle.meaning.specs.Fit.{rank}
 use Rattle.areas.specs.Cells.{pairIs, cellAt, verd, Unsettled, column}
-use Rattle.areas.specs.Writers.{Marked, HandsOn}
+use Rattle.areas.specs.Writers.{Marked}
 use Rattle.steps.specs.declared.turn.Turn.{Turn}
 use Rattle.plan.specs.Plan.{countsHits, branches, moved, stepsOf, finishOf, wayOf, stopsBy}
 use Rattle.told.specs.Read.{Started}
 use Rattle.steps.specs.Turns.{Skipped, Turned}
+use Rattle.lent.specs.Lent.{Case, Fits, InCase, firstKid, kidCount, clausesOf, clauseAt, beforeOf, Turns, TurnsTo, nextAt, HandsOn, givenOn}
+use Rattle.lent.proofs.Reading.{pairs-few}
 use Rattle.cycle.specs.declared.cycle.Done.{Done}
-use Rattle.cycle.specs.State.{Case, Fits, InCase, firstKid, kidCount, rankOf, clausesOf, clauseAt, beforeOf, bitsOf, Areas, Ready, WhereDone, Judged, ClauseJudged, Turns, TurnsTo, nextAt, givenOn}
+use Rattle.cycle.specs.State.{rankOf, bitsOf, Areas, Ready, WhereDone, Judged, ClauseJudged}
 use Rattle.cycle.proofs.State.{areas-cell}
-use Rattle.cycle.proofs.Going.{Aim, pairs-few, many, aims, stopped, fresh, goes, Stepped, ready-as, stepped-none, stepped-few, stepped-go, stepped-goes, stepped-aim, stepped-skips, stepped-stops, stepped-went, stepped-hands, stepped-end, going-unsettled, going-ready, going-aimed, going-apply}
+use Rattle.cycle.proofs.Going.{Aim, many, aims, stopped, fresh, goes, Stepped, ready-as, stepped-none, stepped-few, stepped-go, stepped-goes, stepped-aim, stepped-skips, stepped-stops, stepped-went, stepped-hands, stepped-end, going-unsettled, going-ready, going-aimed, going-apply}
 use Rattle.laws.proofs.Tests.{decide}
-use Rattle.plan.proofs.Plans.{after-miss}
+use Rattle.plan.proofs.Plans.{Aimed, after-miss}
 use Rattle.cycle.proofs.Pairs.{resAt}
 use Rattle.cycle.proofs.Claused.{Claused, claused-more}
 
@@ -88,6 +93,10 @@ cell-asks {T} {q} fit I A =
     (areas-cell A q I, omega (arith, pairs-few (T .n) (T .m) (fit .rows .few) (fit .few), A .long))
 
 -- ---- a pair that it applies
+
+-- the cycle's falling number, from a clause to a pair of lower rank
+pub falls-by : {D : Doc} {R : Ruleset} {n m : ℕ} {p q : Pair} {t : ℕ} → 3 * rank D R p + 0 ≡ t → Aimed D R n m p q → 3 * rank D R q + 2 < t
+falls-by e z = let g = z .lower in omega arith
 
 module _ {T : Case} {p : Pair} {cl : ℕ} {d₀ : List Pair} {c₀ l₀ : List ℕ} {c l : List ℕ} {n tally : ℕ} {at : Turn} (W : Turning T p cl d₀ c₀ l₀ c l n tally at) (go : at .go ≡ true) where
   pub turning-low : (at .step < 4294967295) × (tally ≤ at .step)

@@ -8,33 +8,34 @@
 // `judge_pair` has two callers and `apply` becomes part of `judge_clause`.
 //
 // 1,024 pairs can be open at once, so an open pair keeps little: sheets, texts and forms lie behind one
-// address each, and what is read of them is read in `read`, where no pair is open.
+// address each, and what is read of them is read in `lent`, where no pair is open.
 //
 // One cycle serves both calls: whether judging goes on after a failure, in whole, or stops, cut, is
-// asked of `read::next_clause` and `read::next_step`.
+// asked of `lent::next_clause` and `lent::next_step`.
 //
-// The contracts cite `specs/State.antt`.
+// The contracts cite `specs/State.antt`, and of what is lent `specs/Lent.antt` of `lent`.
 ghost use mathlib.Core.Path.{_≡_};
 ghost use Prim.Native.Nat.{_+_, _<_};
 ghost use Rattle.rulesheet.specs.Sheet.{schemaAt};
 ghost use Rattle.areas.specs.Cells.{pairIs, Unsettled};
-ghost use Rattle.cycle.specs.State.{lent, lentCase, Lent, rankOf, rowOf, Ready, PassesFirst, Judged, ClauseJudged, Applying};
-use crate::read::RULES;
-use crate::read::clause_row;
-use crate::read::clauses_of;
-use crate::read::finish;
-use crate::read::give;
-use crate::read::holds;
-use crate::read::moved;
-use crate::read::next_clause;
-use crate::read::next_step;
-use crate::read::plain;
-use crate::read::schemas_of;
-use crate::read::shut;
-use crate::read::start;
-use crate::read::turn;
-use crate::read::verdict_of;
+ghost use Rattle.lent.specs.Lent.{lent, Lent, lentCase, rowOf, PassesFirst, Applying};
+ghost use Rattle.cycle.specs.State.{rankOf, Ready, Judged, ClauseJudged};
 use areas::settle;
+use lent::RULES;
+use lent::clause_row;
+use lent::clauses_of;
+use lent::finish;
+use lent::give;
+use lent::holds;
+use lent::moved;
+use lent::next_clause;
+use lent::next_step;
+use lent::plain;
+use lent::schemas_of;
+use lent::shut;
+use lent::start;
+use lent::turn;
+use lent::verdict_of;
 use rulesheet::few::applies;
 use rulesheet::form::ClauseRow;
 use sheet::record::Pair;

@@ -27,12 +27,12 @@ use Rattle.meaning.specs.Answer.{valid, invalid, Left, verdict, listRoom, judge
 use Rattle.meaning.proofs.Answers.{rows-are, schemas-are, call-judged, fits}
 use Rattle.clause.proofs.Reading.{record-read, rules-read}
 use Rattle.cycle.specs.declared.cycle.Verdict.{Verdict}
-use Rattle.cycle.specs.State.{caseOf, Sheets}
+use Rattle.lent.specs.Lent.{Sheets, caseOf}
 use Rattle.judge.specs.Whole.{Roomy, leftBy, judgedOf}
 use Rattle.meaning.proofs.Verdicts.{cut-list}
 use Rattle.judge.specs.declared.answer.Answer.{Answer}
 use Rattle.judge.specs.Call.{answerOf, leaves, verdictLeaves}
-use Rattle.cycle.proofs.Going.{pairs-few}
+use Rattle.lent.proofs.Reading.{pairs-few}
 
 module _ (ws ts rs us : List ℕ) (n m : ℕ) (good : recordOutcome ws ts ≡ accepted n) (fine : rulesOutcome rs us ≡ accepted m) where
   rows : rowsWord ws ≡ n

@@ -27,7 +27,8 @@ use Rattle.areas.specs.Cells.{Unsettled, cellOf, verd, bit, four, settledAs, co
 use Rattle.areas.specs.Writers.{Writes}
 use Rattle.areas.proofs.Cells.{settledAs-read, whole as both-parts, zero-verd, zero-bit, settled-blank}
 use Rattle.cycle.specs.declared.cycle.Verdict.{Verdict}
-use Rattle.cycle.specs.State.{pair, Case, Fits, InCase, firstKid, kidCount, truthOf, settleOf, bitsOf, written, Areas, Quiet, Ready, Judged}
+use Rattle.lent.specs.Lent.{Case, pair, Fits, InCase, firstKid, kidCount}
+use Rattle.cycle.specs.State.{truthOf, settleOf, bitsOf, written, Areas, Quiet, Ready, Judged}
 use Rattle.judge.specs.Whole.{Exact, Fresh, Roomy, leftBy, judgedOf}
 use Rattle.cycle.proofs.Pairs.{settle-self}
 use Rattle.cycle.proofs.State.{written-room, written-none, areas-marks, areas-writes}

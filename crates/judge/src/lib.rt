@@ -9,7 +9,7 @@ ghost use mathlib.Core.Path.{_≡_};
 ghost use Rattle.sheet.specs.Refusals.{accepted};
 ghost use Rattle.sheet.specs.Faults.{recordOutcome};
 ghost use Rattle.rules.specs.Check.{rulesOutcome};
-ghost use Rattle.cycle.specs.State.{wayBy};
+ghost use Rattle.lent.specs.Lent.{wayBy};
 ghost use Rattle.judge.specs.Call.{leaves, callLeaves, verdictLeaves};
 use answer::Answer;
 use recordcheck::check_record;

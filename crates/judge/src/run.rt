@@ -1,14 +1,14 @@
 // The run after both checks: the cells are cleared, the root pair is applied, its marks are counted.
 ghost use mathlib.Core.Path.{_≡_};
-ghost use Rattle.cycle.specs.State.{caseOf, wayBy, Sheets};
+ghost use Rattle.lent.specs.Lent.{Sheets, caseOf, wayBy};
 ghost use Rattle.meaning.specs.Answer.{listRoom};
 ghost use Rattle.judge.specs.Whole.{Exact, Roomy, leftBy, judgedOf};
 use areas::clear;
 use areas::marked_of;
 use cycle::cycle::Verdict;
 use cycle::cycle::judge_root;
-use cycle::read::forms_of;
-use cycle::read::verdict_of;
+use lent::forms_of;
+use lent::verdict_of;
 use rulesheet::form::RuleForm;
 use sheet::record::Pair;
 use sheet::record::RecordForm;

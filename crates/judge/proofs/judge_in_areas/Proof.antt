@@ -4,9 +4,9 @@ use native.Mathlib.Omega.{arith}
 use borrow.Author.Needs.{needs}
 use borrow.Author.Tests.{not-true, not-false}
 use Rattle.meaning.specs.Answer.{listRoom}
-use Rattle.cycle.specs.State.{wayBy}
+use Rattle.lent.specs.Lent.{wayBy}
 use Rattle.meaning.proofs.Answers.{cells-short, list-short}
-use Rattle.cycle.proofs.Reading.{lt-by, le-by}
+use Rattle.lent.proofs.Reading.{lt-by, le-by}
 use Rattle.judge.proofs.Calls.{size-small, record-trailer, rules-trailer, sheets-read, call-roomy, call-valid, call-invalid}
 use borrow.Author.Needs.{needs}
 use Rattle.judge.proofs.judge_in_areas.Statement.{statement}

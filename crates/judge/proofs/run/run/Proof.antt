@@ -4,12 +4,12 @@ use Prim.Native.Nat.{ℕ, _*_, _≤_}
 use native.Mathlib.Omega.{arith}
 use lib.ListN.{length}
 use Rattle.meaning.specs.Answer.{listRoom}
-use Rattle.cycle.specs.State.{Case}
+use Rattle.lent.specs.Lent.{Case}
 use Rattle.judge.specs.Whole.{Roomy}
 use borrow.Author.Needs.{needs}
 use lib.Seq.{length-take-le}
 use Rattle.judge.proofs.Whole.{part-exact, part-judged}
-use Rattle.cycle.proofs.Reading.{size-is, size-fits}
+use Rattle.lent.proofs.Reading.{size-is, size-fits}
 use borrow.Author.Needs.{needs}
 use Rattle.judge.proofs.run.run.Statement.{statement}
 use Rattle.judge.proofs.run.run.Tie as tie

@@ -2,7 +2,8 @@
 -- Assumes nothing.
 use Prim.Native.Nat.{_+_, _*_, _-_}
 use Rattle.areas.specs.Cells.{pairIs}
-use Rattle.cycle.specs.State.{lentCase, rankOf}
+use Rattle.lent.specs.Lent.{lentCase}
+use Rattle.cycle.specs.State.{rankOf}
 use Prim.Native.Nat.{ℕ, _<_}
 use borrow.Fn.Kinds.{In}
 use borrow.Fn.PlainCycle.{Measures, is, falls, and}
@@ -16,20 +17,20 @@ use Rattle.cycle.proofs.cycle.judge_pair.Reads as judge-pair
 use Rattle.cycle.proofs.cycle.judge_pair.Kinds as judge-pair-kinds
 use Rattle.cycle.proofs.cycle.+apply+judge_clause+judge_pair.Lts-judge_pair as judge-pair-lts
 use Rattle.areas.proofs.settle.Reads as settle-reads
-use Rattle.cycle.proofs.read.clause_row.Reads as clause-row-reads
-use Rattle.cycle.proofs.read.clauses_of.Reads as clauses-of-reads
-use Rattle.cycle.proofs.read.finish.Reads as finish-reads
-use Rattle.cycle.proofs.read.give.Reads as give-reads
-use Rattle.cycle.proofs.read.holds.Reads as holds-reads
-use Rattle.cycle.proofs.read.moved.Reads as moved-reads
-use Rattle.cycle.proofs.read.next_clause.Reads as next-clause-reads
-use Rattle.cycle.proofs.read.next_step.Reads as next-step-reads
-use Rattle.cycle.proofs.read.plain.Reads as plain-reads
-use Rattle.cycle.proofs.read.schemas_of.Reads as schemas-of-reads
-use Rattle.cycle.proofs.read.shut.Reads as shut-reads
-use Rattle.cycle.proofs.read.start.Reads as start-reads
-use Rattle.cycle.proofs.read.turn.Reads as turn-reads
-use Rattle.cycle.proofs.read.verdict_of.Reads as verdict-of-reads
+use Rattle.lent.proofs.clause_row.Reads as clause-row-reads
+use Rattle.lent.proofs.clauses_of.Reads as clauses-of-reads
+use Rattle.lent.proofs.finish.Reads as finish-reads
+use Rattle.lent.proofs.give.Reads as give-reads
+use Rattle.lent.proofs.holds.Reads as holds-reads
+use Rattle.lent.proofs.moved.Reads as moved-reads
+use Rattle.lent.proofs.next_clause.Reads as next-clause-reads
+use Rattle.lent.proofs.next_step.Reads as next-step-reads
+use Rattle.lent.proofs.plain.Reads as plain-reads
+use Rattle.lent.proofs.schemas_of.Reads as schemas-of-reads
+use Rattle.lent.proofs.shut.Reads as shut-reads
+use Rattle.lent.proofs.start.Reads as start-reads
+use Rattle.lent.proofs.turn.Reads as turn-reads
+use Rattle.lent.proofs.verdict_of.Reads as verdict-of-reads
 use Rattle.rulesheet.proofs.few.applies.Reads as applies-reads
 
 abbrev pub μ-apply : Measures 4 apply-kinds.ps ℕ
