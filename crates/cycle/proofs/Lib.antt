@@ -4,3 +4,4 @@ pub mod Going
 pub mod Claused
 pub mod Turning
 pub mod Testing
+pub mod Named

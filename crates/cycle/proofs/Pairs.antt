@@ -64,7 +64,7 @@ module _ (T : Case) (p : Pair) where
   next-clause : (i : ℕ) → i < length cs → drop i cs ≡ clauseAt T p i ∷ drop (suc i) cs
   next-clause i h = drop-cons cs i (asserts never) h
 
-  one-before : (i : ℕ) → i < length cs → beforeOf T p (suc i) ≡ beforeOf T p i ++ clauseAt T p i ∷ []
+  pub one-before : (i : ℕ) → i < length cs → beforeOf T p (suc i) ≡ beforeOf T p i ++ clauseAt T p i ∷ []
   one-before i h = take-suc cs i (asserts never) h
 
   -- what a failure has stopped stays as it is

@@ -28,12 +28,13 @@ use Rattle.steps.specs.Turns.{Skipped, Turned}
 use Rattle.lent.specs.Lent.{Case, Fits, InCase, firstKid, kidCount, clausesOf, clauseAt, beforeOf, Turns, TurnsTo, nextAt, HandsOn, givenOn}
 use Rattle.lent.proofs.Reading.{pairs-few}
 use Rattle.cycle.specs.declared.cycle.Done.{Done}
-use Rattle.cycle.specs.State.{rankOf, bitsOf, Areas, Ready, WhereDone, Judged, ClauseJudged}
+use Rattle.cycle.specs.State.{Named, rankOf, bitsOf, Areas, Ready, WhereDone, Judged, ClauseJudged}
 use Rattle.cycle.proofs.State.{areas-cell}
 use Rattle.cycle.proofs.Going.{Aim, many, aims, stopped, fresh, goes, Stepped, ready-as, stepped-none, stepped-few, stepped-go, stepped-goes, stepped-aim, stepped-skips, stepped-stops, stepped-went, stepped-hands, stepped-end, going-unsettled, going-ready, going-aimed, going-apply}
 use Rattle.laws.proofs.Tests.{decide}
 use Rattle.plan.proofs.Plans.{Aimed, after-miss}
 use Rattle.cycle.proofs.Pairs.{resAt}
+use Rattle.cycle.proofs.Named.{standing-marked}
 use Rattle.cycle.proofs.Claused.{Claused, claused-more}
 
 -- ---- the clause stands where `at` says
@@ -80,8 +81,10 @@ standing-first {T} {p} {cl} R u = λ d A. record { steps = stepped-none (ready-a
 
 module _ {T : Case} {p : Pair} {cl : ℕ} {d₀ : List Pair} {c₀ l₀ : List ℕ} {x : ℕ} {c l : List ℕ} {n tally : ℕ} (Z : Standing T p cl d₀ c₀ l₀ x c l n tally) where
   -- what working out where the clause stands asks
-  pub standing-asks : {from : ℕ} → Started (beforeOf T p cl) (clauseAt T p cl) from → Turns T p cl from c
-  standing-asks started = let e = Z .steps .going .areas .long in record { started = started; room = omega arith; unsettled = going-unsettled (Z .steps .going) }
+  pub standing-asks : {from : ℕ} → Named T p cl c₀ → Started (beforeOf T p cl) (clauseAt T p cl) from → Turns T p cl from x c
+  standing-asks named started =
+      let e = Z .steps .going .areas .long in
+      record { started = started; marked = standing-marked (Z .steps) named started; room = omega arith; unsettled = going-unsettled (Z .steps .going) }
 
   pub standing-turn : {at : Turn} → TurnsTo T p cl x tally c at → Turning T p cl d₀ c₀ l₀ c l n tally at
   standing-turn t = turning Z t

@@ -9,6 +9,8 @@ use Rattle.meaning.specs.Rules.{Pair, Marks, _∪_, Result, answer, applied, cl
 use Rattle.meaning.specs.Settling.{samePair, listed, inTurn, settle, shown}
 use Rattle.meaning.specs.Fit.{rank}
 use Rattle.areas.specs.Cells.{cellAt, verd, Unsettled, bit, settledAs, column}
+use Rattle.told.specs.Read.{NamesOnly}
+use Rattle.steps.specs.Turns.{NamesMarked}
 use Rattle.lent.specs.Lent.{Case, Fits, InCase, Kid, clauseAt, beforeOf}
 use Rattle.cycle.specs.declared.cycle.Done.{Done}
 
@@ -63,6 +65,10 @@ pub record Ready (T : Case) (t : ℕ) (p : Pair) (cells list : List ℕ) (count 
   pub done : List Pair
   pub areas : Areas T done (bitsOf (T .m) cells) list cells list count
   pub quiet : Quiet T t done (bitsOf (T .m) cells)
+
+-- where the clauses before clause i of p mark no member but those that they name, the marks of p tell which those are
+abbrev pub Named : Case → Pair → ℕ → List ℕ → Type 0
+Named T p i cells = NamesOnly (beforeOf T p i) → NamesMarked (T .doc) p (beforeOf T p i) 0 (column (T .m) cells (p .rule))
 
 -- P of whichever pairs the areas show settled, in an order of theirs: of a list without places the cells alone show them
 abbrev pub WhereDone : Case → (cells list : List ℕ) → ℕ → (List Pair → Type 0) → Type 0

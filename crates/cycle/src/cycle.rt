@@ -19,7 +19,7 @@ ghost use Prim.Native.Nat.{_+_, _<_};
 ghost use Rattle.rulesheet.specs.Sheet.{schemaAt};
 ghost use Rattle.areas.specs.Cells.{pairIs, Unsettled};
 ghost use Rattle.lent.specs.Lent.{lent, Lent, lentCase, rowOf, PassesFirst, Applying};
-ghost use Rattle.cycle.specs.State.{rankOf, Ready, Judged, ClauseJudged};
+ghost use Rattle.cycle.specs.State.{Named, rankOf, Ready, Judged, ClauseJudged};
 use areas::settle;
 use lent::RULES;
 use lent::clause_row;
@@ -133,7 +133,7 @@ fn judge_clause<'a, 'b>(
     requires { ⌜ Lent (now sheets) (now texts) (now forms) ⌝ }
     requires { ⌜ Ready (lentCase (now sheets) (now texts) (now forms)) (rankOf (lentCase (now sheets) (now texts) (now forms)) (pairIs p)) (pairIs p) (now cells) (now list) count ⌝ }
     requires { ⌜ Unsettled (lentCase (now sheets) (now texts) (now forms) .m) (pairIs p) (now cells) ⌝ }
-    requires { ⌜ (i < schemaAt (lent (now sheets) 1) (p .rule .0) .count) × Applying (lentCase (now sheets) (now texts) (now forms)) (pairIs p) i ⌝ }
+    requires { ⌜ (i < schemaAt (lent (now sheets) 1) (p .rule .0) .count) × Applying (lentCase (now sheets) (now texts) (now forms)) (pairIs p) i × Named (lentCase (now sheets) (now texts) (now forms)) (pairIs p) i (now cells) ⌝ }
     requires { ⌜ row ≡ rowOf (now sheets) (pairIs p) i ⌝ }
     ensures { λ r. ⌜ ClauseJudged (lentCase (now (sheets .entry)) (now (texts .entry)) (now (forms .entry))) (pairIs p) i (now (cells .entry)) (now (list .entry)) count (now (cells .exit)) (now (list .exit)) r ⌝ }
 {

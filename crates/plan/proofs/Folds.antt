@@ -56,7 +56,7 @@ unfolding unions nothing _∪_
 unions-append [] ys k = refl
 unions-append (x ∷ xs) ys k = ap (λ b. x .marks k || b) (unions-append xs ys k) ∙ sym (or-assoc (x .marks k) (unions xs k) (unions ys k))
 
-elem-append : (k : ℕ) (xs ys : List ℕ) → elem k (xs ++ ys) ≡ (elem k xs || elem k ys)
+pub elem-append : (k : ℕ) (xs ys : List ℕ) → elem k (xs ++ ys) ≡ (elem k xs || elem k ys)
 unfolding elem
 elem-append k [] ys = refl
 elem-append k (x ∷ xs) ys = rw (elem-append k xs ys) (sym (or-assoc (eqb k x) (elem k xs) (elem k ys)))

@@ -4,13 +4,14 @@
 --     holds-is        its verdict is what the plan says of what is carried
 --     marks-is        its marks, with those before it, are those after the steps
 --     go-is           a step that looks at the marks that stand when it is reached sees what it would have seen before the clause
+--     later-is        a member that `additionalProperties` has not reached has the marks that it had
 --     go-same, clause-same     only the marks of children matter
 --     aimed           a step that is applied aims at a pair of lower rank among the n × m, of the row itself or of a child
 -- Assumes nothing.
 use mathlib.Core.Bool.{Bool, true, false, not, _&&_, _||_, cond}
 use mathlib.Core.List.{List, [], _∷_, map, append-nil, List·Memᴰ as In}
 use mathlib.Core.Path.{_≡_, refl, sym, ap, _∙_, subst}
-use Prim.Native.Nat.{ℕ, zero, suc, _+_, _-_, _<_}
+use Prim.Native.Nat.{ℕ, zero, suc, _+_, _-_, _≤_, _<_}
 use native.Mathlib.Omega.{arith}
 use lib.Dec.{eqb, ltb}
 use lib.ListN.{length, getD}
@@ -257,6 +258,15 @@ module _ (D : Doc) (R : Ruleset) (n m : ℕ) (fit : Fit D R n m) (p : Pair) (row
     go-is sub (takes (unevaluatedItems s)) go i t h =
         ap not (marks-later sub (λ x. to p (childRow D p x) s) p _ _ κ (childRow D p i) i
         (λ x g. (child-apart D R n m fit p row-in (childRow D p x) (element-in D R n m fit p row-in (own D p) refl x (omega arith)), λ e. omega arith)))
+
+    -- a member that `additionalProperties` has not reached has the marks that it had
+    pub later-is : (sub : Pair → Result) (c : Clause) (s : ℕ) → c ≡ takes (additionalProperties s) → (go : ℕ → Bool) (x k : ℕ) → x ≤ k → k < memberCount (own D p)
+        → marksBy sub p (keeps c) go (aims c) κ x (childRow D p k) ≡ κ (childRow D p k)
+    unfolding aimOf aimIn to
+    later-is sub c s e go x k a b =
+        rw e
+        (marks-later sub (λ y. to p (childRow D p y) s) p _ _ κ (childRow D p k) x
+        (λ y g. (child-apart D R n m fit p row-in (childRow D p y) (member-in D R n m fit p row-in (own D p) refl y (omega arith)), λ z. omega arith)))
 
     -- a step looks at marks only where it aims at a child
     pub go-same : (c : Clause) (i : ℕ) (x y : Bool) (t : ℕ) → i < many c → (Child D (p .row) (aims c i .row) → x ≡ y) → goOf D p before c i x t ≡ goOf D p before c i y t

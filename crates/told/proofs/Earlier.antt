@@ -381,7 +381,7 @@ module _ (d : Doc) (j : ℕ) (ws ts : List ℕ) (list : Entries) where
   none-names none = by-names ∙ entry-nowhere ws list (λ n. called d n j) (entryName ts) none
 
 module _ (d : Doc) (j : ℕ) where
-  named-append : (xs ys : List (List ℕ)) → namedBy d (xs ++ ys) j ≡ (namedBy d xs j || namedBy d ys j)
+  pub named-append : (xs ys : List (List ℕ)) → namedBy d (xs ++ ys) j ≡ (namedBy d xs j || namedBy d ys j)
   unfolding any
   named-append [] ys = refl
   named-append (x ∷ xs) ys = rw (named-append xs ys) (sym (or-assoc (called d x j) (namedBy d xs j) (namedBy d ys j)))

@@ -35,7 +35,9 @@ judge-clause-loop-holds t c =
 
 pub judge-clause-turn-requires : (t : ℕ) → judge-clause-lts.Need-turn-requires (judge-clause-claims t) (judge-clause-at t) judge-clause.Post judge-clause-Inv-loop judge-clause-μ-loop
 judge-clause-turn-requires t c κs =
-    ((reads-clause (c .before .before .before .before .before .pre .1 .0) (c .before .before .before .before .before .pre .1 .1 .0 .inside) (c .before .before .before .before .before .pre .1 .1 .1 .1 .0 .0), c .before .before .before .before .before .pre .1 .1 .1 .1 .1), standing-asks (c .before .loop .inv (c .before .before .before .before .before .pre .1 .1 .0 .done) (c .before .before .before .before .before .pre .1 .1 .0 .areas)) (c .before .before .start .ensures))
+    let start = c .before .before .before .before .before in
+    let asked = start .pre .1 in
+    ((reads-clause (asked .0) (asked .1 .0 .inside) (asked .1 .1 .1 .0 .0), asked .1 .1 .1 .1), standing-asks (c .before .loop .inv (asked .1 .0 .done) (asked .1 .0 .areas)) (asked .1 .1 .1 .0 .2) (c .before .before .start .ensures))
 
 pub judge-clause-finish-requires : (t : ℕ) → judge-clause-lts.Need-finish-requires (judge-clause-claims t) (judge-clause-at t) judge-clause.Post judge-clause-Inv-loop judge-clause-μ-loop
 judge-clause-finish-requires t c κs =

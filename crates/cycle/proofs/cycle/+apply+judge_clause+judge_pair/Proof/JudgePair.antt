@@ -10,6 +10,7 @@ use Rattle.lent.specs.Lent.{lentCase, clauseAt}
 use Rattle.lent.proofs.Reading.{forms-fit, schemas-lent, formed-lent, clauses-many, reads-by, reads-clause, lt-by}
 use Rattle.cycle.specs.State.{WhereDone}
 use Rattle.cycle.proofs.Going.{going-ready, going-unsettled, going-writes, going-open}
+use Rattle.cycle.proofs.Named.{claused-named}
 use Rattle.cycle.proofs.Claused.{Clausing, claused-more, claused-next, claused-shut, claused-end, cells-kept, list-kept}
 use Rattle.cycle.proofs.Testing.{claused-test, claused-first, passes-many, applies-lent, applying-by, tries-by}
 use Rattle.cycle.proofs.cycle.judge_pair.Reads as judge-pair
@@ -46,7 +47,15 @@ judge-pair-applies-requires t c κs =
 
 pub judge-pair-judge-clause-requires : (t : ℕ) → judge-pair-lts.Need-judge-clause-requires (judge-pair-claims t) (judge-pair-at t) judge-pair.Post judge-pair-Inv-loop judge-pair-μ-loop
 judge-pair-judge-clause-requires t c κs =
-    (omega (arith, c .before .before .before .before .before .before .before .before .before .before .before .pre .0), ((c .before .before .before .before .before .before .before .before .before .before .before .pre .1 .0), (going-ready (c .before .before .before .before .before .before .loop .inv ((c .before .before .before .before .before .before .before .before .before .before .before .pre .1 .1 .0) .done) ((c .before .before .before .before .before .before .before .before .before .before .before .pre .1 .1 .0) .areas) .claused .going), (going-unsettled (c .before .before .before .before .before .before .loop .inv ((c .before .before .before .before .before .before .before .before .before .before .before .pre .1 .1 .0) .done) ((c .before .before .before .before .before .before .before .before .before .before .before .pre .1 .1 .0) .areas) .claused .going), (((lt-by (c .before .before .before .before .before .loop-test .taken) (c .before .before .before .before .before .before .before .clauses-of .ensures)), applying-by _ (sym (applies-lent (c .before .before .before .before .before .before .before .before .before .before .before .pre .1 .0) ((c .before .before .before .before .before .before .before .before .before .before .before .pre .1 .1 .0) .inside) (lt-by (c .before .before .before .before .before .loop-test .taken) (c .before .before .before .before .before .before .before .clauses-of .ensures)) (c .before .before .before .before .clause-row .ensures) (c .before .before .before .applies .ensures)) ∙ c .before .before .if1 .taken)), c .before .before .before .before .clause-row .ensures)))))
+    let asked = c .before .before .before .before .before .before .before .before .before .before .before .pre in
+    let R = asked .1 .1 .0 in
+    let L = c .before .before .before .before .before .before .loop .inv (R .done) (R .areas) in
+    let many = c .before .before .before .before .before .before .before .clauses-of .ensures in
+    let row = c .before .before .before .before .clause-row .ensures in
+    let low = lt-by (c .before .before .before .before .before .loop-test .taken) many in
+    let applied = applying-by _ (sym (applies-lent (asked .1 .0) (R .inside) low row (c .before .before .before .applies .ensures)) ∙ c .before .before .if1 .taken) in
+    let named = claused-named L (c .before .before .before .before .before .loop-test .taken) (clauses-many (asked .1 .0 .sheets) (R .inside) many) in
+    (omega (arith, asked .0), (asked .1 .0, (going-ready (L .claused .going), (going-unsettled (L .claused .going), ((low, applied, named), row)))))
 
 pub judge-pair-holds-requires : (t : ℕ) → judge-pair-lts.Need-holds-requires (judge-pair-claims t) (judge-pair-at t) judge-pair.Post judge-pair-Inv-loop judge-pair-μ-loop
 judge-pair-holds-requires t c κs =
