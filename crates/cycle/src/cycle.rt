@@ -35,7 +35,7 @@ use crate::read::start;
 use crate::read::turn;
 use crate::read::verdict_of;
 use areas::settle;
-use rulesheet::few::applies;
+use few::applies;
 use rulesheet::form::ClauseRow;
 use sheet::record::Pair;
 

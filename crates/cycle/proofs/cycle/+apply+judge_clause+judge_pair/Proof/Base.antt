@@ -30,7 +30,7 @@ use Rattle.cycle.proofs.read.shut.Reads as shut-reads
 use Rattle.cycle.proofs.read.start.Reads as start-reads
 use Rattle.cycle.proofs.read.turn.Reads as turn-reads
 use Rattle.cycle.proofs.read.verdict_of.Reads as verdict-of-reads
-use Rattle.rulesheet.proofs.few.applies.Reads as applies-reads
+use Rattle.few.proofs.applies.Reads as applies-reads
 
 abbrev pub μ-apply : Measures 4 apply-kinds.ps ℕ
 μ-apply κs a =
