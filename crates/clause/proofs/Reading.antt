@@ -26,7 +26,8 @@ use Rattle.rulesheet.specs.Ruleset as R
 use Rattle.rulesheet.specs.Ruleset.{never, asserts}
 use Rattle.rulesheet.specs.Sheet as S
 use Rattle.rulesheet.specs.Read.{RulesFormed}
-use Rattle.rulesheet.specs.Clauses.{clauseMeans, Tested, ReadBy}
+use Rattle.rulesheet.specs.Clauses.{clauseMeans, Tested}
+use Rattle.few.specs.Asked.{ReadBy}
 use Rattle.rulesheet.proofs.Trailers.{form-m, form-c, trailer-facts}
 use Rattle.rulesheet.proofs.Taking.{schema-within}
 use Rattle.rulesheet.proofs.Items.{clause-item}

@@ -19,7 +19,7 @@ use Rattle.rulesheet.specs.Ruleset.{Test, never, asserts, inPlace, ifThenElse, 
 use Rattle.rulesheet.specs.Sheet as RS
 use Rattle.rulesheet.specs.Sheet.{schemaAt}
 use Rattle.rulesheet.specs.Faults.{clauseFine}
-use Rattle.rulesheet.specs.Clauses.{appliesAny}
+use Rattle.few.specs.Asked.{appliesAny}
 use Rattle.rulesheet.proofs.Items.{clause-item}
 use Rattle.meaning.specs.Rules.{Pair, stops, passes}
 use Rattle.areas.specs.Cells.{cellAt, Unsettled}

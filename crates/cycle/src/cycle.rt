@@ -21,6 +21,7 @@ ghost use Rattle.areas.specs.Cells.{pairIs, Unsettled};
 ghost use Rattle.lent.specs.Lent.{lent, Lent, lentCase, rowOf, PassesFirst, Applying};
 ghost use Rattle.cycle.specs.State.{Named, rankOf, Ready, Judged, ClauseJudged};
 use areas::settle;
+use few::applies;
 use lent::RULES;
 use lent::clause_row;
 use lent::clauses_of;
@@ -36,7 +37,6 @@ use lent::shut;
 use lent::start;
 use lent::turn;
 use lent::verdict_of;
-use rulesheet::few::applies;
 use rulesheet::form::ClauseRow;
 use sheet::record::Pair;
 

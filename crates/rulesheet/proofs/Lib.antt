@@ -10,4 +10,4 @@ pub mod Repeating
 pub mod Items
 pub mod Naming
 pub mod Meanings
-pub mod Asked
+pub mod Decoding

@@ -1,7 +1,7 @@
 -- What the code's clauses stand for: each variant the clause of the rules that its keyword names, over the sheet's words and text; and what the tests
 -- of the sheet say of it.
 -- Assumes nothing.
-use mathlib.Core.Bool.{Bool, true, false}
+use mathlib.Core.Bool.{true}
 use mathlib.Core.List.{List, [], _∷_, map}
 use mathlib.Core.Logic.{_⊎_}
 use mathlib.Core.Path.{_≡_}
@@ -16,7 +16,6 @@ use Rattle.sheet.specs.Doc.{Value}
 use Rattle.rulesheet.specs.declared.code.Fields.{Fields}
 use Rattle.rulesheet.specs.declared.code.Fields.the-variants.{Unknown, Bare, Types as TypesOf, Number, Positive, Limit, Schema, Values, Names, Schemas, Members, Branches, Counted}
 use Rattle.rulesheet.specs.declared.form.RuleForm.{RuleForm}
-use Rattle.rulesheet.specs.declared.form.ClauseRow.{ClauseRow}
 use Rattle.rulesheet.specs.declared.form.EntryRow.{EntryRow}
 use Rattle.rulesheet.specs.declared.clause.Entries.{Entries}
 use Rattle.rulesheet.specs.declared.clause.Clause.{Clause}
@@ -26,7 +25,7 @@ use Rattle.rulesheet.specs.declared.clause.Clause.the-variants.{AllOf, A
 use Rattle.rulesheet.specs.declared.clause.Clause.the-variants.{UnevaluatedProperties, UnevaluatedItems}
 use Rattle.rulesheet.specs.Ruleset as R
 use Rattle.rulesheet.specs.Codes.{no-entry, entryValue, entryName, entryMember, shapeOf, meansOf}
-use Rattle.rulesheet.specs.Sheet.{schemasWord, textWord, clauseAt, entryAt, run, partsOf, clauseOf}
+use Rattle.rulesheet.specs.Sheet.{schemasWord, textWord, entryAt, run, partsOf}
 use Rattle.rulesheet.specs.Faults.{isList, entryOk, isNamed}
 use Rattle.rulesheet.specs.Read.{ClausesLaid, RulesLaid}
 
@@ -178,79 +177,10 @@ pub record Decoded (code first count : ℕ) (clause : Clause) : Type 0 where
   pub means : (ws ts : List ℕ) → clauseMeans ws ts clause ≡ meansOf code (partsOf ws ts first count)
   pub holds : Holds (shapeOf code .fields) first count (held clause)
 
--- clause k was read, or it reads as `Never`
-pub record PlainRead (ws : List ℕ) (form : RuleForm) (k : ℕ) (clause : Clause) : Type 0 where
-  pub means : (clause ≡ Never → ⊥) → (ts : List ℕ) → clauseMeans ws ts clause ≡ clauseOf ws ts k
-  pub tested : Tested ws form clause
-
--- whichever clause of a sheet has these words, it was read as far as f asks for it
-pub record ReadBy (f : R.Clause → R.Clause) (row : ClauseRow) (clause : Clause) : Type 0 where
-  pub means : (ws ts : List ℕ) (k : ℕ) → row ≡ clauseAt ws k → clauseMeans ws ts clause ≡ f (clauseOf ws ts k)
-  pub tested : (ws : List ℕ) (form : RuleForm) (k : ℕ) → k < form .c → row ≡ clauseAt ws k → Tested ws form clause
-
--- ---- what is read of a list, and of the clauses before
+-- ---- what is read of a list
 
 -- the range that is read as the name of item i of a list: its bytes, and that a list of names has them within the text
 pub record EntryNameRead (ws : List ℕ) (es : Entries) (i : ℕ) (r : Range) : Type 0 where
   pub name-is : (ts : List ℕ) → part ts r ≡ getD (namesIn ws ts es) i []
   pub member-is : (ts : List ℕ) → part ts r ≡ getD (membersIn ws ts es) i ([], 0) .0
   pub name-fits : (fields : Fields) → isNamed fields ≡ true → Listed ws (list fields es) → fits (textWord ws) r ≡ true
-
--- a clause, if it tells something to those after it: which members it names, or how many elements it speaks of. Else one that tells nothing
-unfoldable pub telling : R.Clause → R.Clause
-telling (R.asserts t) = R.asserts R.never
-telling (R.inPlace m ss) = R.asserts R.never
-telling (R.ifThenElse i t e) = R.asserts R.never
-telling (R.dependentSchemas es) = R.asserts R.never
-telling (R.contains s least most) = R.asserts R.never
-telling (R.takes (R.properties es)) = R.takes (R.properties es)
-telling (R.takes (R.additionalProperties s)) = R.asserts R.never
-telling (R.takes (R.prefixItems ss)) = R.takes (R.prefixItems ss)
-telling (R.takes (R.items s)) = R.asserts R.never
-telling (R.takes (R.unevaluatedProperties s)) = R.asserts R.never
-telling (R.takes (R.unevaluatedItems s)) = R.asserts R.never
-
--- a clause, if it applies schemas. Else one that applies none
-unfoldable pub applying : R.Clause → R.Clause
-applying (R.asserts t) = R.asserts R.never
-applying (R.inPlace m ss) = R.inPlace m ss
-applying (R.ifThenElse i t e) = R.ifThenElse i t e
-applying (R.dependentSchemas es) = R.dependentSchemas es
-applying (R.contains s least most) = R.contains s least most
-applying (R.takes c) = R.takes c
-
--- whether a clause applies schemas; one that does not is a test
-unfoldable pub appliesAny : R.Clause → Bool
-appliesAny (R.asserts t) = false
-appliesAny (R.inPlace m ss) = true
-appliesAny (R.ifThenElse i t e) = true
-appliesAny (R.dependentSchemas es) = true
-appliesAny (R.contains s least most) = true
-appliesAny (R.takes c) = true
-
--- a clause, if those before it tell it something. Else one that is told nothing
-unfoldable pub told : R.Clause → R.Clause
-told (R.asserts t) = R.asserts R.never
-told (R.inPlace m ss) = R.asserts R.never
-told (R.ifThenElse i t e) = R.asserts R.never
-told (R.dependentSchemas es) = R.asserts R.never
-told (R.contains s least most) = R.asserts R.never
-told (R.takes (R.properties es)) = R.asserts R.never
-told (R.takes (R.additionalProperties s)) = R.takes (R.additionalProperties s)
-told (R.takes (R.prefixItems ss)) = R.asserts R.never
-told (R.takes (R.items s)) = R.takes (R.items s)
-told (R.takes (R.unevaluatedProperties s)) = R.asserts R.never
-told (R.takes (R.unevaluatedItems s)) = R.asserts R.never
-
--- a clause, if it may hold although one of its schemas fails. Else one of which that is not asked
-unfoldable pub sparing : R.Clause → R.Clause
-sparing (R.asserts t) = R.asserts R.never
-sparing (R.inPlace R.allOf ss) = R.asserts R.never
-sparing (R.inPlace R.anyOf ss) = R.inPlace R.anyOf ss
-sparing (R.inPlace R.oneOf ss) = R.inPlace R.oneOf ss
-sparing (R.inPlace R.notOf ss) = R.inPlace R.notOf ss
-sparing (R.inPlace R.ref ss) = R.asserts R.never
-sparing (R.ifThenElse i t e) = R.ifThenElse i t e
-sparing (R.dependentSchemas es) = R.asserts R.never
-sparing (R.contains s least most) = R.contains s least most
-sparing (R.takes c) = R.asserts R.never

@@ -6,6 +6,5 @@
 // `Clauses`.
 pub mod clause;
 pub mod code;
-pub mod few;
 pub mod form;
 pub mod steps;

@@ -25,7 +25,8 @@ use Rattle.rulesheet.specs.declared.clause.Clause.the-variants.{MinLength, MaxL
 use Rattle.rulesheet.specs.declared.clause.Clause.the-variants.{AllOf, AnyOf, OneOf as Exactly, Not, Ref, IfThenElse, DependentSchemas, Properties, AdditionalProperties, PrefixItems, Items, Contains, UnevaluatedProperties, UnevaluatedItems}
 use Rattle.rulesheet.specs.Ruleset as R
 use Rattle.rulesheet.specs.Ruleset.{Test, allOf, anyOf, oneOf, notOf, ref, asserts, inPlace, ifThenElse, dependentSchemas, contains, takes}
-use Rattle.rulesheet.specs.Clauses.{entryIn, clauseMeans, applying, sparing}
+use Rattle.rulesheet.specs.Clauses.{entryIn, clauseMeans}
+use Rattle.few.specs.Asked.{applying, sparing}
 use Rattle.rulesheet.proofs.Items.{schemas-long}
 use Rattle.meaning.specs.Tests.{members?, elements?, given}
 use Rattle.meaning.specs.Rules.{Pair, within, contained}

@@ -15,7 +15,8 @@ use Rattle.sheet.specs.declared.record.RuleRow.{RuleRow}
 use Rattle.sheet.specs.Doc.{Doc}
 use Rattle.rulesheet.specs.Ruleset.{Reach, additionalProperties, unevaluatedProperties, Clause, asserts, inPlace, ifThenElse, dependentSchemas, contains, takes}
 use Rattle.rulesheet.specs.declared.clause.Clause.{Clause as Read}
-use Rattle.rulesheet.specs.Clauses.{clauseMeans, applying}
+use Rattle.rulesheet.specs.Clauses.{clauseMeans}
+use Rattle.few.specs.Asked.{applying}
 use Rattle.meaning.specs.Rules.{Pair, Marks, to}
 use Rattle.clause.proofs.Having.{never, never-not}
 use Rattle.steps.specs.declared.turn.Turn.{Turn}

@@ -1,7 +1,8 @@
 // Where a clause that applies schemas stands between two of its steps.
 ghost use mathlib.Core.Bool.{true, false};
 ghost use mathlib.Core.Path.{_≡_};
-ghost use Rattle.rulesheet.specs.Clauses.{clauseMeans, applying};
+ghost use Rattle.rulesheet.specs.Clauses.{clauseMeans};
+ghost use Rattle.few.specs.Asked.{applying};
 ghost use Rattle.clause.specs.Read.{clauseIn, wordsIn, ClauseRead};
 ghost use Rattle.steps.specs.Turns.{TurnAsked, TurnedIn};
 use crate::children::counted_turn;
@@ -16,8 +17,8 @@ use crate::here::listed_turn;
 use crate::here::single_turn;
 use crate::members::additional_turn;
 use crate::members::named_turn;
+use few::applied_by;
 use rulesheet::clause::Clause;
-use rulesheet::few::applied_by;
 use rulesheet::form::ClauseRow;
 use rulesheet::form::RuleForm;
 use sheet::record::Pair;

@@ -36,7 +36,8 @@ use Rattle.rulesheet.specs.Ruleset.{Reach, properties, additionalProperties, pr
 use Rattle.rulesheet.specs.Codes.{entryName, entryMember}
 use Rattle.rulesheet.specs.Sheet.{schemasWord, schemaAt, entryAt, run, clauseOf, rulesOf}
 use Rattle.rulesheet.specs.Faults.{parts-max}
-use Rattle.rulesheet.specs.Clauses.{entriesOf, membersIn, clauseMeans, EntryNameRead, telling, applying, told, appliesAny}
+use Rattle.rulesheet.specs.Clauses.{entriesOf, membersIn, clauseMeans, EntryNameRead}
+use Rattle.few.specs.Asked.{telling, applying, told, appliesAny}
 use Rattle.rulesheet.specs.Read.{RulesLaid}
 use Rattle.rulesheet.proofs.Trailers.{facts, form-m, form-c, form-e}
 use Rattle.rulesheet.proofs.Taking.{schema-within}

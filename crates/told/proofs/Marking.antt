@@ -13,7 +13,7 @@ use borrow.Author.Tests.{eqb-true, eq-eqb}
 use Rattle.laws.proofs.Tests.{decide}
 use Rattle.sheet.specs.Doc.{Doc, firstChild}
 use Rattle.rulesheet.specs.Ruleset.{Clause, asserts, inPlace, ifThenElse, dependentSchemas, contains, takes, properties, additionalProperties, prefixItems, items, unevaluatedProperties, unevaluatedItems, Ruleset}
-use Rattle.rulesheet.specs.Clauses.{appliesAny}
+use Rattle.few.specs.Asked.{appliesAny}
 use Rattle.meaning.specs.Lists.{any, elem, keep, concatMap, range}
 use Rattle.meaning.specs.Rules.{Pair, Marks, nothing, these, Result, answer, Way, namesOf, to, under, called, membersOf, taken, clause}
 use Rattle.meaning.specs.Fit.{Fit}

@@ -8,7 +8,7 @@ use lib.ListN.{length, getD, take}
 use Rattle.sheet.specs.Doc.{Doc}
 use Rattle.rulesheet.specs.Ruleset as R
 use Rattle.rulesheet.specs.Ruleset.{takes, additionalProperties, items}
-use Rattle.rulesheet.specs.Clauses.{appliesAny}
+use Rattle.few.specs.Asked.{appliesAny}
 use Rattle.meaning.specs.Lists.{any, concatMap}
 use Rattle.meaning.specs.Rules.{namesOf, prefixOf, called}
 

@@ -2,7 +2,7 @@
 use mathlib.Core.Path.{ap, subst}
 use native.Mathlib.Omega.{arith}
 use Rattle.rulesheet.specs.declared.form.SchemaRow.{SchemaRow}
-use Rattle.rulesheet.specs.Clauses.{told}
+use Rattle.few.specs.Asked.{told}
 use Rattle.clause.specs.Read.{clauseIn, beforeIn}
 use Rattle.clause.proofs.Reading.{clause-low, clause-small, clause-read}
 use Rattle.told.specs.Read.{Started}

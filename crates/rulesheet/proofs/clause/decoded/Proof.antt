@@ -6,7 +6,7 @@ use Rattle.rulesheet.specs.Codes.{CodeLine, lineIn}
 use Rattle.rulesheet.specs.Sheet.{partsOf}
 use Rattle.rulesheet.proofs.Lines.{line-past, line-none}
 use Rattle.rulesheet.proofs.Meanings.{decodes}
-use Rattle.rulesheet.proofs.Asked.{types-decoded, minimum-decoded, maximum-decoded, above-decoded, below-decoded, min-length-decoded, max-length-decoded, min-items-decoded, max-items-decoded, min-properties-decoded, max-properties-decoded, all-of-decoded, any-of-decoded, one-of-decoded, not-of-decoded, ref-of-decoded, if-decoded, dependent-decoded, members-decoded, additional-decoded, prefix-decoded, items-decoded, contains-decoded, fresh-members-decoded, fresh-items-decoded}
+use Rattle.rulesheet.proofs.Decoding.{types-decoded, minimum-decoded, maximum-decoded, above-decoded, below-decoded, min-length-decoded, max-length-decoded, min-items-decoded, max-items-decoded, min-properties-decoded, max-properties-decoded, all-of-decoded, any-of-decoded, one-of-decoded, not-of-decoded, ref-of-decoded, if-decoded, dependent-decoded, members-decoded, additional-decoded, prefix-decoded, items-decoded, contains-decoded, fresh-members-decoded, fresh-items-decoded}
 use borrow.Author.Needs.{needs}
 use Rattle.rulesheet.proofs.clause.decoded.Statement.{statement}
 use Rattle.rulesheet.proofs.clause.decoded.Tie as tie

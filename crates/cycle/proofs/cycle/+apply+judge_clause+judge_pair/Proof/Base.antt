@@ -31,7 +31,7 @@ use Rattle.lent.proofs.shut.Reads as shut-reads
 use Rattle.lent.proofs.start.Reads as start-reads
 use Rattle.lent.proofs.turn.Reads as turn-reads
 use Rattle.lent.proofs.verdict_of.Reads as verdict-of-reads
-use Rattle.rulesheet.proofs.few.applies.Reads as applies-reads
+use Rattle.few.proofs.applies.Reads as applies-reads
 
 abbrev pub μ-apply : Measures 4 apply-kinds.ps ℕ
 μ-apply κs a =

@@ -1,10 +1,11 @@
 -- `applied_by` meets its contract: by its code each clause that is asked for, and no other. Assumes nothing.
 use mathlib.Core.Path.{refl}
-use Rattle.rulesheet.specs.Clauses.{applying}
-use Rattle.rulesheet.proofs.Meanings.{decodes, read-by, never-by}
-use Rattle.rulesheet.proofs.Asked.{all-of-decoded, any-of-decoded, one-of-decoded, not-of-decoded, ref-of-decoded, if-decoded, dependent-decoded, members-decoded, additional-decoded, prefix-decoded, items-decoded, contains-decoded, fresh-members-decoded, fresh-items-decoded, applying-few}
-use Rattle.rulesheet.proofs.few.applied_by.Statement.{statement}
-use Rattle.rulesheet.proofs.few.applied_by.Tie as tie
+use Rattle.rulesheet.proofs.Meanings.{decodes}
+use Rattle.rulesheet.proofs.Decoding.{all-of-decoded, any-of-decoded, one-of-decoded, not-of-decoded, ref-of-decoded, if-decoded, dependent-decoded, members-decoded, additional-decoded, prefix-decoded, items-decoded, contains-decoded, fresh-members-decoded, fresh-items-decoded}
+use Rattle.few.specs.Asked.{applying}
+use Rattle.few.proofs.Asking.{read-by, never-by, applying-few}
+use Rattle.few.proofs.applied_by.Statement.{statement}
+use Rattle.few.proofs.applied_by.Tie as tie
 
 returns : tie.Need-returns
 unfolding applying

@@ -1,146 +1,57 @@
 -- Clauses of a few codes.
---     types-decoded, minimum-decoded, maximum-decoded, above-decoded, below-decoded, min-length-decoded, max-length-decoded, min-items-decoded, max-items-decoded, min-properties-decoded, max-properties-decoded
---                       what each code is decoded to whose test a row's own words mostly tell
---     all-of-decoded, any-of-decoded, one-of-decoded, not-of-decoded, ref-of-decoded, if-decoded, dependent-decoded, members-decoded, additional-decoded, prefix-decoded, items-decoded, contains-decoded, fresh-members-decoded, fresh-items-decoded
---                       what each code that applies schemas is decoded to
+--     plain-by, plain-none     a clause that was read by its code, and one that was not
+--     read-by, never-by     a clause that was decoded was read as far as a question asks for it, and a code of which it is not asked as one that never holds
 --     quiet             what is asked of a few codes is not asked of a clause of another
 --     telling-few, told-few, applying-few, sparing-few     the few of each question
 --     applies-by     whether a clause applies schemas, by its code
 -- Assumes nothing.
+use mathlib.Core.Bool.{Bool, true, false, true≢false}
 use mathlib.Core.List.{List, [], _∷_}
 use mathlib.Core.Logic.{_⊎_, inl, inr, ⊎-elim}
-use mathlib.Core.Bool.{Bool, true, false, true≢false}
 use mathlib.Core.Path.{_≡_, refl, sym, ap, _∙_}
-use Prim.Native.Nat.{ℕ}
+use Prim.Native.Nat.{ℕ, _<_}
 use lib.Dec.{eqb, leb}
 use borrow.Author.Tests.{eqb-true}
-use Rattle.decimal.specs.declared.Decimal.{Decimal}
-use Rattle.decimal.specs.Value.{OfWord}
-use Rattle.sheet.specs.declared.record.RuleRow.{RuleRow}
 use Rattle.rulesheet.specs.declared.code.Fields.{Fields}
 use Rattle.rulesheet.specs.declared.code.Fields.the-variants.{Unknown}
+use Rattle.rulesheet.specs.declared.form.RuleForm.{RuleForm}
 use Rattle.rulesheet.specs.declared.form.ClauseRow.{ClauseRow}
-use Rattle.rulesheet.specs.declared.clause.Entries.{Entries}
-use Rattle.rulesheet.specs.declared.clause.Clause.the-variants.{Types, Minimum, Maximum, ExclusiveMinimum, ExclusiveMaximum, MinLength, MaxLength, MinItems, MaxItems, MinProperties, MaxProperties}
-use Rattle.rulesheet.specs.declared.clause.Clause.the-variants.{AllOf, AnyOf, OneOf, Not, Ref, IfThenElse, DependentSchemas, Properties, AdditionalProperties, PrefixItems, Items, Contains, UnevaluatedProperties, UnevaluatedItems}
+use Rattle.rulesheet.specs.declared.clause.Clause.{Clause}
+use Rattle.rulesheet.specs.declared.clause.Clause.the-variants.{Never}
 use Rattle.rulesheet.specs.Ruleset as R
-use Rattle.rulesheet.specs.Ruleset.{asserts, never, minimum, maximum, exclusiveMinimum, exclusiveMaximum}
+use Rattle.rulesheet.specs.Ruleset.{asserts, never}
 use Rattle.rulesheet.specs.Codes.{Parts, CodeLine, codes, unknown, pickLine, lineIn, shapeOf, meansOf}
 use Rattle.rulesheet.specs.Sheet.{schemasWord, clauseAt, partsOf, clauseOf}
 use Rattle.rulesheet.specs.Faults.{fieldsOk, fieldsAt, clauseFine}
-use Rattle.rulesheet.specs.Clauses.{Decoded, telling, applying, told, sparing, appliesAny}
+use Rattle.rulesheet.specs.Clauses.{clauseMeans, Decoded}
 use Rattle.rulesheet.proofs.Reaching.{Every, done, and, in-table}
 use Rattle.rulesheet.proofs.Taking.{clause-facts}
+use Rattle.rulesheet.proofs.Meanings.{means-by, tested-by}
+use Rattle.few.specs.Asked.{telling, applying, told, sparing, appliesAny, PlainRead, ReadBy}
 
--- ---- what a code is decoded to
+-- ---- a clause that was read by its words
 
-module _ (first count : ℕ) where
-  abbrev entries : Entries
-  entries = record { first = first; count = count }
+pub plain-by : (ws : List ℕ) (form : RuleForm) (k : ℕ) → k < form .c → (row : ClauseRow) → row ≡ clauseAt ws k → (clause : Clause) → Decoded (row .code) (row .first) (row .count) clause → PlainRead ws form k clause
+plain-by ws form k h row read clause d = record { means = λ known. means-by ws k row read clause d; tested = tested-by ws form k h row read clause d }
 
-  abbrev schema : RuleRow
-  schema = record { 0 = first }
+pub plain-none : {ws : List ℕ} {form : RuleForm} {k : ℕ} → PlainRead ws form k Never
+plain-none = record { means = λ known. absurd (known refl); tested = record { bounded = λ laid. tt; sized = λ laid. tt; listed = λ laid. tt } }
 
-  pub types-decoded : Decoded 2 first count (Types first)
-  unfolding lineIn
-  types-decoded = record { means = λ ws ts. refl; holds = tt }
+module _ (f : R.Clause → R.Clause) {row : ClauseRow} where
+  pub read-by : {clause : Clause} → Decoded (row .code) (row .first) (row .count) clause → ((ws ts : List ℕ) → clauseMeans ws ts clause ≡ f (clauseMeans ws ts clause)) → ReadBy f row clause
+  read-by {clause} d kept =
+      record {
+        means = λ ws ts k read. kept ws ts ∙ ap f (means-by ws k row read clause d ts);
+        tested = λ ws form k h read. tested-by ws form k h row read clause d;
+      }
 
-  module _ {d : Decimal} (o : OfWord first count d) where
-    pub minimum-decoded : Decoded 10 first count (Minimum d)
-    unfolding lineIn
-    minimum-decoded = record { means = λ ws ts. ap (λ z. asserts (minimum z)) (o .means); holds = (o, inl refl) }
-
-    pub maximum-decoded : Decoded 11 first count (Maximum d)
-    unfolding lineIn
-    maximum-decoded = record { means = λ ws ts. ap (λ z. asserts (maximum z)) (o .means); holds = (o, inl refl) }
-
-    pub above-decoded : Decoded 12 first count (ExclusiveMinimum d)
-    unfolding lineIn
-    above-decoded = record { means = λ ws ts. ap (λ z. asserts (exclusiveMinimum z)) (o .means); holds = (o, inl refl) }
-
-    pub below-decoded : Decoded 13 first count (ExclusiveMaximum d)
-    unfolding lineIn
-    below-decoded = record { means = λ ws ts. ap (λ z. asserts (exclusiveMaximum z)) (o .means); holds = (o, inl refl) }
-
-  pub min-length-decoded : Decoded 20 first count (MinLength first)
-  unfolding lineIn
-  min-length-decoded = record { means = λ ws ts. refl; holds = tt }
-
-  pub max-length-decoded : Decoded 21 first count (MaxLength first)
-  unfolding lineIn
-  max-length-decoded = record { means = λ ws ts. refl; holds = tt }
-
-  pub min-items-decoded : Decoded 22 first count (MinItems first)
-  unfolding lineIn
-  min-items-decoded = record { means = λ ws ts. refl; holds = tt }
-
-  pub max-items-decoded : Decoded 23 first count (MaxItems first)
-  unfolding lineIn
-  max-items-decoded = record { means = λ ws ts. refl; holds = tt }
-
-  pub min-properties-decoded : Decoded 24 first count (MinProperties first)
-  unfolding lineIn
-  min-properties-decoded = record { means = λ ws ts. refl; holds = tt }
-
-  pub max-properties-decoded : Decoded 25 first count (MaxProperties first)
-  unfolding lineIn
-  max-properties-decoded = record { means = λ ws ts. refl; holds = tt }
-
-  pub all-of-decoded : Decoded 30 first count (AllOf entries)
-  unfolding lineIn
-  all-of-decoded = record { means = λ ws ts. refl; holds = (refl, refl, refl, refl) }
-
-  pub any-of-decoded : Decoded 31 first count (AnyOf entries)
-  unfolding lineIn
-  any-of-decoded = record { means = λ ws ts. refl; holds = (refl, refl, refl, refl) }
-
-  pub one-of-decoded : Decoded 32 first count (OneOf entries)
-  unfolding lineIn
-  one-of-decoded = record { means = λ ws ts. refl; holds = (refl, refl, refl, refl) }
-
-  pub not-of-decoded : Decoded 33 first count (Not schema)
-  unfolding lineIn
-  not-of-decoded = record { means = λ ws ts. refl; holds = (refl, refl) }
-
-  pub ref-of-decoded : Decoded 34 first count (Ref schema)
-  unfolding lineIn
-  ref-of-decoded = record { means = λ ws ts. refl; holds = (refl, refl) }
-
-  pub if-decoded : Decoded 36 first count (IfThenElse entries)
-  unfolding lineIn
-  if-decoded = record { means = λ ws ts. refl; holds = (refl, refl, refl, refl) }
-
-  pub dependent-decoded : Decoded 37 first count (DependentSchemas entries)
-  unfolding lineIn
-  dependent-decoded = record { means = λ ws ts. refl; holds = (refl, refl, refl, refl) }
-
-  pub members-decoded : Decoded 40 first count (Properties entries)
-  unfolding lineIn
-  members-decoded = record { means = λ ws ts. refl; holds = (refl, refl, refl, refl) }
-
-  pub additional-decoded : Decoded 42 first count (AdditionalProperties schema)
-  unfolding lineIn
-  additional-decoded = record { means = λ ws ts. refl; holds = (refl, refl) }
-
-  pub prefix-decoded : Decoded 43 first count (PrefixItems entries)
-  unfolding lineIn
-  prefix-decoded = record { means = λ ws ts. refl; holds = (refl, refl, refl, refl) }
-
-  pub items-decoded : Decoded 44 first count (Items schema)
-  unfolding lineIn
-  items-decoded = record { means = λ ws ts. refl; holds = (refl, refl) }
-
-  pub contains-decoded : Decoded 45 first count (Contains entries)
-  unfolding lineIn
-  contains-decoded = record { means = λ ws ts. refl; holds = (refl, refl, refl, refl) }
-
-  pub fresh-members-decoded : Decoded 60 first count (UnevaluatedProperties schema)
-  unfolding lineIn
-  fresh-members-decoded = record { means = λ ws ts. refl; holds = (refl, refl) }
-
-  pub fresh-items-decoded : Decoded 61 first count (UnevaluatedItems schema)
-  unfolding lineIn
-  fresh-items-decoded = record { means = λ ws ts. refl; holds = (refl, refl) }
+  pub never-by : ((p : Parts) → f (meansOf (row .code) p) ≡ asserts never) → ReadBy f row Never
+  unfolding clauseOf
+  never-by quiet =
+      record {
+        means = λ ws ts k read. sym (quiet (partsOf ws ts (row .first) (row .count))) ∙ rw read;
+        tested = λ ws form k h read. record { bounded = λ laid. tt; sized = λ laid. tt; listed = λ laid. tt };
+      }
 
 -- ---- a clause of another code
 

@@ -1,19 +1,22 @@
 // Clauses of a few codes. Who asks a clause one thing reads only the codes that matter for it, so that
 // reading and asking become one dispatch; each clause of another code reads as `Clause::Never`.
+//
+// Its contracts cite `specs/Asked.antt`.
 ghost use mathlib.Core.Bool.{true};
 ghost use mathlib.Core.List.{List};
 ghost use mathlib.Core.Path.{_≡_};
 ghost use Prim.Native.Nat.{ℕ, _<_};
 ghost use Rattle.rulesheet.specs.Sheet.{clauseAt, clauseOf};
 ghost use Rattle.rulesheet.specs.Faults.{clauseFine};
 ghost use Rattle.rulesheet.specs.Read.{RulesFormed};
-ghost use Rattle.rulesheet.specs.Clauses.{clauseMeans, Tested, PlainRead, ReadBy, telling, applying, told, sparing, appliesAny};
-use crate::clause::Clause;
-use crate::clause::Entries;
-use crate::form::ClauseRow;
-use crate::form::RuleForm;
-use crate::form::clause_at;
+ghost use Rattle.rulesheet.specs.Clauses.{clauseMeans, Tested};
+ghost use Rattle.few.specs.Asked.{telling, applying, told, sparing, appliesAny, PlainRead, ReadBy};
 use decimal::Decimal;
+use rulesheet::clause::Clause;
+use rulesheet::clause::Entries;
+use rulesheet::form::ClauseRow;
+use rulesheet::form::RuleForm;
+use rulesheet::form::clause_at;
 use sheet::record::RuleRow;
 
 // Clause k if it tells something to those after it.

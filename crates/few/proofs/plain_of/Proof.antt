@@ -1,9 +1,10 @@
 -- `plain_of` meets its contract: by its code each clause that is asked for, and no other. Assumes nothing.
-use Rattle.rulesheet.proofs.Meanings.{decodes, plain-by, plain-none}
-use Rattle.rulesheet.proofs.Asked.{types-decoded, minimum-decoded, maximum-decoded, above-decoded, below-decoded, min-length-decoded, max-length-decoded, min-items-decoded, max-items-decoded, min-properties-decoded, max-properties-decoded}
+use Rattle.rulesheet.proofs.Meanings.{decodes}
+use Rattle.rulesheet.proofs.Decoding.{types-decoded, minimum-decoded, maximum-decoded, above-decoded, below-decoded, min-length-decoded, max-length-decoded, min-items-decoded, max-items-decoded, min-properties-decoded, max-properties-decoded}
+use Rattle.few.proofs.Asking.{plain-by, plain-none}
 use borrow.Author.Needs.{needs}
-use Rattle.rulesheet.proofs.few.plain_of.Statement.{statement}
-use Rattle.rulesheet.proofs.few.plain_of.Tie as tie
+use Rattle.few.proofs.plain_of.Statement.{statement}
+use Rattle.few.proofs.plain_of.Tie as tie
 
 clause-at-requires : tie.Need-clause-at-requires
 clause-at-requires c κs = search needs

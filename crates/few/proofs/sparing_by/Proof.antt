@@ -1,10 +1,11 @@
 -- `sparing_by` meets its contract: by its code each clause that is asked for, and no other. Assumes nothing.
 use mathlib.Core.Path.{refl}
-use Rattle.rulesheet.specs.Clauses.{sparing}
-use Rattle.rulesheet.proofs.Meanings.{decodes, read-by, never-by}
-use Rattle.rulesheet.proofs.Asked.{any-of-decoded, one-of-decoded, not-of-decoded, if-decoded, contains-decoded, sparing-few}
-use Rattle.rulesheet.proofs.few.sparing_by.Statement.{statement}
-use Rattle.rulesheet.proofs.few.sparing_by.Tie as tie
+use Rattle.rulesheet.proofs.Meanings.{decodes}
+use Rattle.rulesheet.proofs.Decoding.{any-of-decoded, one-of-decoded, not-of-decoded, if-decoded, contains-decoded}
+use Rattle.few.specs.Asked.{sparing}
+use Rattle.few.proofs.Asking.{read-by, never-by, sparing-few}
+use Rattle.few.proofs.sparing_by.Statement.{statement}
+use Rattle.few.proofs.sparing_by.Tie as tie
 
 returns : tie.Need-returns
 unfolding sparing
