@@ -32,18 +32,11 @@ use Rattle.plan.proofs.Folds.{or-no, tally-few, done-picked}
 use Rattle.plan.proofs.Plans.{Aimed, applied-is, holds-is, marks-is, go-is, go-same, aimed}
 use Rattle.lent.specs.Lent.{Case, Fits, InCase, Kid, firstKid, kidCount, clausesOf, clauseAt, beforeOf, handedOn, HandsOn, givenOn}
 use Rattle.lent.proofs.Reading.{pairs-few}
+use Rattle.cycle.specs.Steps.{Going, aims, stopped, fresh, carries, goes, keeps, many, Stepped}
 use Rattle.cycle.specs.declared.cycle.Done.{Done}
 use Rattle.cycle.specs.State.{rankOf, truthOf, settleOf, bitsOf, overlay, Areas, Quiet, Ready, WhereDone, Judged, ClauseJudged}
 use Rattle.cycle.proofs.Pairs.{settle-self, settle-still, settle-new, settle-grows}
 use Rattle.cycle.proofs.State.{cond-else, not-same, overlay-self, overlay-other, areas-bits, areas-marks, areas-self, areas-free, areas-unsettled, areas-cell, areas-then, areas-mark}
-
--- p is in progress: its marks are κ, and `done` are settled. No pair below p that is not settled has marks
-pub record Going (T : Case) (p : Pair) (held : Pair → Marks) (l₀ : List ℕ) (done : List Pair) (κ : Marks) (cells list : List ℕ) (count : ℕ) : Type 0 where
-  pub fit : Fits T
-  pub inside : InCase T p
-  pub areas : Areas T done (overlay p κ held) l₀ cells list count
-  pub free : listed p done ≡ false
-  pub quiet : Quiet T (rankOf T p) done held
 
 lower-other : (T : Case) (p q : Pair) → rankOf T q < rankOf T p → samePair q p ≡ false
 lower-other T p q h = not-same p q (λ e. let z : rankOf T q ≡ rankOf T p = ap (rankOf T) e in omega arith)
@@ -211,38 +204,6 @@ module _ {T : Case} {p : Pair} {held : Pair → Marks} {l₀ : List ℕ} {done :
       }
 
 -- ---- the steps of a clause
-
-module _ (T : Case) (p : Pair) (cl : ℕ) where
-  abbrev pub aims : ℕ → Pair
-  aims i = aimOf (T .doc) p (beforeOf T p cl) (clauseAt T p cl) i
-
-  -- what is carried stops the clause; a step goes by the marks, at what is carried
-  abbrev pub stopped : ℕ → Bool
-  stopped t = stopsBy (wayOf (T .way) (clauseAt T p cl)) t
-
-  abbrev pub fresh : Marks → ℕ → ℕ → Bool
-  fresh κ i t = goOf (T .doc) p (beforeOf T p cl) (clauseAt T p cl) i (κ (aims i .row)) t
-
-  -- what is carried to step i, and whether it goes
-  abbrev pub carries : Marks → ℕ → ℕ
-  carries κ i = tallyBy (truthOf T) (λ x t. not (stopped t) && fresh κ x t) aims (moved (countsHits (clauseAt T p cl)) (branches (clauseAt T p cl))) i
-
-  abbrev pub goes : Marks → ℕ → Bool
-  goes κ i = not (stopped (carries κ i)) && fresh κ i (carries κ i)
-
-  -- the clause keeps the marks of all that it applies, or of what holds
-  abbrev pub keeps : Bool
-  keeps = not (countsHits (clauseAt T p cl))
-
-  abbrev pub many : ℕ
-  many = stepsOf (T .doc) p (beforeOf T p cl) (clauseAt T p cl)
-
--- i steps of the clause were taken, and `tally` is carried
-pub record Stepped (T : Case) (p : Pair) (cl : ℕ) (d₀ : List Pair) (c₀ l₀ : List ℕ) (i : ℕ) (cells list : List ℕ) (count tally : ℕ) : Type 0 where
-  pub going :
-      Going T p (bitsOf (T .m) c₀) l₀ (doneBy (settleOf T) (goes T p cl (bitsOf (T .m) c₀ p)) (aims T p cl) d₀ i)
-      (marksBy (truthOf T) p (keeps T p cl) (goes T p cl (bitsOf (T .m) c₀ p)) (aims T p cl) (bitsOf (T .m) c₀ p) i) cells list count
-  pub carried : tally ≡ carries T p cl (bitsOf (T .m) c₀ p) i
 
 pub stepped-none : {T : Case} {p : Pair} {cl : ℕ} {c l : List ℕ} {n : ℕ} (a : Ready T (rankOf T p) p c l n) → Unsettled (T .m) p c → Stepped T p cl (a .done) c l 0 c l n 0
 unfolding doneBy marksBy tallyBy

@@ -5,3 +5,4 @@ pub mod Claused
 pub mod Turning
 pub mod Testing
 pub mod Named
+pub mod Lines

@@ -25,9 +25,10 @@ use Rattle.told.proofs.Earlier.{named-append}
 use Rattle.told.proofs.Marking.{named-marks, member-elem}
 use Rattle.steps.specs.Turns.{NamesMarked}
 use Rattle.lent.specs.Lent.{Case, clausesOf, clauseAt, beforeOf}
+use Rattle.cycle.specs.Steps.{Stepped, goes}
 use Rattle.cycle.specs.State.{truthOf, bitsOf, Named}
 use Rattle.cycle.proofs.Pairs.{resAt, both, start, res-stays, res-next, one-before}
-use Rattle.cycle.proofs.Going.{Stepped, goes, going-bits, open-bits}
+use Rattle.cycle.proofs.Going.{going-bits, open-bits}
 use Rattle.cycle.proofs.Claused.{Clausing}
 
 module _ (T : Case) (p : Pair) where

@@ -27,10 +27,11 @@ use Rattle.told.specs.Read.{Started}
 use Rattle.steps.specs.Turns.{Skipped, Turned}
 use Rattle.lent.specs.Lent.{Case, Fits, InCase, firstKid, kidCount, clausesOf, clauseAt, beforeOf, Turns, TurnsTo, nextAt, HandsOn, givenOn}
 use Rattle.lent.proofs.Reading.{pairs-few}
+use Rattle.cycle.specs.Steps.{many, aims, stopped, fresh, goes, Stepped, Standing}
 use Rattle.cycle.specs.declared.cycle.Done.{Done}
 use Rattle.cycle.specs.State.{Named, rankOf, bitsOf, Areas, Ready, WhereDone, Judged, ClauseJudged}
 use Rattle.cycle.proofs.State.{areas-cell}
-use Rattle.cycle.proofs.Going.{Aim, many, aims, stopped, fresh, goes, Stepped, ready-as, stepped-none, stepped-few, stepped-go, stepped-goes, stepped-aim, stepped-skips, stepped-stops, stepped-went, stepped-hands, stepped-end, going-unsettled, going-ready, going-aimed, going-apply}
+use Rattle.cycle.proofs.Going.{Aim, ready-as, stepped-none, stepped-few, stepped-go, stepped-goes, stepped-aim, stepped-skips, stepped-stops, stepped-went, stepped-hands, stepped-end, going-unsettled, going-ready, going-aimed, going-apply}
 use Rattle.laws.proofs.Tests.{decide}
 use Rattle.plan.proofs.Plans.{Aimed, after-miss}
 use Rattle.cycle.proofs.Pairs.{resAt}
@@ -43,12 +44,6 @@ pub record Turning (T : Case) (p : Pair) (cl : ℕ) (d₀ : List Pair) (c₀ l�
   pub goes-on : at .go ≡ true → Stepped T p cl d₀ c₀ l₀ (at .step) cells list count tally
       × ((at .step < many T p cl) × (at .step < 4294967295) × (true ≡ goes T p cl (bitsOf (T .m) c₀ p) (at .step)) × (pairIs (at .pair) ≡ aims T p cl (at .step)) × (at .hits ≡ countsHits (clauseAt T p cl)) × (at .branch ≡ branches (clauseAt T p cl)))
   pub ends : at .go ≡ false → Stepped T p cl d₀ c₀ l₀ (many T p cl) cells list count tally
-
--- x of its steps are taken; none is left if what is carried has stopped it
-pub record Standing (T : Case) (p : Pair) (cl : ℕ) (d₀ : List Pair) (c₀ l₀ : List ℕ) (x : ℕ) (cells list : List ℕ) (count tally : ℕ) : Type 0 where
-  pub steps : Stepped T p cl d₀ c₀ l₀ x cells list count tally
-  pub low : x ≤ many T p cl
-  pub unstopped : x < many T p cl → stopped T p cl tally ≡ false
 
 pub turning : {T : Case} {p : Pair} {cl : ℕ} {d₀ : List Pair} {c₀ l₀ : List ℕ} {x : ℕ} {c l : List ℕ} {n tally : ℕ} {at : Turn} → Standing T p cl d₀ c₀ l₀ x c l n tally
     → Turned (T .doc) p (beforeOf T p cl) (clauseAt T p cl) x (column (T .m) c (p .rule)) tally at → Turning T p cl d₀ c₀ l₀ c l n tally at

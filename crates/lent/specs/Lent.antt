@@ -139,6 +139,11 @@ pub record ReadsClause (words texts : List (RefT (List ℕ))) (forms : List ℕ)
   pub reads : Reads words texts forms p
   pub clause-in : i < schemaAt (lent words 1) (p .rule) .count
 
+-- none of the n rows from q's on is settled by its schema, and each passes all its `many` clauses, which are tests
+pub record RowsPass (T : Case) (q : Pair) (many n : ℕ) (cells : List ℕ) : Type 0 where
+  pub unsettled : (k : ℕ) → k < n → Unsettled (T .m) (pair (q .row + k) (q .rule)) cells
+  pub passed : (k : ℕ) → k < n → PassesFirst T (pair (q .row + k) (q .rule)) many many
+
 -- clause i of p applies schemas
 abbrev pub Applying : Case → Pair → ℕ → Type 0
 Applying T p i = (t : Test) → clauseAt T p i ≡ asserts t → ⊥
