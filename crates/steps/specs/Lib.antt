@@ -1,2 +1,3 @@
 -- In reading order.
 pub mod Turns
+pub mod Lines

@@ -3,5 +3,6 @@
 mod children;
 pub mod finish;
 mod here;
+pub mod line;
 mod members;
 pub mod turn;
