@@ -40,7 +40,7 @@ returns c =
     let r = c .children-line2 .result in (
       λ ts rs us form asked read.
           let told = started-as rs us _ (start .args .clause) _ is (read .means) (asked .started) in
-          lined-as (r .first) (r .count) (r .rule .0) rs us (start .args .clause) _ is (all-lined (docOf (start .args .«record» .now) ts) (pairIs (start .args .p)) _ _ 0 (c .before .members-in .result) r (line .count-is) (λ h. line .first-is h ts) (line .rule-is) (none-named _ asked told (c .before .before .if1 .taken)) refl (c .before .members-in .ensures ts)),
+          lined-as (r .first) (r .count) (r .rule .0) rs us (start .args .clause) _ is (all-lined (docOf (start .args .«record» .now) ts) (pairIs (start .args .p)) _ _ 0 (c .before .members-in .result) r (line .count-is) (λ h. line .first-is h ts) (line .rule-is) (none-named _ asked told (omega (arith, c .before .before .if1 .taken))) refl (c .before .members-in .ensures ts)),
       c .children-line2 .ensures .1,
     )
 
