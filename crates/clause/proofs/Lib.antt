@@ -7,3 +7,4 @@ pub mod Naming
 pub mod Equality
 pub mod Asserting
 pub mod Telling
+pub mod Firsts

@@ -77,6 +77,11 @@ pub record PassedFirst (d : Doc) (j : ℕ) (clauses : ℕ → R.Clause) (n r : �
   pub within : r ≤ n
   pub passed : (k : ℕ) → k < r → Tries d j (clauses k) true
 
+-- the first r of the n rows from `row` on are So
+pub record FirstRows (row n r : ℕ) (So : ℕ → Type 0) : Type 0 where
+  pub within : r ≤ n
+  pub each : (k : ℕ) → k < r → So (row + k)
+
 -- ---- types, numbers and sizes on the way to a test
 
 -- 01's number of the type that the rows of a kind have; a whole number is an integer besides

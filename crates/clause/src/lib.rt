@@ -1,6 +1,7 @@
 // The assertions of one clause on one row. Rows and clauses are read by `sheet` and `rulesheet`:
 // nothing here knows that sheets are words. Whoever tries a clause must show that the pair's cell is
-// unsettled (`test::passes_clause`, `plain::plainly_passed`); what asks less is private to this crate.
+// unsettled (`test::passes_clause`, `plain::plainly_passed`, `rows::rows_passed`); what asks less is
+// private to this crate.
 //
 // Its contracts cite the tests of `meaning` (`specs/Tests.antt`, `specs/Rules.antt`) and
 // `specs/Read.antt`.
@@ -9,6 +10,7 @@ pub mod members;
 mod numbers;
 pub mod plain;
 pub mod read;
+pub mod rows;
 pub mod sizes;
 pub mod test;
 mod types;
