@@ -18,6 +18,7 @@ ghost use mathlib.Core.Path.{_≡_};
 ghost use Prim.Native.Nat.{_+_, _≤_, _<_};
 ghost use Rattle.rulesheet.specs.Sheet.{schemaAt};
 ghost use Rattle.areas.specs.Cells.{pairIs, Unsettled};
+ghost use Rattle.told.specs.Read.{Started};
 ghost use Rattle.steps.specs.Lines.{InLine};
 ghost use Rattle.lent.specs.Lent.{lent, Lent, lentCase, clauseAt, beforeOf, rowOf, PassesFirst, RowsPass, Applying};
 ghost use Rattle.cycle.specs.State.{Named, rankOf, Ready, Judged, ClauseJudged};
@@ -30,10 +31,12 @@ use lent::clauses_of;
 use lent::finish;
 use lent::give;
 use lent::holds;
+use lent::line;
 use lent::moved;
 use lent::next_clause;
 use lent::next_step;
 use lent::plain;
+use lent::plain_rows;
 use lent::schemas_of;
 use lent::shut;
 use lent::start;
@@ -42,6 +45,7 @@ use lent::verdict_of;
 use rulesheet::form::ClauseRow;
 use sheet::record::Pair;
 use sheet::record::RecordRow;
+use sheet::record::wide;
 
 // What judging a clause gives: whether it holds, and how many pairs are settled by then.
 pub struct Done {
@@ -157,6 +161,40 @@ fn settle_line<'a, 'b>(
     }
 }
 
+// Settles those of the first steps of clause i of the pair p that stand in a line and of which the rows'
+// own words tell that they hold. The answer is how many.
+fn in_line<'a, 'b>(
+    sheets: &'a [&'b [u32]; 2],
+    texts: &'a [&'b [u8]; 2],
+    forms: &'a [usize; 9],
+    cells: &mut [u8],
+    list: &mut [u32],
+    count: usize,
+    p: Pair,
+    i: u32,
+    row: ClauseRow,
+    from: u32,
+) -> u32
+    requires { ⌜ Lent (now sheets) (now texts) (now forms) ⌝ }
+    requires { ⌜ Ready (lentCase (now sheets) (now texts) (now forms)) (rankOf (lentCase (now sheets) (now texts) (now forms)) (pairIs p)) (pairIs p) (now cells) (now list) count ⌝ }
+    requires { ⌜ Unsettled (lentCase (now sheets) (now texts) (now forms) .m) (pairIs p) (now cells) × (i < schemaAt (lent (now sheets) 1) (p .rule .0) .count) ⌝ }
+    requires { ⌜ (row ≡ rowOf (now sheets) (pairIs p) i) × Started (beforeOf (lentCase (now sheets) (now texts) (now forms)) (pairIs p) i) (clauseAt (lentCase (now sheets) (now texts) (now forms)) (pairIs p) i) from ⌝ }
+    ensures { λ r. ⌜ StandsAt (lentCase (now (sheets .entry)) (now (texts .entry)) (now (forms .entry))) (pairIs p) i (now (cells .entry)) (now (list .entry)) count r (now (cells .exit)) (now (list .exit)) ⌝ }
+{
+    let at = line(sheets, texts, forms, p, i, row, from);
+    if at.count == 0 {
+        return 0;
+    }
+    let rule = at.rule;
+    let q = Pair {
+        row: RecordRow(at.first),
+        rule: rule,
+    };
+    let n = plain_rows(sheets, texts, forms, cells, q, at.count);
+    settle_line(sheets, texts, forms, cells, list, count, p, i, q, n);
+    n
+}
+
 // Judges clause i of a pair that is not settled, which applies schemas and has the words `row`: one pair
 // after the other.
 fn judge_clause<'a, 'b>(
@@ -179,8 +217,8 @@ fn judge_clause<'a, 'b>(
 {
     let from = start(sheets, texts, forms, p, i);
     let mut tally = 0;
-    let mut now = count;
-    let mut x = 0;
+    let mut x = in_line(sheets, texts, forms, cells, list, count, p, i, row, from);
+    let mut now = count + wide(x);
     loop {
         let at = turn(sheets, texts, forms, cells, p, i, row, from, x, tally);
         if !at.go {

@@ -6,7 +6,7 @@
 // The contracts cite `specs/Lent.antt`.
 ghost use mathlib.Core.Path.{_≡_};
 ghost use mathlib.Core.Bool.{cond};
-ghost use Prim.Native.Nat.{_+_, _≤_, _<_};
+ghost use Prim.Native.Nat.{ℕ, _+_, _*_, _≤_, _<_};
 ghost use lib.ListN.{length, getD};
 ghost use Rattle.rulesheet.specs.Read.{RulesFormed};
 ghost use Rattle.rulesheet.specs.Sheet.{schemaAt};
@@ -14,12 +14,15 @@ ghost use Rattle.areas.specs.Cells.{pairIs, cellAt, verd, Unsettled};
 ghost use Rattle.rulesheet.specs.Ruleset.{Test, asserts};
 ghost use Rattle.meaning.specs.Rules.{passes};
 ghost use Rattle.plan.specs.Plan as P;
+ghost use Rattle.clause.specs.Read.{FirstRows};
 ghost use Rattle.told.specs.Read.{Started};
-ghost use Rattle.lent.specs.Lent.{wayBy, lent, wayWord, formsOf, recordFormIn, ruleFormIn, wayLent, goesOn, FormsFit, lentCase, clauseAt, beforeOf, rowOf, PassesFirst, Reads, ReadsClause, Applying, Turns, TurnsTo, finishAt, nextAt, WritesMarks, MarksWritten, kept, Hands, givenOn};
+ghost use Rattle.steps.specs.Lines.{InLine};
+ghost use Rattle.lent.specs.Lent.{pair, Lent, RowsPass, wayBy, lent, wayWord, formsOf, recordFormIn, ruleFormIn, wayLent, goesOn, FormsFit, lentCase, clauseAt, beforeOf, rowOf, PassesFirst, Reads, ReadsClause, Applying, Turns, TurnsTo, finishAt, nextAt, WritesMarks, MarksWritten, kept, Hands, givenOn};
 use areas::add_marks;
 use areas::take_marks;
 use areas::write_mark;
 use clause::plain::plainly_passed;
+use clause::rows::rows_passed;
 use clause::test::passes_clause;
 use rulesheet::form::ClauseRow;
 use rulesheet::form::RuleForm;
@@ -27,11 +30,14 @@ use rulesheet::form::clause_at;
 use rulesheet::form::schema_at;
 use sheet::record::Pair;
 use sheet::record::RecordForm;
+use sheet::record::RecordRow;
 use sheet::record::RuleRow;
 use sheet::record::children_of;
 use sheet::record::wide;
 use steps::finish::after_miss;
 use steps::finish::finish_of;
+use steps::line::Line;
+use steps::line::line_of;
 use steps::turn::Turn;
 use steps::turn::turn_of;
 use told::start_of;
@@ -215,6 +221,60 @@ pub fn plain<'a, 'b>(
     )
 }
 
+// How many of the n rows from q's on are not settled by q's schema, one after the other.
+fn unsettled_rows(cells: &[u8], m: usize, q: Pair, n: u32) -> u32
+    requires { ⌜ (q .row .0 + n < 4294967296) × (length (now cells) < 4294967296) ⌝ }
+    requires { ⌜ ((k : ℕ) → k < n → cellAt m (pair (q .row .0 + k) (q .rule .0)) < length (now cells)) ⌝ }
+    ensures { λ r. ⌜ FirstRows (q .row .0) n r (λ j. Unsettled m (pair j (q .rule .0)) (now (cells .entry))) ⌝ }
+{
+    let first = q.row.0;
+    let rule = q.rule;
+    let mut k = 0;
+    while k < n {
+        let at = Pair {
+            row: RecordRow(first + k),
+            rule: rule,
+        };
+        if areas::verdict_of(cells, m, at) != 0 {
+            return k;
+        }
+        k += 1;
+    }
+    k
+}
+
+// How many of the n rows from q's on are not settled by q's schema and pass all its clauses, as their
+// own words tell, one after the other.
+pub fn plain_rows<'a, 'b>(
+    sheets: &'a [&'b [u32]; 2],
+    texts: &'a [&'b [u8]; 2],
+    forms: &'a [usize; 9],
+    cells: &[u8],
+    q: Pair,
+    n: u32,
+) -> u32
+    requires { ⌜ Lent (now sheets) (now texts) (now forms) × (q .row .0 + n ≤ lentCase (now sheets) (now texts) (now forms) .n) × (q .rule .0 < lentCase (now sheets) (now texts) (now forms) .m) ⌝ }
+    requires { ⌜ (lentCase (now sheets) (now texts) (now forms) .n * lentCase (now sheets) (now texts) (now forms) .m ≤ length (now cells)) × (length (now cells) < 4294967296) ⌝ }
+    ensures { λ r. ⌜ (r ≤ n) × RowsPass (lentCase (now (sheets .entry)) (now (texts .entry)) (now (forms .entry))) (pairIs q) (schemaAt (lent (now (sheets .entry)) 1) (q .rule .0) .count) r (now (cells .entry)) ⌝ }
+{
+    let form = record_form(forms);
+    let rule_form = rules_form(forms);
+    let many = clauses_of(sheets[RULES], forms, q.rule);
+    let open = unsettled_rows(cells, schemas_of(forms), q, n);
+    rows_passed(
+        sheets[RECORD],
+        texts[RECORD],
+        form,
+        sheets[RULES],
+        texts[RULES],
+        rule_form,
+        cells,
+        q,
+        open,
+        many,
+    )
+}
+
 // The words of clause i of the pair's schema.
 pub fn clause_row<'a, 'b>(
     sheets: &'a [&'b [u32]; 2],
@@ -278,6 +338,25 @@ pub fn start<'a, 'b>(
 {
     let rule_form = rules_form(forms);
     start_of(sheets[RULES], texts[RULES], rule_form, p.rule, i)
+}
+
+// Which of its first steps stand in a line.
+pub fn line<'a, 'b>(
+    sheets: &'a [&'b [u32]; 2],
+    texts: &'a [&'b [u8]; 2],
+    forms: &'a [usize; 9],
+    p: Pair,
+    i: u32,
+    row: ClauseRow,
+    from: u32,
+) -> Line
+    requires { ⌜ ReadsClause (now sheets) (now texts) (now forms) (pairIs p) i × (row ≡ rowOf (now sheets) (pairIs p) i) ⌝ }
+    requires { ⌜ Started (beforeOf (lentCase (now sheets) (now texts) (now forms)) (pairIs p) i) (clauseAt (lentCase (now sheets) (now texts) (now forms)) (pairIs p) i) from ⌝ }
+    ensures { λ r. ⌜ InLine (lentCase (now (sheets .entry)) (now (texts .entry)) (now (forms .entry)) .doc) (pairIs p) (beforeOf (lentCase (now (sheets .entry)) (now (texts .entry)) (now (forms .entry))) (pairIs p) i) (clauseAt (lentCase (now (sheets .entry)) (now (texts .entry)) (now (forms .entry))) (pairIs p) i) (r .first) (r .count) (r .rule .0) ⌝ }
+    ensures { λ r. ⌜ r .first + r .count ≤ lentCase (now (sheets .entry)) (now (texts .entry)) (now (forms .entry)) .n ⌝ }
+{
+    let form = record_form(forms);
+    line_of(sheets[RECORD], form, p, i, row, from)
 }
 
 // Where clause i of the pair stands once its first x steps are taken and `tally` is carried.
