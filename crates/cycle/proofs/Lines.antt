@@ -2,6 +2,8 @@
 --     line-turned                           the clause stands at each of them
 --     line-aim, line-open, line-judged, line-hands    what settling its pair asks, and handing on
 --     line-more, line-unsettled             one step more is taken, and those after it are as they were
+--     line-fewer                            fewer steps of a line
+--     areas-count, cells-room               there are few pairs
 -- Assumes nothing.
 use mathlib.Core.Bool.{Bool, true, false, not, _||_, cond}
 use mathlib.Core.List.{List, List·Memᴰ as Has}
@@ -11,19 +13,22 @@ use native.Mathlib.Omega.{arith}
 use lib.Dec.{eqb}
 use lib.ListN.{length, getD}
 use lib.Seq.{getD-set-same, getD-set-other}
+use Rattle.sheet.specs.Doc.{Doc}
 use Rattle.sheet.specs.declared.record.RecordRow.{RecordRow}
 use Rattle.sheet.specs.declared.record.RuleRow.{RuleRow}
+use Rattle.rulesheet.specs.Ruleset.{Clause}
 use Rattle.meaning.specs.Rules.{Pair, Marks, Way, whole, cut}
 use Rattle.areas.specs.Cells.{pairIs, cellAt, verd, Unsettled, settledAs}
 use Rattle.areas.specs.Writers.{Open, Shut, Marked}
-use Rattle.areas.proofs.Cells.{verd-settle, same-row}
+use Rattle.areas.proofs.Cells.{verd-settle, same-row, settled-le}
 use Rattle.plan.specs.Plan.{moved, wayOf, stopsBy, afterMiss}
 use Rattle.steps.specs.declared.turn.Turn.{Turn}
 use Rattle.steps.specs.Turns.{Turned}
 use Rattle.steps.specs.Lines.{InLine}
 use Rattle.steps.proofs.Turns.{at, goes-on, skipped-none}
-use Rattle.lent.specs.Lent.{Case, clausesOf, clauseAt, beforeOf, firstKid, kidCount, PassesFirst, HandsOn, givenOn, nextAt}
-use Rattle.cycle.specs.State.{rankOf, Ready, Judged}
+use Rattle.lent.specs.Lent.{Case, Fits, clausesOf, clauseAt, beforeOf, firstKid, kidCount, PassesFirst, HandsOn, givenOn, nextAt}
+use Rattle.lent.proofs.Reading.{pairs-few}
+use Rattle.cycle.specs.State.{rankOf, Areas, Ready, Judged}
 use Rattle.cycle.specs.Steps.{Standing}
 use Rattle.cycle.proofs.Going.{Aim}
 use Rattle.cycle.proofs.Turning.{Turning, turning, turning-aim, turning-ready, turning-hands, turning-more}
@@ -87,3 +92,27 @@ module _ (T : Case) (p : Pair) (cl : ℕ) {first n s : ℕ} (L : InLine (T .doc)
                 let low : rule .0 < T .m = line-aim .inside .rule-in in
                 let same : first + j ≡ row .0 = same-row (T .m) (first + j) s (row .0) (rule .0) (rw schema at low) low (z ∙ cell) in
                 omega arith
+
+-- fewer steps of a line
+pub line-fewer : {D : Doc} {p : Pair} {before : List Clause} {c : Clause} {first n r s : ℕ} → r ≤ n → InLine D p before c first n s → InLine D p before c first r s
+line-fewer h L =
+    let w = L .within in
+    record {
+      within = omega arith;
+      aims = λ x a. L .aims x (omega arith);
+      goes = λ x a. L .goes x (omega arith);
+      hits-none = λ a. L .hits-none (omega arith);
+      branches-none = λ a. L .branches-none (omega arith);
+    }
+
+-- no more pairs are settled than there are
+pub areas-count : {T : Case} {d : List Pair} {h : Pair → Marks} {l₀ c l : List ℕ} {n : ℕ} → Fits T → Areas T d h l₀ c l n → n < 4294967296
+areas-count {T} {c = c} fit A = omega (arith, pairs-few (T .n) (T .m) (fit .rows .few) (fit .few), A .long, A .counted, settled-le c)
+
+-- the cells are as many as there are pairs, and few
+pub cells-room : {T : Case} {t : ℕ} {p : Pair} {c l : List ℕ} {n : ℕ} → Ready T t p c l n → (T .n * T .m ≤ length c) × (length c < 4294967296)
+cells-room {T} R =
+    let A = R .areas in
+    let e = A .long in
+    let few = pairs-few (T .n) (T .m) (R .fit .rows .few) (R .fit .few) in
+    (omega arith, omega arith)

@@ -13,7 +13,7 @@ mod JudgeClause
 mod JudgePair
 use Rattle.cycle.proofs.cycle.+apply+judge_clause+judge_pair.Proof.Base.{μ-apply, μ-judge-clause, μ-judge-pair, apply-at, judge-clause-at, judge-pair-at, apply-claims, judge-clause-claims, judge-pair-claims}
 use Rattle.cycle.proofs.cycle.+apply+judge_clause+judge_pair.Proof.Apply.{apply-verdict-of-requires, apply-same-length, apply-returns, apply-element-copy-out-clauses-of, apply-clauses-of-requires, apply-plain-requires, apply-schemas-of-requires, apply-settle-requires, apply-same-length-2, apply-same-length-3, apply-returns-2, apply-judge-pair-requires, apply-same-length-4, apply-same-length-5, apply-returns-3}
-use Rattle.cycle.proofs.cycle.+apply+judge_clause+judge_pair.Proof.JudgeClause.{judge-clause-Inv-loop, judge-clause-μ-loop, judge-clause-start-requires, judge-clause-loop-holds, judge-clause-turn-requires, judge-clause-finish-requires, judge-clause-same-length, judge-clause-same-length-2, judge-clause-returns, judge-clause-apply-requires, judge-clause-verdict-of-requires, judge-clause-moved-requires, judge-clause-give-requires, judge-clause-next-step-requires, judge-clause-loop-less, judge-clause-loop-again}
+use Rattle.cycle.proofs.cycle.+apply+judge_clause+judge_pair.Proof.JudgeClause.{judge-clause-Inv-loop, judge-clause-μ-loop, judge-clause-start-requires, judge-clause-in-line-requires, judge-clause-wide-requires, judge-clause-add-now, judge-clause-loop-holds, judge-clause-turn-requires, judge-clause-finish-requires, judge-clause-same-length, judge-clause-same-length-2, judge-clause-returns, judge-clause-apply-requires, judge-clause-verdict-of-requires, judge-clause-moved-requires, judge-clause-give-requires, judge-clause-next-step-requires, judge-clause-loop-less, judge-clause-loop-again}
 use Rattle.cycle.proofs.cycle.+apply+judge_clause+judge_pair.Proof.JudgePair.{judge-pair-Inv-loop, judge-pair-μ-loop, judge-pair-element-copy-out-clauses-of, judge-pair-clauses-of-requires, judge-pair-loop-holds, judge-pair-clause-row-requires, judge-pair-applies-requires, judge-pair-judge-clause-requires, judge-pair-holds-requires, judge-pair-next-clause-requires, judge-pair-loop-less, judge-pair-loop-again, judge-pair-shut-requires, judge-pair-schemas-of-requires, judge-pair-settle-requires, judge-pair-same-length, judge-pair-same-length-2, judge-pair-returns}
 
 pub +apply+judge-clause+judge-pair-spec : {M : Type 1} → statement M
@@ -40,6 +40,9 @@ pub +apply+judge-clause+judge-pair-spec : {M : Type 1} → statement M
     judge-clause-Inv-loop
     judge-clause-μ-loop
     (judge-clause-start-requires t)
+    (judge-clause-in-line-requires t)
+    (judge-clause-wide-requires t)
+    (judge-clause-add-now t)
     (judge-clause-loop-holds t)
     (judge-clause-turn-requires t)
     (judge-clause-finish-requires t)

@@ -17,6 +17,8 @@ use Rattle.cycle.proofs.cycle.judge_pair.Reads as judge-pair
 use Rattle.cycle.proofs.cycle.judge_pair.Kinds as judge-pair-kinds
 use Rattle.cycle.proofs.cycle.+apply+judge_clause+judge_pair.Lts-judge_pair as judge-pair-lts
 use Rattle.areas.proofs.settle.Reads as settle-reads
+use Rattle.sheet.proofs.record.wide.Reads as wide-reads
+use Rattle.cycle.proofs.cycle.in_line.Reads as in-line-reads
 use Rattle.lent.proofs.clause_row.Reads as clause-row-reads
 use Rattle.lent.proofs.clauses_of.Reads as clauses-of-reads
 use Rattle.lent.proofs.finish.Reads as finish-reads
@@ -75,7 +77,7 @@ abbrev pub apply-claims : ℕ → apply-lts.Claims
 apply-claims t = (verdict-of-reads.Asked, verdict-of-reads.Learnt, clauses-of-reads.Asked, clauses-of-reads.Learnt, plain-reads.Asked, plain-reads.Learnt, schemas-of-reads.Asked, schemas-of-reads.Learnt, settle-reads.Asked, settle-reads.Learnt, judge-pair-below t, judge-pair.Post)
 
 abbrev pub judge-clause-claims : ℕ → judge-clause-lts.Claims
-judge-clause-claims t = (start-reads.Asked, start-reads.Learnt, turn-reads.Asked, turn-reads.Learnt, finish-reads.Asked, finish-reads.Learnt, apply-below t, apply.Post, verdict-of-reads.Asked, verdict-of-reads.Learnt, moved-reads.Asked, moved-reads.Learnt, give-reads.Asked, give-reads.Learnt, next-step-reads.Asked, next-step-reads.Learnt)
+judge-clause-claims t = (start-reads.Asked, start-reads.Learnt, in-line-reads.Asked, in-line-reads.Learnt, wide-reads.Asked, wide-reads.Learnt, turn-reads.Asked, turn-reads.Learnt, finish-reads.Asked, finish-reads.Learnt, apply-below t, apply.Post, verdict-of-reads.Asked, verdict-of-reads.Learnt, moved-reads.Asked, moved-reads.Learnt, give-reads.Asked, give-reads.Learnt, next-step-reads.Asked, next-step-reads.Learnt)
 
 abbrev pub judge-pair-claims : ℕ → judge-pair-lts.Claims
 judge-pair-claims t = (clauses-of-reads.Asked, clauses-of-reads.Learnt, clause-row-reads.Asked, clause-row-reads.Learnt, applies-reads.Asked, applies-reads.Learnt, judge-clause-below t, judge-clause.Post, holds-reads.Asked, holds-reads.Learnt, next-clause-reads.Asked, next-clause-reads.Learnt, shut-reads.Asked, shut-reads.Learnt, schemas-of-reads.Asked, schemas-of-reads.Learnt, settle-reads.Asked, settle-reads.Learnt)

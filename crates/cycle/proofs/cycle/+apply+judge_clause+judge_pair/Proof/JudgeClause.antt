@@ -1,4 +1,5 @@
 -- `judge_clause` meets its contract. Assumes nothing.
+use mathlib.Core.List.{List}
 use mathlib.Core.Path.{refl}
 use Prim.Native.Nat.{_-_}
 use native.Mathlib.Omega.{arith}
@@ -7,93 +8,113 @@ use borrow.Author.Tests.{not-true, not-false}
 use Rattle.areas.specs.Cells.{pairIs}
 use Rattle.lent.specs.Lent.{lentCase}
 use Rattle.lent.proofs.Reading.{clause-has, schemas-lent, reads-by, reads-clause}
-use Rattle.cycle.specs.Steps.{many, Standing}
+use Rattle.cycle.specs.Steps.{StandsAt, many, Standing}
 use Rattle.cycle.specs.State.{WhereDone}
 use Rattle.cycle.proofs.Claused.{cells-kept, list-kept}
-use Rattle.cycle.proofs.Turning.{standing-first, standing-asks, standing-turn, turning-low, turning-ahead, turning-aim, turning-ready, turning-cell, turning-hands, turning-more, turning-end, falls-by}
+use Rattle.cycle.proofs.Lines.{areas-count}
+use Rattle.cycle.proofs.Turning.{standing-asks, standing-turn, turning-low, turning-ahead, turning-aim, turning-ready, turning-cell, turning-hands, turning-more, turning-end, falls-by}
 use Prim.Native.Nat.{ℕ}
 use borrow.Fn.PlainCycle.{and}
 use Rattle.cycle.proofs.cycle.judge_clause.Reads as judge-clause
 use Rattle.cycle.proofs.cycle.+apply+judge_clause+judge_pair.Lts-judge_clause as judge-clause-lts
 use Rattle.cycle.proofs.cycle.+apply+judge_clause+judge_pair.Proof.Base.{judge-clause-at, judge-clause-claims}
 
+-- from wherever the clause began, if x₀ of its steps were taken before the loop
 abbrev pub judge-clause-Inv-loop : judge-clause-lts.InvT-loop
-judge-clause-Inv-loop sheets texts forms cells₀ list₀ count p i row from tally₀ now₀ x₀ cells list tally now x =
-    WhereDone (lentCase sheets texts forms) cells₀ list₀ count (λ d. Standing (lentCase sheets texts forms) (pairIs p) i d cells₀ list₀ x cells list now tally)
+judge-clause-Inv-loop sheets texts forms cells₀ list₀ count p i row from tally₀ x₀ now₀ cells list tally x now =
+    (began list-began : List ℕ)
+    → StandsAt (lentCase sheets texts forms) (pairIs p) i began list-began count x₀ cells₀ list₀
+    → WhereDone (lentCase sheets texts forms) began list-began count (λ d. Standing (lentCase sheets texts forms) (pairIs p) i d began list-began x cells list now tally)
 
 abbrev pub judge-clause-μ-loop : judge-clause-lts.MeasureT-loop
-judge-clause-μ-loop sheets texts forms cells₀ list₀ count p i row from tally₀ now₀ x₀ cells list tally now x =
+judge-clause-μ-loop sheets texts forms cells₀ list₀ count p i row from tally₀ x₀ now₀ cells list tally x now =
     many (lentCase sheets texts forms) (pairIs p) i - x
 
 pub judge-clause-start-requires : (t : ℕ) → judge-clause-lts.Need-start-requires (judge-clause-claims t) (judge-clause-at t) judge-clause.Post judge-clause-Inv-loop judge-clause-μ-loop
 judge-clause-start-requires t c κs =
     reads-clause (c .before .before .pre .1 .0) (c .before .before .pre .1 .1 .0 .inside) (c .before .before .pre .1 .1 .1 .1 .0 .0)
 
+pub judge-clause-in-line-requires : (t : ℕ) → judge-clause-lts.Need-in-line-requires (judge-clause-claims t) (judge-clause-at t) judge-clause.Post judge-clause-Inv-loop judge-clause-μ-loop
+judge-clause-in-line-requires t c κs =
+    let asked = c .before .before .before .before .before .pre .1 in
+    (asked .0, (asked .1 .0, ((asked .1 .1 .0, asked .1 .1 .1 .0 .0), (asked .1 .1 .1 .1, c .before .before .start .ensures))))
+
+pub judge-clause-wide-requires : (t : ℕ) → judge-clause-lts.Need-wide-requires (judge-clause-claims t) (judge-clause-at t) judge-clause.Post judge-clause-Inv-loop judge-clause-μ-loop
+judge-clause-wide-requires t c κs =
+    search needs
+
+pub judge-clause-add-now : (t : ℕ) → judge-clause-lts.Need-add-now (judge-clause-claims t) (judge-clause-at t) judge-clause.Post judge-clause-Inv-loop judge-clause-μ-loop
+judge-clause-add-now t c =
+    let start = c .before .before .before .before .before .before .before .before .before .before .before in
+    let R = start .pre .1 .1 .0 in
+    let A = c .before .before .before .before .before .in-line .ensures (R .done) (R .areas) .steps .going .areas in
+    omega (arith, c .wide .ensures, areas-count (R .fit) A)
+
 pub judge-clause-loop-holds : (t : ℕ) → judge-clause-lts.Need-loop-holds (judge-clause-claims t) (judge-clause-at t) judge-clause.Post judge-clause-Inv-loop judge-clause-μ-loop
 judge-clause-loop-holds t c =
-    standing-first (c .before .before .before .pre .1 .1 .0) (c .before .before .before .pre .1 .1 .1 .0)
+    λ began list-began stands d A. rw (c .wide .ensures) (stands d A)
 
 pub judge-clause-turn-requires : (t : ℕ) → judge-clause-lts.Need-turn-requires (judge-clause-claims t) (judge-clause-at t) judge-clause.Post judge-clause-Inv-loop judge-clause-μ-loop
 judge-clause-turn-requires t c κs =
-    let start = c .before .before .before .before .before in
+    let start = c .before .before .before .before .before .before .before .before .before .before .before .before .before in
     let asked = start .pre .1 in
-    ((reads-clause (asked .0) (asked .1 .0 .inside) (asked .1 .1 .1 .0 .0), asked .1 .1 .1 .1), standing-asks (c .before .loop .inv (asked .1 .0 .done) (asked .1 .0 .areas)) (asked .1 .1 .1 .0 .2) (c .before .before .start .ensures))
+    ((reads-clause (asked .0) (asked .1 .0 .inside) (asked .1 .1 .1 .0 .0), asked .1 .1 .1 .1), standing-asks (c .before .loop .inv _ _ (c .before .before .before .before .before .before .before .in-line .ensures) (asked .1 .0 .done) (asked .1 .0 .areas)) (asked .1 .1 .1 .0 .2) (c .before .before .before .before .before .before .before .before .before .before .start .ensures))
 
 pub judge-clause-finish-requires : (t : ℕ) → judge-clause-lts.Need-finish-requires (judge-clause-claims t) (judge-clause-at t) judge-clause.Post judge-clause-Inv-loop judge-clause-μ-loop
 judge-clause-finish-requires t c κs =
-    (reads-clause (c .before .before .before .before .before .before .before .before .pre .1 .0) (c .before .before .before .before .before .before .before .before .pre .1 .1 .0 .inside) (c .before .before .before .before .before .before .before .before .pre .1 .1 .1 .1 .0 .0), c .before .before .before .before .before .before .before .before .pre .1 .1 .1 .1 .1, c .before .before .before .before .before .before .before .before .pre .1 .1 .1 .1 .0 .1)
+    (reads-clause (c .before .before .before .before .before .before .before .before .before .before .before .before .before .before .before .before .pre .1 .0) (c .before .before .before .before .before .before .before .before .before .before .before .before .before .before .before .before .pre .1 .1 .0 .inside) (c .before .before .before .before .before .before .before .before .before .before .before .before .before .before .before .before .pre .1 .1 .1 .1 .0 .0), c .before .before .before .before .before .before .before .before .before .before .before .before .before .before .before .before .pre .1 .1 .1 .1 .1, c .before .before .before .before .before .before .before .before .before .before .before .before .before .before .before .before .pre .1 .1 .1 .1 .0 .1)
 
 pub judge-clause-same-length : (t : ℕ) → judge-clause-lts.Need-same-length (judge-clause-claims t) (judge-clause-at t) judge-clause.Post judge-clause-Inv-loop judge-clause-μ-loop
 judge-clause-same-length t c =
-    cells-kept (c .before .before .before .before .before .before .before .before .before .pre .1 .1 .0 .areas) (c .before .before .before .before .before .loop .inv (c .before .before .before .before .before .before .before .before .before .pre .1 .1 .0 .done) (c .before .before .before .before .before .before .before .before .before .pre .1 .1 .0 .areas) .steps .going .areas)
+    cells-kept (c .before .before .before .before .before .before .before .before .before .before .before .before .before .before .before .before .before .pre .1 .1 .0 .areas) (c .before .before .before .before .before .loop .inv _ _ (c .before .before .before .before .before .before .before .before .before .before .before .in-line .ensures) (c .before .before .before .before .before .before .before .before .before .before .before .before .before .before .before .before .before .pre .1 .1 .0 .done) (c .before .before .before .before .before .before .before .before .before .before .before .before .before .before .before .before .before .pre .1 .1 .0 .areas) .steps .going .areas)
 
 pub judge-clause-same-length-2 : (t : ℕ) → judge-clause-lts.Need-same-length-2 (judge-clause-claims t) (judge-clause-at t) judge-clause.Post judge-clause-Inv-loop judge-clause-μ-loop
 judge-clause-same-length-2 t c =
-    list-kept (c .before .before .before .before .before .before .before .before .before .pre .1 .1 .0 .areas) (c .before .before .before .before .before .loop .inv (c .before .before .before .before .before .before .before .before .before .pre .1 .1 .0 .done) (c .before .before .before .before .before .before .before .before .before .pre .1 .1 .0 .areas) .steps .going .areas)
+    list-kept (c .before .before .before .before .before .before .before .before .before .before .before .before .before .before .before .before .before .pre .1 .1 .0 .areas) (c .before .before .before .before .before .loop .inv _ _ (c .before .before .before .before .before .before .before .before .before .before .before .in-line .ensures) (c .before .before .before .before .before .before .before .before .before .before .before .before .before .before .before .before .before .pre .1 .1 .0 .done) (c .before .before .before .before .before .before .before .before .before .before .before .before .before .before .before .before .before .pre .1 .1 .0 .areas) .steps .going .areas)
 
 pub judge-clause-returns : (t : ℕ) → judge-clause-lts.Need-returns (judge-clause-claims t) (judge-clause-at t) judge-clause.Post judge-clause-Inv-loop judge-clause-μ-loop
 judge-clause-returns t c =
-    turning-end (c .before .before .before .before .before .before .before .before .before .pre .1 .1 .0) (λ d A. standing-turn (c .before .before .before .before .before .loop .inv d A) (c .before .before .before .turn .ensures)) (not-true _ (c .before .if1 .taken)) (c .finish .ensures) refl
+    turning-end (c .before .before .before .before .before .before .before .before .before .before .before .before .before .before .before .before .before .pre .1 .1 .0) (λ d A. standing-turn (c .before .before .before .before .before .loop .inv _ _ (c .before .before .before .before .before .before .before .before .before .before .before .in-line .ensures) d A) (c .before .before .before .turn .ensures)) (not-true _ (c .before .if1 .taken)) (c .finish .ensures) refl
 
 pub judge-clause-apply-requires : (t : ℕ) → judge-clause-lts.Need-apply-requires (judge-clause-claims t) (judge-clause-at t) judge-clause.Post judge-clause-Inv-loop judge-clause-μ-loop
 judge-clause-apply-requires t c κs =
-    let W = standing-turn (c .before .before .before .before .before .before .loop .inv (c .before .before .before .before .before .before .before .before .before .before .pre .1 .1 .0 .done) (c .before .before .before .before .before .before .before .before .before .before .pre .1 .1 .0 .areas)) (c .before .before .before .before .turn .ensures) in
+    let W = standing-turn (c .before .before .before .before .before .before .loop .inv _ _ (c .before .before .before .before .before .before .before .before .before .before .before .before .in-line .ensures) (c .before .before .before .before .before .before .before .before .before .before .before .before .before .before .before .before .before .before .pre .1 .1 .0 .done) (c .before .before .before .before .before .before .before .before .before .before .before .before .before .before .before .before .before .before .pre .1 .1 .0 .areas)) (c .before .before .before .before .turn .ensures) in
     let go = not-false _ (c .before .before .if1 .left) in
-    let has = clause-has (c .before .before .before .before .before .before .before .before .before .before .pre .1 .0 .sheets) (c .before .before .before .before .before .before .before .before .before .before .pre .1 .1 .0 .inside) (c .before .before .before .before .before .before .before .before .before .before .pre .1 .1 .1 .1 .0 .0) in
-    (falls-by (c .before .before .before .before .before .before .before .before .before .before .pre .0) (turning-aim W go has), (c .before .before .before .before .before .before .before .before .before .before .pre .1 .0, turning-ready W go has))
+    let has = clause-has (c .before .before .before .before .before .before .before .before .before .before .before .before .before .before .before .before .before .before .pre .1 .0 .sheets) (c .before .before .before .before .before .before .before .before .before .before .before .before .before .before .before .before .before .before .pre .1 .1 .0 .inside) (c .before .before .before .before .before .before .before .before .before .before .before .before .before .before .before .before .before .before .pre .1 .1 .1 .1 .0 .0) in
+    (falls-by (c .before .before .before .before .before .before .before .before .before .before .before .before .before .before .before .before .before .before .pre .0) (turning-aim W go has), (c .before .before .before .before .before .before .before .before .before .before .before .before .before .before .before .before .before .before .pre .1 .0, turning-ready W go has))
 
 pub judge-clause-verdict-of-requires : (t : ℕ) → judge-clause-lts.Need-verdict-of-requires (judge-clause-claims t) (judge-clause-at t) judge-clause.Post judge-clause-Inv-loop judge-clause-μ-loop
 judge-clause-verdict-of-requires t c κs =
-    rw (schemas-lent (c .before .before .before .before .before .before .before .before .before .before .before .before .before .before .before .before .pre .1 .0)) (turning-cell (standing-turn (c .before .before .before .before .before .before .before .before .before .before .before .before .loop .inv (c .before .before .before .before .before .before .before .before .before .before .before .before .before .before .before .before .pre .1 .1 .0 .done) (c .before .before .before .before .before .before .before .before .before .before .before .before .before .before .before .before .pre .1 .1 .0 .areas)) (c .before .before .before .before .before .before .before .before .before .before .turn .ensures)) (not-false _ (c .before .before .before .before .before .before .before .before .if1 .left)) (clause-has (c .before .before .before .before .before .before .before .before .before .before .before .before .before .before .before .before .pre .1 .0 .sheets) (c .before .before .before .before .before .before .before .before .before .before .before .before .before .before .before .before .pre .1 .1 .0 .inside) (c .before .before .before .before .before .before .before .before .before .before .before .before .before .before .before .before .pre .1 .1 .1 .1 .0 .0)) (c .before .before .before .before .before .apply .ensures))
+    rw (schemas-lent (c .before .before .before .before .before .before .before .before .before .before .before .before .before .before .before .before .before .before .before .before .before .before .before .before .pre .1 .0)) (turning-cell (standing-turn (c .before .before .before .before .before .before .before .before .before .before .before .before .loop .inv _ _ (c .before .before .before .before .before .before .before .before .before .before .before .before .before .before .before .before .before .before .in-line .ensures) (c .before .before .before .before .before .before .before .before .before .before .before .before .before .before .before .before .before .before .before .before .before .before .before .before .pre .1 .1 .0 .done) (c .before .before .before .before .before .before .before .before .before .before .before .before .before .before .before .before .before .before .before .before .before .before .before .before .pre .1 .1 .0 .areas)) (c .before .before .before .before .before .before .before .before .before .before .turn .ensures)) (not-false _ (c .before .before .before .before .before .before .before .before .if1 .left)) (clause-has (c .before .before .before .before .before .before .before .before .before .before .before .before .before .before .before .before .before .before .before .before .before .before .before .before .pre .1 .0 .sheets) (c .before .before .before .before .before .before .before .before .before .before .before .before .before .before .before .before .before .before .before .before .before .before .before .before .pre .1 .1 .0 .inside) (c .before .before .before .before .before .before .before .before .before .before .before .before .before .before .before .before .before .before .before .before .before .before .before .before .pre .1 .1 .1 .1 .0 .0)) (c .before .before .before .before .before .apply .ensures))
 
 pub judge-clause-moved-requires : (t : ℕ) → judge-clause-lts.Need-moved-requires (judge-clause-claims t) (judge-clause-at t) judge-clause.Post judge-clause-Inv-loop judge-clause-μ-loop
 judge-clause-moved-requires t c κs =
-    let h = turning-low (standing-turn (c .before .before .before .before .before .before .before .before .before .before .before .before .before .loop .inv (c .before .before .before .before .before .before .before .before .before .before .before .before .before .before .before .before .before .pre .1 .1 .0 .done) (c .before .before .before .before .before .before .before .before .before .before .before .before .before .before .before .before .before .pre .1 .1 .0 .areas)) (c .before .before .before .before .before .before .before .before .before .before .before .turn .ensures)) (not-false _ (c .before .before .before .before .before .before .before .before .before .if1 .left)) in
+    let h = turning-low (standing-turn (c .before .before .before .before .before .before .before .before .before .before .before .before .before .loop .inv _ _ (c .before .before .before .before .before .before .before .before .before .before .before .before .before .before .before .before .before .before .before .in-line .ensures) (c .before .before .before .before .before .before .before .before .before .before .before .before .before .before .before .before .before .before .before .before .before .before .before .before .before .pre .1 .1 .0 .done) (c .before .before .before .before .before .before .before .before .before .before .before .before .before .before .before .before .before .before .before .before .before .before .before .before .before .pre .1 .1 .0 .areas)) (c .before .before .before .before .before .before .before .before .before .before .before .turn .ensures)) (not-false _ (c .before .before .before .before .before .before .before .before .before .if1 .left)) in
     omega (arith, h .0, h .1)
 
 pub judge-clause-give-requires : (t : ℕ) → judge-clause-lts.Need-give-requires (judge-clause-claims t) (judge-clause-at t) judge-clause.Post judge-clause-Inv-loop judge-clause-μ-loop
 judge-clause-give-requires t c κs =
-    (reads-by (c .before .before .before .before .before .before .before .before .before .before .before .before .before .before .before .before .before .before .before .before .pre .1 .0) (c .before .before .before .before .before .before .before .before .before .before .before .before .before .before .before .before .before .before .before .before .pre .1 .1 .0 .inside), turning-hands (standing-turn (c .before .before .before .before .before .before .before .before .before .before .before .before .before .before .before .before .loop .inv (c .before .before .before .before .before .before .before .before .before .before .before .before .before .before .before .before .before .before .before .before .pre .1 .1 .0 .done) (c .before .before .before .before .before .before .before .before .before .before .before .before .before .before .before .before .before .before .before .before .pre .1 .1 .0 .areas)) (c .before .before .before .before .before .before .before .before .before .before .before .before .before .before .turn .ensures)) (not-false _ (c .before .before .before .before .before .before .before .before .before .before .before .before .if1 .left)) (clause-has (c .before .before .before .before .before .before .before .before .before .before .before .before .before .before .before .before .before .before .before .before .pre .1 .0 .sheets) (c .before .before .before .before .before .before .before .before .before .before .before .before .before .before .before .before .before .before .before .before .pre .1 .1 .0 .inside) (c .before .before .before .before .before .before .before .before .before .before .before .before .before .before .before .before .before .before .before .before .pre .1 .1 .1 .1 .0 .0)) (c .before .before .before .before .before .before .before .before .before .apply .ensures))
+    (reads-by (c .before .before .before .before .before .before .before .before .before .before .before .before .before .before .before .before .before .before .before .before .before .before .before .before .before .before .before .before .pre .1 .0) (c .before .before .before .before .before .before .before .before .before .before .before .before .before .before .before .before .before .before .before .before .before .before .before .before .before .before .before .before .pre .1 .1 .0 .inside), turning-hands (standing-turn (c .before .before .before .before .before .before .before .before .before .before .before .before .before .before .before .before .loop .inv _ _ (c .before .before .before .before .before .before .before .before .before .before .before .before .before .before .before .before .before .before .before .before .before .before .in-line .ensures) (c .before .before .before .before .before .before .before .before .before .before .before .before .before .before .before .before .before .before .before .before .before .before .before .before .before .before .before .before .pre .1 .1 .0 .done) (c .before .before .before .before .before .before .before .before .before .before .before .before .before .before .before .before .before .before .before .before .before .before .before .before .before .before .before .before .pre .1 .1 .0 .areas)) (c .before .before .before .before .before .before .before .before .before .before .before .before .before .before .turn .ensures)) (not-false _ (c .before .before .before .before .before .before .before .before .before .before .before .before .if1 .left)) (clause-has (c .before .before .before .before .before .before .before .before .before .before .before .before .before .before .before .before .before .before .before .before .before .before .before .before .before .before .before .before .pre .1 .0 .sheets) (c .before .before .before .before .before .before .before .before .before .before .before .before .before .before .before .before .before .before .before .before .before .before .before .before .before .before .before .before .pre .1 .1 .0 .inside) (c .before .before .before .before .before .before .before .before .before .before .before .before .before .before .before .before .before .before .before .before .before .before .before .before .before .before .before .before .pre .1 .1 .1 .1 .0 .0)) (c .before .before .before .before .before .before .before .before .before .apply .ensures))
 
 pub judge-clause-next-step-requires : (t : ℕ) → judge-clause-lts.Need-next-step-requires (judge-clause-claims t) (judge-clause-at t) judge-clause.Post judge-clause-Inv-loop judge-clause-μ-loop
 judge-clause-next-step-requires t c κs =
-    let start = c .before .before .before .before .before .before .before .before .before .before .before .before .before .before .before .before .before .before .before .before .before .before .before in
+    let start = c .before .before .before .before .before .before .before .before .before .before .before .before .before .before .before .before .before .before .before .before .before .before .before .before .before .before .before .before .before .before .before in
     let R = start .pre .1 .1 .0 in
-    let h = turning-low (standing-turn (c .before .before .before .before .before .before .before .before .before .before .before .before .before .before .before .before .before .before .before .loop .inv (R .done) (R .areas)) (c .before .before .before .before .before .before .before .before .before .before .before .before .before .before .before .before .before .turn .ensures)) (not-false _ (c .before .before .before .before .before .before .before .before .before .before .before .before .before .before .before .if1 .left)) in
+    let h = turning-low (standing-turn (c .before .before .before .before .before .before .before .before .before .before .before .before .before .before .before .before .before .before .before .loop .inv _ _ (c .before .before .before .before .before .before .before .before .before .before .before .before .before .before .before .before .before .before .before .before .before .before .before .before .before .in-line .ensures) (R .done) (R .areas)) (c .before .before .before .before .before .before .before .before .before .before .before .before .before .before .before .before .before .turn .ensures)) (not-false _ (c .before .before .before .before .before .before .before .before .before .before .before .before .before .before .before .if1 .left)) in
     (reads-clause (start .pre .1 .0) (R .inside) (start .pre .1 .1 .1 .1 .0 .0), start .pre .1 .1 .1 .1 .1, h .0)
 
 pub judge-clause-loop-less : (t : ℕ) → judge-clause-lts.Need-loop-less (judge-clause-claims t) (judge-clause-at t) judge-clause.Post judge-clause-Inv-loop judge-clause-μ-loop
 judge-clause-loop-less t c =
-    let R = c .before .before .before .before .before .before .before .before .before .before .before .before .before .before .before .before .before .before .before .before .before .before .before .before .pre .1 .1 .0 in
+    let R = c .before .before .before .before .before .before .before .before .before .before .before .before .before .before .before .before .before .before .before .before .before .before .before .before .before .before .before .before .before .before .before .before .pre .1 .1 .0 in
     let go = not-false _ (c .before .before .before .before .before .before .before .before .before .before .before .before .before .before .before .before .if1 .left) in
-    let W = standing-turn (c .before .before .before .before .before .before .before .before .before .before .before .before .before .before .before .before .before .before .before .before .loop .inv (R .done) (R .areas)) (c .before .before .before .before .before .before .before .before .before .before .before .before .before .before .before .before .before .before .turn .ensures) in
+    let W = standing-turn (c .before .before .before .before .before .before .before .before .before .before .before .before .before .before .before .before .before .before .before .before .loop .inv _ _ (c .before .before .before .before .before .before .before .before .before .before .before .before .before .before .before .before .before .before .before .before .before .before .before .before .before .before .in-line .ensures) (R .done) (R .areas)) (c .before .before .before .before .before .before .before .before .before .before .before .before .before .before .before .before .before .before .turn .ensures) in
     let ahead = c .before .before .before .before .before .before .before .before .before .before .before .before .before .before .before .before .before .before .turn .ensures .goes go .ahead in
     let next = turning-ahead W go (c .before .before .before .before .before .before .moved .result) (c .next-step .ensures) in
     omega (arith, next .0, next .1)
 
 pub judge-clause-loop-again : (t : ℕ) → judge-clause-lts.Need-loop-again (judge-clause-claims t) (judge-clause-at t) judge-clause.Post judge-clause-Inv-loop judge-clause-μ-loop
 judge-clause-loop-again t c =
-    let start = c .before .before .before .before .before .before .before .before .before .before .before .before .before .before .before .before .before .before .before .before .before .before .before .before in
+    let start = c .before .before .before .before .before .before .before .before .before .before .before .before .before .before .before .before .before .before .before .before .before .before .before .before .before .before .before .before .before .before .before .before in
     let has = clause-has (start .pre .1 .0 .sheets) (start .pre .1 .1 .0 .inside) (start .pre .1 .1 .1 .1 .0 .0) in
-    λ d A.
-    turning-more (standing-turn (c .before .before .before .before .before .before .before .before .before .before .before .before .before .before .before .before .before .before .before .before .loop .inv d A) (c .before .before .before .before .before .before .before .before .before .before .before .before .before .before .before .before .before .before .turn .ensures)) (not-false _ (c .before .before .before .before .before .before .before .before .before .before .before .before .before .before .before .before .if1 .left)) has (c .before .before .before .before .before .before .before .before .before .before .before .before .before .apply .ensures) (rw (schemas-lent (start .pre .1 .0)) at (c .before .before .before .before .before .before .before .verdict-of .ensures)) (c .before .before .before .before .before .before .moved .ensures) (c .before .before .before .give .ensures) (c .next-step .ensures)
+    λ began list-began stands d A.
+    turning-more (standing-turn (c .before .before .before .before .before .before .before .before .before .before .before .before .before .before .before .before .before .before .before .before .loop .inv began list-began stands d A) (c .before .before .before .before .before .before .before .before .before .before .before .before .before .before .before .before .before .before .turn .ensures)) (not-false _ (c .before .before .before .before .before .before .before .before .before .before .before .before .before .before .before .before .if1 .left)) has (c .before .before .before .before .before .before .before .before .before .before .before .before .before .apply .ensures) (rw (schemas-lent (start .pre .1 .0)) at (c .before .before .before .before .before .before .before .verdict-of .ensures)) (c .before .before .before .before .before .before .moved .ensures) (c .before .before .before .give .ensures) (c .next-step .ensures)
