@@ -17,11 +17,11 @@ use Rattle.sheet.specs.Doc.{Doc}
 use Rattle.sheet.specs.declared.record.RecordRow.{RecordRow}
 use Rattle.sheet.specs.declared.record.RuleRow.{RuleRow}
 use Rattle.rulesheet.specs.Ruleset.{Clause}
-use Rattle.meaning.specs.Rules.{Pair, Marks, Way, whole, cut}
+use Rattle.meaning.specs.Rules.{Pair, Marks}
 use Rattle.areas.specs.Cells.{pairIs, cellAt, verd, Unsettled, settledAs}
 use Rattle.areas.specs.Writers.{Open, Shut, Marked}
 use Rattle.areas.proofs.Cells.{verd-settle, same-row, settled-le}
-use Rattle.plan.specs.Plan.{moved, wayOf, stopsBy, afterMiss}
+use Rattle.plan.specs.Plan.{moved, afterMiss}
 use Rattle.steps.specs.declared.turn.Turn.{Turn}
 use Rattle.steps.specs.Turns.{Turned}
 use Rattle.steps.specs.Lines.{InLine}
@@ -31,13 +31,8 @@ use Rattle.lent.proofs.Reading.{pairs-few}
 use Rattle.cycle.specs.State.{rankOf, Areas, Ready, Judged}
 use Rattle.cycle.specs.Steps.{Standing}
 use Rattle.cycle.proofs.Going.{Aim}
-use Rattle.cycle.proofs.Turning.{Turning, turning, turning-aim, turning-ready, turning-hands, turning-more}
+use Rattle.cycle.proofs.Turning.{first-open, Turning, turning, turning-aim, turning-ready, turning-hands, turning-more}
 use Rattle.cycle.proofs.Testing.{told-open, told-end}
-
-open-first : (w : Way) → stopsBy w 0 ≡ false
-unfolding stopsBy
-open-first whole = refl
-open-first cut = refl
 
 module _ (T : Case) (p : Pair) (cl : ℕ) {first n s : ℕ} (L : InLine (T .doc) p (beforeOf T p cl) (clauseAt T p cl) first n s) (few : n < 4294967296) {k : ℕ} (h : k < n) {row : RecordRow} {rule : RuleRow} (there : row .0 ≡ first + k) (schema : rule .0 ≡ s) where
   abbrev q : Pair
@@ -75,7 +70,7 @@ module _ (T : Case) (p : Pair) (cl : ℕ) {first n s : ℕ} (L : InLine (T .doc)
         line-more M = turning-more stands refl has line-judged held refl M next
           where
             next : k + 1 ≡ nextAt T p cl k 0
-            next = sym (ap (λ (b : Bool). cond b (afterMiss (clauseAt T p cl) k) (k + 1)) (open-first (T .way)))
+            next = sym (ap (λ (b : Bool). cond b (afterMiss (clauseAt T p cl) k) (k + 1)) (first-open (T .way)))
 
         -- those after it are as they were
         pub line-unsettled : {c₂ : List ℕ} → Marked (T .m) (firstKid T p) (kidCount T p) (p .rule) (givenOn true (T .m) c₁ (p .row) (p .rule) (q .row) (q .rule)) c₁ c₂

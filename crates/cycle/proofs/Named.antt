@@ -24,6 +24,7 @@ use Rattle.told.specs.Read.{marksNamed, namedBy, NamesOnly, byMarks, Started}
 use Rattle.told.proofs.Earlier.{named-append}
 use Rattle.told.proofs.Marking.{named-marks, member-elem}
 use Rattle.steps.specs.Turns.{NamesMarked}
+use Rattle.steps.proofs.Turns.{twice}
 use Rattle.lent.specs.Lent.{Case, clausesOf, clauseAt, beforeOf}
 use Rattle.cycle.specs.Steps.{Stepped, goes}
 use Rattle.cycle.specs.State.{truthOf, bitsOf, Named}
@@ -61,10 +62,6 @@ module _ (T : Case) (p : Pair) where
       let here = named-marks (T .doc) p k member (truthOf T) (T .way) (beforeOf T p i) ((resAt T p i) .marks) (clauseAt T p i) (only i (omega arith)) in
       let rest = named-upto i k member (omega arith) (on-before i on) (λ j h. only j (omega arith)) in
       ap (λ (r : Result). r .marks k) (res-next T p i (on-before i on)) ∙ ap₂ (λ (a b : Bool). a || b) rest here ∙ sym (names-next i k (omega arith))
-
-twice : (b : Bool) → not (not b) ≡ b
-twice true = refl
-twice false = refl
 
 -- what judging clause i of a pair in progress asks of its marks
 pub claused-named : {T : Case} {p : Pair} {many : ℕ} {d₀ : List Pair} {c₀ l₀ : List ℕ} {i : ℕ} {c l : List ℕ} {n : ℕ} {ok : Bool}

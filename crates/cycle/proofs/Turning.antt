@@ -66,7 +66,7 @@ turning {T} {p} {cl} {d₀} {c₀} {l₀} {x} {c} {l} {n} {tally} {at} Z t =
         let e : x + (y - x) ≡ y = omega arith in
         subst (λ (z : ℕ). Stepped T p cl d₀ c₀ l₀ z c l n tally) e (stepped-skips (y - x) (Z .steps) (omega arith) (record { idle = λ k u v. f .idle k u (omega arith) }))
 
-first-open : (v : Way) → stopsBy v 0 ≡ false
+pub first-open : (v : Way) → stopsBy v 0 ≡ false
 unfolding stopsBy
 first-open whole = refl
 first-open cut = refl

@@ -5,7 +5,8 @@
 //
 // Most pairs have tests only, and the row's own words tell that it passes them: such a pair is settled
 // where it is applied, and no frame is made for it. The root is judged by `judge_root`, so that
-// `judge_pair` has two callers and `apply` becomes part of `judge_clause`.
+// `judge_pair` has two callers and `apply` becomes part of `judge_clause`. Of a clause that applies one
+// schema to child after child, the first of such pairs are settled all at once (`in_line`).
 //
 // 1,024 pairs can be open at once, so an open pair keeps little: sheets, texts and forms lie behind one
 // address each, and what is read of them is read in `lent`, where no pair is open.

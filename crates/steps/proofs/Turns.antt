@@ -79,6 +79,10 @@ applied-child (dependentSchemas es) r e = sym e
 applied-child (contains s least most) r e = sym e
 applied-child (takes c) r e = sym e
 
+pub twice : (b : Bool) → not (not b) ≡ b
+twice true = refl
+twice false = refl
+
 -- where the marks tell which members are named, those that are not named are those that are not marked
 pub marked-turned : {D : Doc} {p : Pair} {before : List Clause} {κ : Marks} {t x : ℕ} {r : Turn} (s : ℕ) → NamesMarked D p before x κ
     → Turned D p before (takes (unevaluatedProperties s)) x κ t r → Turned D p before (takes (additionalProperties s)) x κ t r
@@ -101,10 +105,6 @@ marked-turned {D} {p} {before} {κ} {t} {x} {r} s marked turn =
       ends = λ e. record { idle = λ k a b. same k a b ∙ turn .ends e .idle k a b };
     }
   where
-    twice : (b : Bool) → not (not b) ≡ b
-    twice true = refl
-    twice false = refl
-
     same : (k : ℕ) → x ≤ k → k < memberCount (own D p) → unnamed D p before (childRow D p k) ≡ not (κ (childRow D p k))
     same k a b = sym (ap not (marked k a b) ∙ twice (unnamed D p before (childRow D p k)))
 
