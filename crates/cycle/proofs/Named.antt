@@ -1,5 +1,5 @@
 -- The members that the clauses of a pair name, by its marks.
---     marks-named     where clauses mark no member but those that they name, the marks are of those that they name
+--     named-upto      where clauses mark no member but those that they name, the marks are of those that they name
 --     claused-named   what judging a clause asks of them
 --     standing-marked what standing at one of its steps does
 -- Assumes nothing.

@@ -4,9 +4,9 @@
 // schema's longest unguarded chain.
 //
 // Most pairs have tests only, and the row's own words tell that it passes them: such a pair is settled
-// where it is applied, and no frame is made for it. The root is judged by `judge_root`, so that
-// `judge_pair` has two callers and `apply` becomes part of `judge_clause`. Of a clause that applies one
-// schema to child after child, the first of such pairs are settled all at once (`in_line`).
+// where it is applied, and no frame is made for it. Those that a clause applies first and in a line, one
+// schema to one row after the other, are settled at once (`in_line`). The root is judged by
+// `judge_root`, so that `judge_pair` has two callers and `apply` becomes part of `judge_clause`.
 //
 // 1,024 pairs can be open at once, so an open pair keeps little: sheets, texts and forms lie behind one
 // address each, and what is read of them is read in `lent`, where no pair is open.
@@ -14,7 +14,8 @@
 // One cycle serves both calls: whether judging goes on after a failure, in whole, or stops, cut, is
 // asked of `lent::next_clause` and `lent::next_step`.
 //
-// The contracts cite `specs/State.antt`, and of what is lent `specs/Lent.antt` of `lent`.
+// The contracts cite `specs/State.antt` and `specs/Steps.antt`, and of what is lent `specs/Lent.antt` of
+// `lent`.
 ghost use mathlib.Core.Path.{_≡_};
 ghost use Prim.Native.Nat.{_+_, _≤_, _<_};
 ghost use Rattle.rulesheet.specs.Sheet.{schemaAt};

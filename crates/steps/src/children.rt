@@ -143,8 +143,8 @@ pub(crate) fn counted_turn(
 
 // ---- by the marks on them
 
-// Of `unevaluatedProperties` and `unevaluatedItems`: each of the first `many` children that is not
-// marked yet.
+// Of `unevaluatedProperties` and `unevaluatedItems`, and of `additionalProperties` where the marks tell
+// which members are named: each of the first `many` children that is not marked yet.
 pub(crate) fn fresh_turn(
     record: &[u32],
     form: RecordForm,

@@ -43,7 +43,8 @@ NamesOnly before = (k : ℕ) → k < length before → marksNamed (getD before k
 abbrev pub byMarks : ℕ
 byMarks = 4294967295
 
--- what the clauses before it tell a clause: `items` how many elements they speak of, `additionalProperties` from which of them on they name members
+-- what the clauses before it tell a clause: `items` how many elements they speak of, `additionalProperties` from which of them on they name members, or that the
+-- marks tell which members they name
 pub record Started (before : List R.Clause) (c : R.Clause) (from : ℕ) : Type 0 where
   pub prefix-is : (s : ℕ) → c ≡ takes (items s) → from ≡ length (concatMap prefixOf before)
   pub names-from : (s : ℕ) → c ≡ takes (additionalProperties s) → (from ≡ byMarks → ⊥) → NamesFrom before from

@@ -137,7 +137,8 @@ fn names_told(rules: &[u32], form: RuleForm, s: RuleRow, first: u32, i: u32) -> 
 }
 
 // What the first i clauses of the schema tell the clause after them: `items` how many elements they
-// speak of, `additionalProperties` from which of them on they name members, any other nothing.
+// speak of, `additionalProperties` from which of them on they name members, or that the marks tell it,
+// any other nothing.
 fn start_in(rules: &[u32], form: RuleForm, s: RuleRow, first: u32, i: u32, clause: Clause) -> u32
     requires { ⌜ RulesLaid (now rules) form × (s .0 < form .m) × (first ≡ schemaAt (now rules) (s .0) .first) × (i ≤ schemaAt (now rules) (s .0) .count) ⌝ }
     ensures { λ r. ⌜ ((us : List ℕ) → Started (beforeIn (now (rules .entry)) us (s .0) i) (clauseMeans (now (rules .entry)) us clause) r) ⌝ }
