@@ -27,7 +27,7 @@ use Rattle.rulesheet.specs.Sheet.{entryAt}
 use Rattle.rulesheet.specs.Faults.{entryOk}
 use Rattle.rulesheet.proofs.Meanings.{of-number}
 use Rattle.meaning.specs.Tests.{number?, bytes?, agree, equal}
-use Rattle.clause.proofs.Having.{isOf, none-found, no-bytes}
+use Rattle.looking.proofs.Having.{isOf, none-found, no-bytes}
 
 -- ---- two values of kinds that are known
 

@@ -1,9 +1,9 @@
 -- In reading order.
 pub mod Reading
-pub mod Having
-pub mod Measures
+pub mod Found
+pub mod Limits
 pub mod Listing
-pub mod Naming
+pub mod Requiring
 pub mod Equality
 pub mod Asserting
 pub mod Telling

@@ -36,7 +36,8 @@ use Rattle.rules.specs.Check.{rulesOutcome}
 use Rattle.rules.specs.Accepted.{AcceptedRules}
 use Rattle.rules.proofs.Acceptance as B
 use Rattle.rules.proofs.Checks.{at-trailer}
-use Rattle.clause.specs.Read.{RecordRead, RulesRead, wordsIn, ClauseRead}
+use Rattle.looking.specs.Read.{RecordRead}
+use Rattle.clause.specs.Read.{RulesRead, wordsIn, ClauseRead}
 
 said : (words : Bool) (n size : ℕ) → (words && (eqb n size && leb size text-max)) ≡ true → size ≡ n
 said words n size t =

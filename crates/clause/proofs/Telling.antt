@@ -23,7 +23,7 @@ use Rattle.rulesheet.specs.Clauses.{clauseMeans, number, held, Bounded, Tested}
 use Rattle.few.specs.Asked.{PlainRead}
 use Rattle.meaning.specs.Rules.{passes}
 use Rattle.clause.specs.Read.{RulesRead, clauseIn, Tries}
-use Rattle.clause.proofs.Having.{never-not}
+use Rattle.looking.proofs.Having.{never-not}
 use Rattle.clause.proofs.Reading.{clause-read}
 
 module _ (d : Doc) (j : ℕ) where

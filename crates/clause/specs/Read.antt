@@ -1,20 +1,13 @@
--- What is asked of the sheets that a test reads, and how a value's type, number and size are held on the way to a test.
+-- What is asked of the rules that a test reads, how a clause is read and tried, and the numbers of types.
 -- Assumes nothing.
 use mathlib.Core.Bool.{Bool, true}
 use mathlib.Core.List.{List}
-use mathlib.Core.Option.{Option, none, some}
 use mathlib.Core.Path.{_≡_}
 use Prim.Native.Nat.{ℕ, _+_, _≤_, _<_}
 use lib.ListN.{length, getD, take}
-use lib.IntN.{ℤ}
-use Rattle.laws.specs.Lowest.{lowest}
-use Rattle.decimal.specs.Value.{value, Plain}
 use Rattle.sheet.specs.declared.kind.RowKind.{RowKind}
 use Rattle.sheet.specs.declared.kind.RowKind.the-variants.{Null, False, True, Number, String, Array, Object}
-use Rattle.sheet.specs.declared.record.RecordForm.{RecordForm}
-use Rattle.sheet.specs.Doc.{Value, Doc, Child, firstChild, childCount, isObject}
-use Rattle.sheet.specs.Record.{textWord, docOf}
-use Rattle.sheet.specs.Accepted.{Laid}
+use Rattle.sheet.specs.Doc.{Doc}
 use Rattle.rulesheet.specs.declared.code.Fields.{Fields}
 use Rattle.rulesheet.specs.declared.form.ClauseRow.{ClauseRow}
 use Rattle.rulesheet.specs.declared.form.RuleForm.{RuleForm}
@@ -26,17 +19,7 @@ use Rattle.rulesheet.specs.Sheet as S
 use Rattle.rulesheet.specs.Faults.{entryOk}
 use Rattle.rulesheet.specs.Read.{RulesLaid}
 use Rattle.rulesheet.specs.Clauses.{clauseMeans, Tested}
-use Rattle.meaning.specs.Tests.{number?}
-use Rattle.meaning.specs.Rules.{called, passes}
-use Rattle.clause.specs.declared.numbers.Numbered as N
-use Rattle.clause.specs.declared.sizes.Measured as M
-
--- no row of the record breaks the layout, the text has the length that its trailer says, and no two children of an object share a name
-pub record RecordRead (ws ts : List ℕ) (form : RecordForm) : Type 0 where
-  pub laid : Laid ws form
-  pub text-length : length ts ≡ textWord ws
-  pub differ : (j k l : ℕ) → j < form .rows → isObject (docOf ws ts .value j) ≡ true → Child (docOf ws ts) j k → Child (docOf ws ts) j l → k < l
-      → docOf ws ts .name k ≡ docOf ws ts .name l → ⊥
+use Rattle.meaning.specs.Rules.{passes}
 
 -- nothing of the rules breaks the layout, and their text has the length that their trailer says
 pub record RulesRead (ws ts : List ℕ) (form : RuleForm) : Type 0 where
@@ -82,7 +65,7 @@ pub record FirstRows (row n r : ℕ) (So : ℕ → Type 0) : Type 0 where
   pub within : r ≤ n
   pub each : (k : ℕ) → k < r → So (row + k)
 
--- ---- types, numbers and sizes on the way to a test
+-- ---- types
 
 -- 01's number of the type that the rows of a kind have; a whole number is an integer besides
 abbrev pub typeNumber : RowKind → ℕ
@@ -93,37 +76,3 @@ typeNumber Number = 8
 typeNumber String = 16
 typeNumber Array = 32
 typeNumber Object = 64
-
-abbrev pub numberIn : N.Numbered → Option ℤ
-numberIn (N.the-variants.Number d) = some (value d)
-numberIn N.the-variants.Other = none
-
-abbrev pub PlainIn : N.Numbered → Type 0
-PlainIn (N.the-variants.Number d) = Plain d
-PlainIn N.the-variants.Other = Unit
-
--- r holds the number of a value that is one, within the limits of exact arithmetic
-pub record NumberFound (v : Value) (r : N.Numbered) : Type 0 where
-  pub number-is : number? v ≡ numberIn r
-  pub plain : PlainIn r
-
-abbrev pub sizeIn : M.Measured → Option ℕ
-sizeIn (M.the-variants.Size n) = some n
-sizeIn M.the-variants.Other = none
-
--- 0 where there is none
-abbrev pub orNone : Option ℕ → ℕ
-orNone none = 0
-orNone (some n) = n
-
--- how many there are by this measure, if there can be any
-abbrev pub sizeBy : (List ℕ → ℕ) → Option (List ℕ) → Option ℕ
-sizeBy size none = none
-sizeBy size (some xs) = some (size xs)
-
-abbrev pub sizeOf : Option (List ℕ) → Option ℕ
-sizeOf xs = sizeBy length xs
-
--- which child of row j, counted from 0, is the first that has this name; the number of children if none has it
-abbrev pub childNamed : Doc → ℕ → List ℕ → ℕ
-childNamed d j name = lowest (λ i. called d name (firstChild (d .value j) + i)) (childCount (d .value j))

@@ -8,13 +8,13 @@ ghost use Rattle.decimal.specs.Value.{value, Plain, isMultiple};
 ghost use Rattle.sheet.specs.Record.{docOf};
 ghost use Rattle.sheet.specs.Accepted.{Laid};
 ghost use Rattle.meaning.specs.Tests.{number?, given};
-use crate::numbers::Numbered;
-use crate::numbers::number_in;
 use decimal::Decimal;
 use decimal::at_most;
 use decimal::less;
 use decimal::plainly_at_most;
 use decimal::plainly_less;
+use looking::numbers::Numbered;
+use looking::numbers::number_in;
 use sheet::record::RecordForm;
 use sheet::record::RecordRow;
 

@@ -9,52 +9,16 @@ ghost use lib.ListN.{length};
 ghost use Rattle.sheet.specs.Record.{textWord, docOf};
 ghost use Rattle.sheet.specs.Accepted.{Laid};
 ghost use Rattle.meaning.specs.Tests.{bytes?, elements?, members?, lengthOf, atLeast, atMost};
-ghost use Rattle.clause.specs.Read.{RecordRead, sizeIn, sizeBy, sizeOf};
-use crate::numbers::is_kind;
+ghost use Rattle.looking.specs.Read.{RecordRead, sizeIn, sizeBy};
+use looking::numbers::is_kind;
+use looking::sizes::Measured;
+use looking::sizes::elements_of;
+use looking::sizes::length_of;
+use looking::sizes::members_of;
 use sheet::kind::RowKind;
 use sheet::record::RecordForm;
 use sheet::record::RecordRow;
-use sheet::record::children_of;
 use sheet::record::string_of;
-
-// A row's size, or that it has none of the sort that is asked for.
-pub enum Measured {
-    Size(u32),
-    Other,
-}
-
-// The length of a string, in characters.
-pub(crate) fn length_of(record: &[u32], text: &[u8], form: RecordForm, row: RecordRow) -> Measured
-    requires { ⌜ RecordRead (now «record») (now text) form × (row .0 < form .rows) ⌝ }
-    ensures { λ r. ⌜ sizeIn r ≡ sizeBy lengthOf (bytes? (docOf (now («record» .entry)) (now (text .entry)) .value (row .0))) ⌝ }
-{
-    if !is_kind(record, form, row, RowKind::STRING) {
-        return Measured::Other;
-    }
-    Measured::Size(utf8::characters(text, string_of(record, form, row)))
-}
-
-// How many elements an array has.
-pub fn elements_of(record: &[u32], form: RecordForm, row: RecordRow) -> Measured
-    requires { ⌜ Laid (now «record») form × (row .0 < form .rows) ⌝ }
-    ensures { λ r. ⌜ ((ts : List ℕ) → sizeIn r ≡ sizeOf (elements? (docOf (now («record» .entry)) ts .value (row .0)))) ⌝ }
-{
-    if !is_kind(record, form, row, RowKind::ARRAY) {
-        return Measured::Other;
-    }
-    Measured::Size(children_of(record, form, row).count)
-}
-
-// How many members an object has.
-pub fn members_of(record: &[u32], form: RecordForm, row: RecordRow) -> Measured
-    requires { ⌜ Laid (now «record») form × (row .0 < form .rows) ⌝ }
-    ensures { λ r. ⌜ ((ts : List ℕ) → sizeIn r ≡ sizeOf (members? (docOf (now («record» .entry)) ts .value (row .0)))) ⌝ }
-{
-    if !is_kind(record, form, row, RowKind::OBJECT) {
-        return Measured::Other;
-    }
-    Measured::Size(children_of(record, form, row).count)
-}
 
 // Whether a size, if there is one, is at least k.
 fn at_least(found: Measured, k: u32) -> bool

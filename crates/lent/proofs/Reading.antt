@@ -16,7 +16,7 @@ use Rattle.sheet.specs.Record.{rowsWord, formOf}
 use Rattle.sheet.specs.Accepted.{ChildrenRead}
 use Rattle.sheet.proofs.Trailers.{form-rows, form-few}
 use Rattle.laws.proofs.Tests.{le-or-lt}
-use Rattle.clause.proofs.Naming.{child-inside}
+use Rattle.looking.proofs.Naming.{child-inside}
 use Rattle.rulesheet.specs.declared.form.RuleForm.{RuleForm}
 use Rattle.rulesheet.specs.Ruleset as R
 use Rattle.rulesheet.specs.Ruleset.{never, asserts}

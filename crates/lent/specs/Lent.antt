@@ -20,7 +20,8 @@ use Rattle.meaning.specs.Rules.{Pair, Marks, Way, whole, cut}
 use Rattle.meaning.specs.Fit.{Fit, Inside}
 use Rattle.areas.specs.Cells.{Unsettled, column}
 use Rattle.areas.specs.Writers.{Writes, Marked}
-use Rattle.clause.specs.Read.{RecordRead, RulesRead, wordsIn, PassedFirst}
+use Rattle.looking.specs.Read.{RecordRead}
+use Rattle.clause.specs.Read.{RulesRead, wordsIn, PassedFirst}
 use Rattle.plan.specs.Plan.{finishOf, stopsBy, afterMiss}
 use Rattle.steps.specs.declared.turn.Turn.{Turn}
 use Rattle.told.specs.Read.{byMarks, Started}

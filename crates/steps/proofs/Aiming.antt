@@ -24,7 +24,7 @@ use Rattle.rulesheet.proofs.Items.{schemas-long, members-long}
 use Rattle.meaning.specs.Rules.{Pair, Marks, to}
 use Rattle.meaning.proofs.Words.{word-inside}
 use Rattle.areas.specs.Cells.{cellOf}
-use Rattle.clause.specs.Read as C
+use Rattle.looking.specs.Read as C
 use Rattle.steps.specs.declared.turn.Turn.{Turn}
 use Rattle.plan.specs.Plan.{memberCount, elementCount, no-member, countsHits, branches, branchGoes, branchOf, own, childNamed, prefixed, unnamed, stepsIn, aimIn, goIn, stepsOf, aimOf, goOf}
 use Rattle.told.specs.Read.{Started}

@@ -25,7 +25,7 @@ use Rattle.rulesheet.specs.Clauses.{entryIn, schemasIn, membersIn}
 use Rattle.rulesheet.proofs.Items.{members-long}
 use Rattle.rulesheet.proofs.Reaching.{made-at, item-is}
 use Rattle.meaning.specs.Rules.{Pair, Marks, to}
-use Rattle.clause.specs.Read as C
+use Rattle.looking.specs.Read as C
 use Rattle.steps.specs.declared.turn.Turn.{Turn}
 use Rattle.plan.specs.Plan.{memberCount, elementCount, no-member, countsHits, branches, branchGoes, branchOf, own, childNamed, stepsOf, aimOf, goOf}
 use Rattle.steps.specs.Turns.{goesAt, Skipped, Turned}

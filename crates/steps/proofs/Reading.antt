@@ -30,7 +30,7 @@ use Rattle.few.specs.Asked.{applying, sparing}
 use Rattle.rulesheet.proofs.Items.{schemas-long}
 use Rattle.meaning.specs.Tests.{members?, elements?, given}
 use Rattle.meaning.specs.Rules.{Pair, within, contained}
-use Rattle.clause.specs.Read.{sizeOf, orNone}
+use Rattle.looking.specs.Read.{sizeOf, orNone}
 use Rattle.meaning.proofs.Members.{range-length}
 use Rattle.plan.specs.Plan.{memberCount, elementCount, endsBy, afterMiss, stepsOf, finishOf}
 

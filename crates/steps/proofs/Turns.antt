@@ -18,7 +18,7 @@ use Rattle.rulesheet.specs.declared.clause.Clause.{Clause as Read}
 use Rattle.rulesheet.specs.Clauses.{clauseMeans}
 use Rattle.few.specs.Asked.{applying}
 use Rattle.meaning.specs.Rules.{Pair, Marks, to}
-use Rattle.clause.proofs.Having.{never, never-not}
+use Rattle.looking.proofs.Having.{never, never-not}
 use Rattle.steps.specs.declared.turn.Turn.{Turn}
 use Rattle.plan.specs.Plan.{memberCount, own, childRow, unnamed, countsHits, branches, stepsOf, stepsIn, goOf, goIn, aimOf, aimIn}
 use Rattle.steps.specs.Turns.{goesAt, Skipped, NamesMarked, Turned}

@@ -14,7 +14,8 @@ use Rattle.rulesheet.specs.declared.form.RuleForm.{RuleForm}
 use Rattle.rulesheet.specs.Ruleset.{Clause, takes, additionalProperties}
 use Rattle.rulesheet.specs.Sheet.{schemaAt}
 use Rattle.meaning.specs.Rules.{Pair, Marks}
-use Rattle.clause.specs.Read.{RecordRead, RulesRead, clauseIn, beforeIn, wordsIn}
+use Rattle.looking.specs.Read.{RecordRead}
+use Rattle.clause.specs.Read.{RulesRead, clauseIn, beforeIn, wordsIn}
 use Rattle.areas.specs.Cells.{pairIs, Unsettled, column}
 use Rattle.steps.specs.declared.turn.Turn.{Turn}
 use Rattle.plan.specs.Plan.{memberCount, own, childRow, unnamed, countsHits, branches, stepsOf, aimOf, goOf}

@@ -45,7 +45,7 @@ use Rattle.rulesheet.proofs.Reaching.{run-long, item-is}
 use Rattle.rulesheet.proofs.Items.{clause-item}
 use Rattle.meaning.specs.Lists.{any, concatMap}
 use Rattle.meaning.specs.Rules.{Pair, none?, namesOf, prefixOf, called}
-use Rattle.clause.proofs.Having.{never-not}
+use Rattle.looking.proofs.Having.{never-not}
 use Rattle.clause.proofs.Listing.{any-found, entry-found, entry-nowhere}
 use Rattle.clause.specs.Read.{beforeIn}
 use Rattle.plan.specs.Plan.{unnamed}

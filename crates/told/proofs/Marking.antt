@@ -21,7 +21,7 @@ use Rattle.meaning.proofs.Judgements.{answer-each}
 use Rattle.plan.specs.Plan.{memberCount, own, childRow}
 use Rattle.plan.proofs.Folds.{elem-append}
 use Rattle.plan.proofs.Children.{members-are}
-use Rattle.clause.proofs.Having.{never-not}
+use Rattle.looking.proofs.Having.{never-not}
 use Rattle.told.specs.Read.{namesAny, marksNamed, namedBy}
 
 -- ---- what stands in a list

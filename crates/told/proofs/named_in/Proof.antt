@@ -11,7 +11,7 @@ use Rattle.rulesheet.specs.declared.code.Fields.the-variants.{Members}
 use Rattle.rulesheet.specs.Codes.{entryName}
 use Rattle.rulesheet.specs.Sheet.{entryAt}
 use Rattle.clause.proofs.Listing.{list-few}
-use Rattle.clause.proofs.Naming.{compared}
+use Rattle.looking.proofs.Naming.{compared}
 use Rattle.told.proofs.Earlier.{entry-same, entry-names, none-names}
 use Rattle.told.proofs.named_in.Statement.{statement}
 use Rattle.told.proofs.named_in.Tie as tie

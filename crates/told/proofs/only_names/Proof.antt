@@ -8,7 +8,7 @@ use borrow.Author.Count.{below-more}
 use borrow.Author.Needs.{needs}
 use borrow.Author.Tests.{not-false}
 use Rattle.rulesheet.specs.Sheet.{clauseOf}
-use Rattle.clause.proofs.Having.{never-not}
+use Rattle.looking.proofs.Having.{never-not}
 use Rattle.told.specs.Read.{marksNamed}
 use Rattle.told.proofs.Earlier.{before-item, before-long, clauses-few}
 use Rattle.told.proofs.only_names.Statement.{statement}

@@ -2,7 +2,7 @@
 use mathlib.Core.List.{[]}
 use mathlib.Core.Path.{_∙_}
 use Rattle.decimal.specs.Value.{value, isMultiple}
-use Rattle.clause.proofs.Having.{held-number, held-other, held-plain}
+use Rattle.clause.proofs.Found.{held-number, held-other, held-plain}
 use borrow.Author.Needs.{needs}
 use Rattle.clause.proofs.bounds.multiple_of.Statement.{statement}
 use Rattle.clause.proofs.bounds.multiple_of.Tie as tie

@@ -11,7 +11,7 @@ use Rattle.sheet.specs.Record.{docOf}
 use Rattle.rulesheet.specs.Codes.{entryName}
 use Rattle.rulesheet.specs.Sheet.{entryAt}
 use Rattle.clause.proofs.Listing.{list-few}
-use Rattle.clause.proofs.Naming.{has-members, is-missed, is-found, isNamed, entry-lacks, entry-has, no-object, lacks, has-all}
+use Rattle.clause.proofs.Requiring.{has-members, is-missed, is-found, isNamed, entry-lacks, entry-has, no-object, lacks, has-all}
 use Rattle.clause.proofs.members.required.Statement.{statement}
 use Rattle.clause.proofs.members.required.Tie as tie
 

@@ -4,7 +4,7 @@ use Rattle.sheet.specs.Record.{docOf}
 use Rattle.rulesheet.specs.Clauses.{held}
 use Rattle.meaning.specs.Rules.{passes}
 use Rattle.clause.proofs.Asserting.{tried}
-use Rattle.clause.proofs.Having.{never}
+use Rattle.looking.proofs.Having.{never}
 use Rattle.clause.proofs.Telling.{above}
 use borrow.Author.Needs.{needs}
 use Rattle.clause.proofs.plain.plainly.Statement.{statement}

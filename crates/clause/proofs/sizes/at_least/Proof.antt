@@ -1,7 +1,7 @@
 -- `at_least` meets its contract, for a size and for none. Assumes nothing.
 use lib.Dec.{leb}
 use Rattle.meaning.specs.Tests.{atLeast}
-use Rattle.clause.proofs.Measures.{size-holds, other-holds}
+use Rattle.clause.proofs.Limits.{size-holds, other-holds}
 use borrow.Author.Needs.{needs}
 use Rattle.clause.proofs.sizes.at_least.Statement.{statement}
 use Rattle.clause.proofs.sizes.at_least.Tie as tie

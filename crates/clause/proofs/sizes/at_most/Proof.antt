@@ -1,7 +1,7 @@
 -- `at_most` meets its contract, for a size and for none. Assumes nothing.
 use lib.Dec.{leb}
 use Rattle.meaning.specs.Tests.{atMost}
-use Rattle.clause.proofs.Measures.{size-holds, other-holds}
+use Rattle.clause.proofs.Limits.{size-holds, other-holds}
 use borrow.Author.Needs.{needs}
 use Rattle.clause.proofs.sizes.at_most.Statement.{statement}
 use Rattle.clause.proofs.sizes.at_most.Tie as tie

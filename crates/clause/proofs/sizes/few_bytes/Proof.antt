@@ -1,8 +1,8 @@
 -- `few_bytes` meets its contract, for a string and for a row that is none. Assumes nothing.
 use mathlib.Core.Path.{sym, _∙_}
 use borrow.Author.Tests.{not-true, not-false, leb-true}
-use Rattle.clause.proofs.Having.{no-bytes}
-use Rattle.clause.proofs.Measures.{few-bytes, no-bytes-few}
+use Rattle.looking.proofs.Having.{no-bytes}
+use Rattle.clause.proofs.Limits.{few-bytes, no-bytes-few}
 use borrow.Author.Needs.{needs}
 use Rattle.clause.proofs.sizes.few_bytes.Statement.{statement}
 use Rattle.clause.proofs.sizes.few_bytes.Tie as tie

@@ -3,8 +3,9 @@ use mathlib.Core.Path.{refl, sym, _∙_}
 use lib.Dec.{leb}
 use borrow.Author.Tests.{not-true, not-false}
 use Rattle.meaning.specs.Tests.{lengthOf, atLeast}
-use Rattle.clause.proofs.Having.{no-bytes, string-in}
-use Rattle.clause.proofs.Measures.{string-size, no-size, by-size, by-none}
+use Rattle.looking.proofs.Having.{no-bytes, string-in}
+use Rattle.looking.proofs.Measures.{string-size, no-size}
+use Rattle.clause.proofs.Limits.{by-size, by-none}
 use borrow.Author.Needs.{needs}
 use Rattle.clause.proofs.sizes.few_characters.Statement.{statement}
 use Rattle.clause.proofs.sizes.few_characters.Tie as tie

@@ -1,6 +1,6 @@
 -- `numeric` meets its contract. Assumes nothing.
 use mathlib.Core.Path.{sym, _∙_}
-use Rattle.clause.proofs.Having.{number-typed, integer-typed, untyped}
+use Rattle.clause.proofs.Found.{number-typed, integer-typed, untyped}
 use borrow.Author.Needs.{needs}
 use Rattle.clause.proofs.types.numeric.Statement.{statement}
 use Rattle.clause.proofs.types.numeric.Tie as tie

@@ -1,6 +1,6 @@
 -- `plainly_numeric` meets its contract. Assumes nothing.
 use mathlib.Core.Path.{sym, _∙_}
-use Rattle.clause.proofs.Having.{number-typed}
+use Rattle.clause.proofs.Found.{number-typed}
 use borrow.Author.Needs.{needs}
 use Rattle.clause.proofs.types.plainly_numeric.Statement.{statement}
 use Rattle.clause.proofs.types.plainly_numeric.Tie as tie

@@ -1,7 +1,7 @@
 -- `plainly_typed` meets its contract: a number by its value, and what is none by the exact test. Assumes nothing.
 use mathlib.Core.List.{[]}
 use mathlib.Core.Path.{sym, _∙_}
-use Rattle.clause.proofs.Having.{held-plain, typed-number}
+use Rattle.clause.proofs.Found.{held-plain, typed-number}
 use borrow.Author.Needs.{needs}
 use Rattle.clause.proofs.types.plainly_typed.Statement.{statement}
 use Rattle.clause.proofs.types.plainly_typed.Tie as tie

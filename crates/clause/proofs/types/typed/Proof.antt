@@ -2,7 +2,7 @@
 use mathlib.Core.List.{[]}
 use mathlib.Core.Path.{ap, _∙_}
 use Rattle.clause.specs.Read.{typeNumber}
-use Rattle.clause.proofs.Having.{held-plain, typed-number, typed-other, type-positive}
+use Rattle.clause.proofs.Found.{held-plain, typed-number, typed-other, type-positive}
 use borrow.Author.Needs.{needs}
 use Rattle.clause.proofs.types.typed.Statement.{statement}
 use Rattle.clause.proofs.types.typed.Tie as tie

@@ -2,7 +2,7 @@
 use mathlib.Core.Path.{sym, ap, _∙_}
 use borrow.Author.Tests.{eq-eqb}
 use Rattle.sheet.specs.Kinds.{kindNumber}
-use Rattle.clause.proofs.Having.{number-found, bytes-found, string-in}
+use Rattle.looking.proofs.Having.{number-found, bytes-found, string-in}
 use Rattle.clause.proofs.Equality.{kinds-differ, numbers-same, strings-same, kinds-same, entry-kind, entry-number, entry-plain, entry-bytes, entry-fits}
 use borrow.Author.Needs.{needs}
 use Rattle.clause.proofs.values.equals_entry.Statement.{statement}

@@ -1,7 +1,7 @@
 -- `count_of` meets its contract, for a size and for none. Assumes nothing.
 use mathlib.Core.Path.{_≡_, sym, ap}
-use Rattle.clause.specs.declared.sizes.Measured.{Measured}
-use Rattle.clause.specs.Read.{sizeIn, orNone}
+use Rattle.looking.specs.declared.sizes.Measured.{Measured}
+use Rattle.looking.specs.Read.{sizeIn, orNone}
 use borrow.Author.Needs.{needs}
 use Rattle.steps.proofs.children.count_of.Statement.{statement}
 use Rattle.steps.proofs.children.count_of.Tie as tie

@@ -3,7 +3,7 @@ use mathlib.Core.List.{[]}
 use mathlib.Core.Path.{refl}
 use native.Mathlib.Omega.{arith}
 use Rattle.sheet.specs.Record.{docOf}
-use Rattle.clause.proofs.Naming.{child-inside}
+use Rattle.looking.proofs.Naming.{child-inside}
 use Rattle.steps.proofs.Aiming.{elements-some}
 use Rattle.steps.proofs.Choosing.{first-in, counted-turn, counted-end}
 use borrow.Author.Needs.{needs}

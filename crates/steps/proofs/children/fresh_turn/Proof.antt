@@ -8,7 +8,7 @@ use borrow.Author.Count.{below-more}
 use borrow.Author.Tests.{not-true, not-false}
 use Rattle.sheet.specs.Record.{docOf}
 use Rattle.areas.specs.Cells.{pairIs, column}
-use Rattle.clause.proofs.Naming.{child-inside}
+use Rattle.looking.proofs.Naming.{child-inside}
 use Rattle.steps.proofs.Aiming.{row-cell, skip-members, skip-elements, member-turn, member-end, element-turn, element-end}
 use borrow.Author.Needs.{needs}
 use Rattle.steps.proofs.children.fresh_turn.Statement.{statement}

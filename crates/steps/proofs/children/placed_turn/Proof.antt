@@ -3,7 +3,7 @@ use mathlib.Core.List.{[]}
 use mathlib.Core.Path.{refl, ap, _∙_}
 use native.Mathlib.Omega.{arith}
 use Rattle.sheet.specs.Record.{docOf}
-use Rattle.clause.proofs.Naming.{child-inside}
+use Rattle.looking.proofs.Naming.{child-inside}
 use Rattle.steps.proofs.Aiming.{elements-some, placed-turn, placed-end}
 use borrow.Author.Needs.{needs}
 use Rattle.steps.proofs.children.placed_turn.Statement.{statement}

@@ -4,7 +4,7 @@ use mathlib.Core.Path.{refl, ap, _∙_}
 use native.Mathlib.Omega.{arith}
 use Prim.Native.Nat.{_+_}
 use Rattle.sheet.specs.Record.{docOf}
-use Rattle.clause.proofs.Naming.{child-inside}
+use Rattle.looking.proofs.Naming.{child-inside}
 use Rattle.steps.proofs.Aiming.{elements-some, rest-turn, rest-end}
 use borrow.Author.Needs.{needs}
 use Rattle.steps.proofs.children.rest_turn.Statement.{statement}

@@ -1,10 +1,10 @@
 -- `enough` meets its contract. Assumes nothing.
 use mathlib.Core.Option.{some, none}
 use mathlib.Core.Path.{_≡_, sym, ap, _∙_}
-use Rattle.clause.specs.declared.sizes.Measured.{Measured}
+use Rattle.looking.specs.declared.sizes.Measured.{Measured}
 use Rattle.sheet.specs.Record.{docOf}
 use Rattle.meaning.specs.Rules.{contained}
-use Rattle.clause.specs.Read.{sizeIn}
+use Rattle.looking.specs.Read.{sizeIn}
 use Rattle.steps.proofs.Reading.{enough-size, enough-none}
 use borrow.Author.Needs.{needs}
 use Rattle.steps.proofs.finish.enough.Statement.{statement}

@@ -3,7 +3,7 @@ use mathlib.Core.List.{[]}
 use mathlib.Core.Path.{refl}
 use native.Mathlib.Omega.{arith}
 use Prim.Native.Nat.{_-_}
-use Rattle.clause.proofs.Naming.{child-inside}
+use Rattle.looking.proofs.Naming.{child-inside}
 use borrow.Author.Needs.{needs}
 use Rattle.steps.proofs.line.children_line.Statement.{statement}
 use Rattle.steps.proofs.line.children_line.Tie as tie

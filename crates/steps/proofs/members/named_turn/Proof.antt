@@ -9,7 +9,7 @@ use Rattle.rulesheet.specs.declared.code.Fields.the-variants.{Members}
 use Rattle.rulesheet.specs.Ruleset as R
 use Rattle.rulesheet.specs.Clauses.{membersIn}
 use Rattle.meaning.specs.Rules.{Pair, Marks}
-use Rattle.clause.proofs.Naming.{child-inside}
+use Rattle.looking.proofs.Naming.{child-inside}
 use Rattle.clause.proofs.Listing.{list-few}
 use Rattle.plan.specs.Plan.{memberCount}
 use Rattle.steps.specs.Turns.{Skipped}

@@ -8,7 +8,7 @@ use Rattle.rulesheet.specs.Ruleset as R
 use Rattle.meaning.specs.Rules.{Marks}
 use Rattle.areas.specs.Cells.{pairIs}
 use Rattle.clause.specs.Read.{beforeIn}
-use Rattle.clause.proofs.Naming.{child-inside}
+use Rattle.looking.proofs.Naming.{child-inside}
 use Rattle.steps.specs.Turns.{Skipped}
 use Rattle.steps.proofs.Turns.{skipped-none}
 use Rattle.told.proofs.Earlier.{before-long}

@@ -1,0 +1,4 @@
+-- In reading order.
+pub mod Having
+pub mod Measures
+pub mod Naming
