@@ -5,12 +5,11 @@
 --     line-fewer                            fewer steps of a line
 --     areas-count, cells-room               there are few pairs
 -- Assumes nothing.
-use mathlib.Core.Bool.{Bool, true, false, not, _||_, cond}
+use mathlib.Core.Bool.{Bool, true, cond}
 use mathlib.Core.List.{List, List·Memᴰ as Has}
-use mathlib.Core.Path.{_≡_, refl, sym, ap, _∙_, subst}
+use mathlib.Core.Path.{_≡_, refl, sym, ap, _∙_}
 use Prim.Native.Nat.{ℕ, _+_, _*_, _<_, _≤_}
 use native.Mathlib.Omega.{arith}
-use lib.Dec.{eqb}
 use lib.ListN.{length, getD}
 use lib.Seq.{getD-set-same, getD-set-other}
 use Rattle.sheet.specs.Doc.{Doc}
@@ -18,17 +17,16 @@ use Rattle.sheet.specs.declared.record.RecordRow.{RecordRow}
 use Rattle.sheet.specs.declared.record.RuleRow.{RuleRow}
 use Rattle.rulesheet.specs.Ruleset.{Clause}
 use Rattle.meaning.specs.Rules.{Pair, Marks}
-use Rattle.areas.specs.Cells.{pairIs, cellAt, verd, Unsettled, settledAs}
+use Rattle.areas.specs.Cells.{cellAt, verd, Unsettled, settledAs}
 use Rattle.areas.specs.Writers.{Open, Shut, Marked}
 use Rattle.areas.proofs.Cells.{verd-settle, same-row, settled-le}
 use Rattle.plan.specs.Plan.{moved, afterMiss}
-use Rattle.steps.specs.declared.turn.Turn.{Turn}
 use Rattle.steps.specs.Turns.{Turned}
 use Rattle.steps.specs.Lines.{InLine}
 use Rattle.steps.proofs.Turns.{at, goes-on, skipped-none}
 use Rattle.lent.specs.Lent.{Case, Fits, clausesOf, clauseAt, beforeOf, firstKid, kidCount, PassesFirst, HandsOn, givenOn, nextAt}
 use Rattle.lent.proofs.Reading.{pairs-few}
-use Rattle.cycle.specs.State.{rankOf, Areas, Ready, Judged}
+use Rattle.cycle.specs.State.{Areas, Ready, Judged}
 use Rattle.cycle.specs.Steps.{Standing}
 use Rattle.cycle.proofs.Going.{Aim}
 use Rattle.cycle.proofs.Turning.{first-open, Turning, turning, turning-aim, turning-ready, turning-hands, turning-more}

@@ -2,7 +2,7 @@
 --     member-elem     a member is among the members
 --     named-marks     of a member such a clause marks whether it names it
 -- Assumes nothing.
-use mathlib.Core.Bool.{Bool, true, false, _&&_, _||_, cond, or-assoc}
+use mathlib.Core.Bool.{Bool, true, false, _&&_, _||_, cond, and-false, or-true}
 use mathlib.Core.List.{List, [], _∷_, _++_, map, map-append}
 use mathlib.Core.Logic.{⊎-elim}
 use mathlib.Core.Path.{_≡_, refl, sym, ap, _∙_}
@@ -30,17 +30,9 @@ elem-range : (a n k : ℕ) → k < n → elem (a + k) (range a n) ≡ true
 unfolding elem range
 elem-range a zero k h = absurd (omega arith)
 elem-range a (suc n) zero h = let z : a + 0 ≡ a = omega arith in ap (λ (b : Bool). b || elem (a + 0) (range (suc a) n)) (eq-eqb (a + 0) a z)
-elem-range a (suc n) (suc k) h = let z : a + suc k ≡ suc a + k = omega arith in rw z (rw (elem-range (suc a) n k (omega arith)) (any-true (eqb (suc a + k) a)))
-  where
-    any-true : (b : Bool) → (b || true) ≡ true
-    any-true true = refl
-    any-true false = refl
+elem-range a (suc n) (suc k) h = let z : a + suc k ≡ suc a + k = omega arith in rw z (rw (elem-range (suc a) n k (omega arith)) (or-true (eqb (suc a + k) a)))
 
 -- those of a list that pass a test
-no-more : (b : Bool) → (b && false) ≡ false
-no-more true = refl
-no-more false = refl
-
 keep-one : (t : ℕ → Bool) (k x : ℕ) (l m : List ℕ) → elem k l ≡ (elem k m && t k) → elem k (cond (t x) (x ∷ l) l) ≡ ((eqb k x || elem k m) && t k)
 unfolding elem
 keep-one t k x l m rest =
@@ -51,7 +43,7 @@ keep-one t k x l m rest =
   where
     here : (b : Bool) → t k ≡ b → t x ≡ t k → eqb k x ≡ true → elem k (cond (t x) (x ∷ l) l) ≡ ((eqb k x || elem k m) && t k)
     here true h s e = rw (s, h, e)
-    here false h s e = rw (s, h, e) (rest ∙ rw h (no-more (elem k m)))
+    here false h s e = rw (s, h, e) (rest ∙ rw h (and-false (elem k m)))
 
     other : (b : Bool) → t x ≡ b → eqb k x ≡ false → elem k (cond (t x) (x ∷ l) l) ≡ ((eqb k x || elem k m) && t k)
     other true h e = rw (h, e) rest
