@@ -28,7 +28,7 @@ use Rattle.meaning.proofs.Answers.{rows-are, schemas-are, call-judged, fits}
 use Rattle.clause.proofs.Reading.{record-read, rules-read}
 use Rattle.cycle.specs.declared.cycle.Verdict.{Verdict}
 use Rattle.lent.specs.Lent.{Sheets, caseOf}
-use Rattle.judge.specs.Whole.{Roomy, leftBy, judgedOf}
+use Rattle.run.specs.Whole.{Roomy, leftBy, judgedOf}
 use Rattle.meaning.proofs.Verdicts.{cut-list}
 use Rattle.judge.specs.declared.answer.Answer.{Answer}
 use Rattle.judge.specs.Call.{answerOf, leaves, verdictLeaves}

@@ -1,9 +1,8 @@
 // The judge: a record sheet and a rule sheet with their texts, and two lent areas, cells and list.
 //
-// Both calls are checks (`sheet`, `rules`), areas, clearing and judging (`run`, crate `cycle`): `judge` judges
+// Both calls are checks (`sheet`, `rules`), areas, clearing and judging (crate `run`): `judge` judges
 // in whole, and `verdict`, which has no list, cut. Their contracts cite `specs/Call.antt`.
 pub mod answer;
-mod run;
 
 ghost use mathlib.Core.Path.{_≡_};
 ghost use Rattle.sheet.specs.Refusals.{accepted};
@@ -15,6 +14,7 @@ use answer::Answer;
 use recordcheck::check_record;
 use rules::check_rules;
 use rulesheet::form::RuleForm;
+use run::list_room;
 use sheet::record::RecordForm;
 use sheet::record::wide;
 use sheet::refusal::Checked;
@@ -120,7 +120,7 @@ pub fn judge_in_areas<'a>(
     if cells.len() < size {
         return Answer::Refused(Refusal::FewCells, n * m);
     }
-    if list.len() < run::list_room(size, cut) {
+    if list.len() < list_room(size, cut) {
         return Answer::Refused(Refusal::ShortList, n * m);
     }
     let form = RecordForm::of(record);

@@ -13,7 +13,7 @@ use Rattle.judge.proofs.judge_in_areas.Statement.{statement}
 use Rattle.judge.proofs.judge_in_areas.Tie as tie
 use Rattle.judge.proofs.judge_in_areas.Reads as reads
 use Rattle.judge.proofs.judge_in_areas.Lts as lts
-use Rattle.judge.proofs.run.run.Reads as run-reads
+use Rattle.run.proofs.run.Reads as run-reads
 use Rattle.rulesheet.proofs.form.RuleForm.of.Reads as form-RuleForm-of-reads
 use Rattle.sheet.proofs.record.RecordForm.of.Reads as record-RecordForm-of-reads
 use Rattle.sheet.proofs.record.wide.Reads as wide-reads

@@ -29,7 +29,7 @@ use Rattle.areas.proofs.Cells.{settledAs-read, whole as both-parts, zero-verd, 
 use Rattle.cycle.specs.declared.cycle.Verdict.{Verdict}
 use Rattle.lent.specs.Lent.{Case, pair, Fits, InCase, firstKid, kidCount}
 use Rattle.cycle.specs.State.{truthOf, settleOf, bitsOf, written, Areas, Quiet, Ready, Judged}
-use Rattle.judge.specs.Whole.{Exact, Fresh, Roomy, leftBy, judgedOf}
+use Rattle.run.specs.Whole.{Exact, Fresh, Roomy, leftBy, judgedOf}
 use Rattle.cycle.proofs.Pairs.{settle-self}
 use Rattle.cycle.proofs.State.{written-room, written-none, areas-marks, areas-writes}
 use Rattle.cycle.proofs.Going.{open-bits}

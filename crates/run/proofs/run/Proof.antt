@@ -5,17 +5,17 @@ use native.Mathlib.Omega.{arith}
 use lib.ListN.{length}
 use Rattle.meaning.specs.Answer.{listRoom}
 use Rattle.lent.specs.Lent.{Case}
-use Rattle.judge.specs.Whole.{Roomy}
+use Rattle.run.specs.Whole.{Roomy}
 use borrow.Author.Needs.{needs}
 use lib.Seq.{length-take-le}
-use Rattle.judge.proofs.Whole.{part-exact, part-judged}
+use Rattle.run.proofs.Whole.{part-exact, part-judged}
 use Rattle.lent.proofs.Reading.{size-is, size-fits}
 use borrow.Author.Needs.{needs}
-use Rattle.judge.proofs.run.run.Statement.{statement}
-use Rattle.judge.proofs.run.run.Tie as tie
-use Rattle.judge.proofs.run.run.Reads as reads
-use Rattle.judge.proofs.run.run.Lts as lts
-use Rattle.judge.proofs.run.run_exact.Reads as run-exact-reads
+use Rattle.run.proofs.run.Statement.{statement}
+use Rattle.run.proofs.run.Tie as tie
+use Rattle.run.proofs.run.Reads as reads
+use Rattle.run.proofs.run.Lts as lts
+use Rattle.run.proofs.run_exact.Reads as run-exact-reads
 use Rattle.sheet.proofs.record.wide.Reads as wide-reads
 
 wide-requires : tie.Need-wide-requires

@@ -1,8 +1,9 @@
 // The run after both checks: the cells are cleared, the root pair is applied, its marks are counted.
+// The contracts cite `specs/Whole.antt`.
 ghost use mathlib.Core.Path.{_≡_};
 ghost use Rattle.lent.specs.Lent.{Sheets, caseOf, wayBy};
 ghost use Rattle.meaning.specs.Answer.{listRoom};
-ghost use Rattle.judge.specs.Whole.{Exact, Roomy, leftBy, judgedOf};
+ghost use Rattle.run.specs.Whole.{Exact, Roomy, leftBy, judgedOf};
 use areas::clear;
 use areas::marked_of;
 use cycle::cycle::Verdict;
@@ -18,7 +19,7 @@ use sheet::record::children_of;
 use sheet::record::wide;
 
 // How many places of the list are asked, for so many pairs: none if judging is cut.
-pub(crate) fn list_room(pairs: usize, cut: bool) -> usize
+pub fn list_room(pairs: usize, cut: bool) -> usize
     ensures { λ r. ⌜ r ≡ listRoom (wayBy cut) pairs ⌝ }
 {
     if cut { 0 } else { pairs }
@@ -60,7 +61,7 @@ fn run_exact<'a>(
 }
 
 // In areas of as many places or more, of which the first are used.
-pub(crate) fn run<'a>(
+pub fn run<'a>(
     record: &'a [u32],
     text: &'a [u8],
     rules: &'a [u32],
