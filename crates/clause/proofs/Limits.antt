@@ -14,7 +14,7 @@ use borrow.Author.Tests.{le-leb}
 use Rattle.text.specs.declared.Range.{Range}
 use Rattle.text.specs.Part.{part}
 use Rattle.text.proofs.Ranges.{part-length}
-use Rattle.utf8.specs.Counting.{leadLength, countAfter, count}
+use Rattle.counting.specs.Counting.{leadLength, countAfter, count}
 use Rattle.sheet.specs.Record.{textWord, docOf}
 use Rattle.sheet.specs.Accepted.{StringRead}
 use Rattle.meaning.specs.Tests.{bytes?, lengthOf, given, atMost}

@@ -57,7 +57,7 @@ pub(crate) fn few_characters(
     if !is_kind(record, form, row, RowKind::STRING) {
         return true;
     }
-    utf8::has_characters(text, string_of(record, form, row), k)
+    counting::has_characters(text, string_of(record, form, row), k)
 }
 
 // Whether the row, if it is a string, has at least k characters.

@@ -27,7 +27,7 @@ pub fn length_of(record: &[u32], text: &[u8], form: RecordForm, row: RecordRow) 
     if !is_kind(record, form, row, RowKind::STRING) {
         return Measured::Other;
     }
-    Measured::Size(utf8::characters(text, string_of(record, form, row)))
+    Measured::Size(counting::characters(text, string_of(record, form, row)))
 }
 
 // How many elements an array has.

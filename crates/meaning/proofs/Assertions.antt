@@ -12,7 +12,7 @@ use lib.Signed.{leZ, ltZ}
 use borrow.Author.Tests.{leb-true, le-leb}
 use Rattle.decimal.specs.Value.{isMultiple}
 use Rattle.utf8.specs.Encoding.{Utf8, characters}
-use Rattle.utf8.proofs.Counted.{count-is}
+use Rattle.counting.proofs.Counted.{count-is}
 use Rattle.sheet.specs.Doc.{Value, string, Doc}
 use Rattle.meaning.specs.Lists.{any, range}
 use Rattle.meaning.specs.Tests.{lengthOf, atLeast, atMost, equal}

@@ -8,7 +8,7 @@ use lib.Dec.{eqb, leb}
 use lib.IntN.{ℤ}
 use Rattle.decimal.specs.Value.{equalZ, isWhole}
 use Rattle.text.specs.Part.{sameBytes}
-use Rattle.utf8.specs.Counting.{leadLength, countAfter, count}
+use Rattle.counting.specs.Counting.{leadLength, countAfter, count}
 use Rattle.sheet.specs.Doc.{Value, null, bool, number, string, array, object, valueKind}
 use Rattle.sheet.specs.Kinds.{kindNumber}
 use Rattle.meaning.specs.Lists.{any, range}
@@ -56,7 +56,7 @@ unfoldable pub rows : Option (List ℕ) → List ℕ
 rows none = []
 rows (some ks) = ks
 
--- a string's length is how many characters it has, each counted by its lead byte: of UTF-8 how many code points it encodes (`count-is` of crate `utf8`)
+-- a string's length is how many characters it has, each counted by its lead byte: of UTF-8 how many code points it encodes (`count-is` of crate `counting`)
 abbrev pub lengthOf : List ℕ → ℕ
 lengthOf bytes = count bytes
 

@@ -7,7 +7,7 @@ use native.Mathlib.Omega.{arith}
 use lib.ListN.{length}
 use Rattle.laws.specs.Lowest.{lowest}
 use Rattle.laws.proofs.Searches.{none-found}
-use Rattle.utf8.specs.Reach.{AllUtf8, places}
+use Rattle.reach.specs.Reach.{AllUtf8, places}
 use Rattle.sheet.specs.declared.record.RecordForm.{RecordForm}
 use Rattle.sheet.specs.Refusals.{accepted}
 use Rattle.sheet.specs.Record.{rowsWord, textWord, rowAt, docOf}

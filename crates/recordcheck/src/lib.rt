@@ -9,13 +9,13 @@ ghost use Prim.Native.Nat.{ℕ, _<_};
 ghost use Rattle.sheet.specs.Refusals.{outcomeOf};
 ghost use Rattle.sheet.specs.Faults.{recordOutcome};
 ghost use Rattle.recordcheck.specs.Order.{Begun, Ordered};
+use reach::is_ascii;
 use recordlayout::layout;
 use recordlayout::repeats;
 use recordlayout::texts;
 use sheet::record::RecordForm;
 use sheet::refusal::Checked;
 use sheet::refusal::Refusal;
-use utf8::reach::is_ascii;
 
 // The answer where all rows are in order: whether their text is UTF-8 is left to ask, and a text of
 // ASCII is.

@@ -4,18 +4,18 @@ ghost use mathlib.Core.Path.{_≡_};
 ghost use Prim.Native.Nat.{_<_};
 ghost use lib.ListN.{length};
 ghost use Rattle.laws.specs.Lowest.{lowest};
-ghost use Rattle.utf8.specs.Reach.{Known, places};
+ghost use Rattle.reach.specs.Reach.{Known, places};
 ghost use Rattle.sheet.specs.Record.{rowsWord, textWord, docOf};
 ghost use Rattle.sheet.specs.Faults.{notUtf8};
 ghost use Rattle.sheet.specs.Accepted.{Laid};
+use reach::BLOCKS;
+use reach::know;
+use reach::settles;
 use sheet::kind::RowKind;
 use sheet::record::RecordForm;
 use sheet::record::RecordRow;
 use sheet::record::row_at;
 use text::Range;
-use utf8::reach::BLOCKS;
-use utf8::reach::know;
-use utf8::reach::settles;
 
 // Whether row j has a name or a string that is not UTF-8, by what is known of the text.
 fn not_utf8(words: &[u32], text: &[u8], form: RecordForm, memo: &[u32], whole: bool, j: u32) -> bool

@@ -19,7 +19,7 @@ use Rattle.text.specs.declared.Range.{Range}
 use Rattle.text.specs.Part.{fits, part}
 use Rattle.text.proofs.Ranges.{le-fits}
 use Rattle.utf8.specs.Automaton.{isUtf8}
-use Rattle.utf8.specs.Reach.{AllUtf8}
+use Rattle.reach.specs.Reach.{AllUtf8}
 use Rattle.sheet.specs.declared.kind.RowKind.{RowKind}
 use Rattle.sheet.specs.declared.kind.RowKind.the-variants.{Null, False, True, Number as ANumber, String, Array, Object}
 use Rattle.sheet.specs.Kinds.{kindNumber, kindOf, isKind}

@@ -5,11 +5,15 @@ ghost use mathlib.Core.Path.{_≡_};
 ghost use Prim.Native.Nat.{_<_};
 ghost use lib.ListN.{length};
 ghost use Rattle.laws.specs.Lowest.{lowest, lowestFrom};
-ghost use Rattle.utf8.specs.Reach.{Known, places};
+ghost use Rattle.reach.specs.Reach.{Known, places};
 ghost use Rattle.rulesheet.specs.Sheet.{entriesWord, textWord, clauseAt};
 ghost use Rattle.rulesheet.specs.Faults.{isList, fieldsAt, notUtf8};
 ghost use Rattle.rulesheet.specs.Read.{RulesLaid};
 ghost use Rattle.rulelayout.specs.Passes.{StringRange, TextRange};
+use reach::BLOCKS;
+use reach::is_ascii;
+use reach::know;
+use reach::settles;
 use rulesheet::code::Fields;
 use rulesheet::code::Shape;
 use rulesheet::form::EntryRow;
@@ -18,10 +22,6 @@ use rulesheet::form::clause_at;
 use rulesheet::form::entry_at;
 use sheet::kind::RowKind;
 use text::Range;
-use utf8::reach::BLOCKS;
-use utf8::reach::is_ascii;
-use utf8::reach::know;
-use utf8::reach::settles;
 
 // The string that an entry of an enum holds, as a range of the text: an empty one of any other kind.
 fn string_range(entry: EntryRow) -> Range

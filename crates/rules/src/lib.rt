@@ -11,13 +11,13 @@ ghost use Rattle.unguarded.specs.Places.{chainPlace};
 ghost use Rattle.rulepass.specs.Pass.{Laid};
 ghost use Rattle.rules.specs.Check.{rulesOutcome};
 ghost use Rattle.rules.specs.Accepted.{TrailerFine};
+use reach::is_ascii;
 use rulelayout::layout;
 use rulelayout::repeats;
 use rulelayout::texts;
 use rulesheet::form::RuleForm;
 use sheet::refusal::Checked;
 use sheet::refusal::Refusal;
-use utf8::reach::is_ascii;
 
 // The lines after 7 of the table, of a sheet that has passed those up to it. `short` says that 8 and 9
 // are known not to apply.

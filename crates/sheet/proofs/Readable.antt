@@ -17,7 +17,7 @@ use Rattle.laws.proofs.Tests.{decide, left, right}
 use Rattle.text.specs.Part.{fits, part}
 use Rattle.utf8.specs.Encoding.{none, encodeAll, Utf8}
 use Rattle.utf8.specs.Automaton.{isUtf8}
-use Rattle.utf8.specs.Reach.{AllUtf8}
+use Rattle.reach.specs.Reach.{AllUtf8}
 use Rattle.utf8.proofs.Tests.{clash}
 use Rattle.utf8.proofs.Meaning.{utf8-is}
 use Rattle.sheet.specs.declared.kind.RowKind.{RowKind}

@@ -1,5 +1,5 @@
 -- `first_not_utf8` meets its contract: an empty table tells nothing. Assumes nothing.
-use Rattle.utf8.proofs.Reaching.{blank}
+use Rattle.reach.proofs.Reaching.{blank}
 use borrow.Author.Needs.{needs}
 use Rattle.recordlayout.proofs.texts.first_not_utf8.Statement.{statement}
 use Rattle.recordlayout.proofs.texts.first_not_utf8.Tie as tie

@@ -2,7 +2,7 @@
 use mathlib.Core.Path.{_≡_, refl, sym, ap, _∙_}
 use Prim.Native.Nat.{ℕ, _+_, _≤_, _<_}
 use native.Mathlib.Omega.{arith}
-use Rattle.utf8.proofs.Reaching.{blank}
+use Rattle.reach.proofs.Reaching.{blank}
 use Rattle.laws.proofs.Searches.{none-found}
 use Rattle.rulesheet.specs.Sheet.{entriesWord}
 use Rattle.rulesheet.specs.Faults.{notUtf8}

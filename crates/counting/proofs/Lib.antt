@@ -1,0 +1,5 @@
+pub mod Counted
+pub mod Bytes
+pub mod Skips
+pub mod Passing
+pub mod Samples

@@ -1,0 +1,4 @@
+pub mod Cuts
+pub mod Skips
+pub mod Carrying
+pub mod Samples
