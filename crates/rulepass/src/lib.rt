@@ -17,7 +17,7 @@ use crate::later::after_list;
 use crate::later::after_one;
 use crate::lists::entries_fine;
 use crate::lists::named_fine;
-use rulelayout::layout::fields_ok;
+use ruleclauses::fields_ok;
 use rulesheet::code::Shape;
 use rulesheet::form::ClauseRow;
 use rulesheet::form::RuleForm;
