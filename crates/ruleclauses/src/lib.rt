@@ -9,8 +9,8 @@ ghost use Rattle.rulesheet.specs.Faults.{positiveOk, fieldsOk, listStart, claus
 ghost use Rattle.rulesheet.specs.Read.{RulesFormed, SchemasLaid};
 ghost use Rattle.ruleclauses.specs.Passes.{passedBy, ClausesPassed};
 use decimal::Decimal;
+use rulecodes::shape_of;
 use rulesheet::code::Fields;
-use rulesheet::code::Shape;
 use rulesheet::form::ClauseRow;
 use rulesheet::form::RuleForm;
 use rulesheet::form::clause_at;
@@ -66,7 +66,7 @@ fn pass_clause(words: &[u32], form: RuleForm, start: usize, clause: ClauseRow) -
     requires { ⌜ RulesFormed (now words) form ⌝ }
     ensures { λ r. ⌜ r ≡ passedBy (now (words .entry)) start clause ⌝ }
 {
-    let shape = Shape::of(clause.code);
+    let shape = shape_of(clause.code);
     let fields = shape.fields;
     if fields.is_list() {
         let first = wide(clause.first);

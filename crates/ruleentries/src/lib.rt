@@ -9,8 +9,8 @@ ghost use Rattle.laws.specs.Lowest.{lowest, lowestFrom};
 ghost use Rattle.rulesheet.specs.Sheet.{schemasWord, entriesWord, textWord, entryAt};
 ghost use Rattle.rulesheet.specs.Faults.{entryOk, entryFault};
 ghost use Rattle.rulesheet.specs.Read.{RulesFormed, ClausesLaid};
+use rulecodes::shape_of;
 use rulesheet::code::Fields;
-use rulesheet::code::Shape;
 use rulesheet::form::EntryRow;
 use rulesheet::form::RuleForm;
 use rulesheet::form::clause_at;
@@ -83,7 +83,7 @@ pub fn first_bad_entry(words: &[u32], form: RuleForm, size: usize) -> u32
     let mut k = 0;
     while k < c {
         let clause = clause_at(words, form, k);
-        let shape = Shape::of(clause.code);
+        let shape = shape_of(clause.code);
         let fields = shape.fields;
         if fields.is_list() {
             let first = clause.first;

@@ -9,7 +9,7 @@ ghost use Rattle.rulesheet.specs.Sheet.{entriesWord, textWord, clauseAt};
 ghost use Rattle.rulesheet.specs.Faults.{isNamed, fieldsAt, repeated};
 ghost use Rattle.rulesheet.specs.Read.{RulesLaid};
 use names::Names;
-use rulesheet::code::Shape;
+use rulecodes::shape_of;
 use rulesheet::form::RuleForm;
 use rulesheet::form::clause_at;
 use sheet::record::wide;
@@ -47,7 +47,7 @@ pub fn first_repeated_entry(words: &[u32], text: &[u8], form: RuleForm) -> u32
     let mut k = 0;
     while k < c {
         let clause = clause_at(words, form, k);
-        let shape = Shape::of(clause.code);
+        let shape = shape_of(clause.code);
         let fields = shape.fields;
         if fields.is_named() {
             let again = first_repeated_in(words, text, form, k);

@@ -11,8 +11,8 @@ ghost use Rattle.rulesheet.specs.Sheet.{entriesWord, textWord, clauseAt};
 ghost use Rattle.rulesheet.specs.Faults.{isList, fieldsAt, notUtf8};
 ghost use Rattle.rulesheet.specs.Read.{RulesLaid};
 ghost use Rattle.ruletexts.specs.Ranges.{StringRange, TextRange};
+use rulecodes::shape_of;
 use rulesheet::code::Fields;
-use rulesheet::code::Shape;
 use rulesheet::form::EntryRow;
 use rulesheet::form::RuleForm;
 use rulesheet::form::clause_at;
@@ -76,7 +76,7 @@ fn first_in(words: &[u32], text: &[u8], form: RuleForm, memo: &[u32], whole: boo
     ensures { λ r. ⌜ r ≡ lowestFrom (notUtf8 (now (words .entry)) (now (text .entry))) (clauseAt (now (words .entry)) k .count) (clauseAt (now (words .entry)) k .first) ⌝ }
 {
     let clause = clause_at(words, form, k);
-    let shape = Shape::of(clause.code);
+    let shape = shape_of(clause.code);
     let fields = shape.fields;
     let end = clause.first + clause.count;
     let mut x = clause.first;
@@ -99,7 +99,7 @@ fn first_by(words: &[u32], text: &[u8], form: RuleForm, memo: &[u32], whole: boo
     let mut k = 0;
     while k < c {
         let clause = clause_at(words, form, k);
-        let shape = Shape::of(clause.code);
+        let shape = shape_of(clause.code);
         let fields = shape.fields;
         if fields.is_list() {
             let bad = first_in(words, text, form, memo, whole, k);

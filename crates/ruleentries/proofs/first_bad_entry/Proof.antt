@@ -28,8 +28,8 @@ loop-holds c = (omega arith, refl, walk-begins (c .before .args .words .now) (en
 clause-at-requires : tie.Need-clause-at-requires Inv-loop μ-loop
 clause-at-requires c κs = (c .before .before .before .pre .0 .schemas-laid .formed, omega arith)
 
-of-requires : tie.Need-of-requires Inv-loop μ-loop
-of-requires c κs = search needs
+shape-of-requires : tie.Need-shape-of-requires Inv-loop μ-loop
+shape-of-requires c κs = search needs
 
 is-list-requires : tie.Need-is-list-requires Inv-loop μ-loop
 is-list-requires c κs = search needs
@@ -42,7 +42,7 @@ add-end c =
     let s = l .before .before in
     let ws = s .args .words .now in
     let formed = s .pre .0 .schemas-laid .formed in
-    let inside = list-inside ws (s .args .form) (s .pre .0) (omega arith) (clause .result) (clause .ensures) (told isList (fields-read ws (l .loop .k) (clause .ensures) (a .before .of .ensures)) (a .is-list .ensures) (c .before .if1 .taken)) in
+    let inside = list-inside ws (s .args .form) (s .pre .0) (omega arith) (clause .result) (clause .ensures) (told isList (fields-read ws (l .loop .k) (clause .ensures) (a .before .shape-of .ensures)) (a .is-list .ensures) (c .before .if1 .taken)) in
     omega (arith, form-e ws (s .args .form) formed, facts ws (s .args .form) formed .few-entries)
 
 first-bad-in-requires : tie.Need-first-bad-in-requires Inv-loop μ-loop
@@ -52,7 +52,7 @@ first-bad-in-requires c κs =
     let l = a .before .before .before .before in
     let s = l .before .before in
     let ws = s .args .words .now in
-    (s .pre .0 .schemas-laid .formed, s .pre .1, omega arith, list-inside ws (s .args .form) (s .pre .0) (omega arith) (clause .result) (clause .ensures) (told isList (fields-read ws (l .loop .k) (clause .ensures) (a .before .of .ensures)) (a .is-list .ensures) (c .before .if1 .taken)))
+    (s .pre .0 .schemas-laid .formed, s .pre .1, omega arith, list-inside ws (s .args .form) (s .pre .0) (omega arith) (clause .result) (clause .ensures) (told isList (fields-read ws (l .loop .k) (clause .ensures) (a .before .shape-of .ensures)) (a .is-list .ensures) (c .before .if1 .taken)))
 
 returns : tie.Need-returns Inv-loop μ-loop
 returns c =
@@ -61,10 +61,10 @@ returns c =
     let l = a .before .before .before .before in
     let s = l .before .before in
     let ws = s .args .words .now in
-    let list = told isList (fields-read ws (l .loop .k) (clause .ensures) (a .before .of .ensures)) (a .is-list .ensures) (c .before .before .before .if1 .taken) in
+    let list = told isList (fields-read ws (l .loop .k) (clause .ensures) (a .before .shape-of .ensures)) (a .is-list .ensures) (c .before .before .before .if1 .taken) in
     let bad = c .before .first-bad-in in
     walk-ends ws (s .args .form) (s .pre .0) (omega arith) (clause .result) (clause .ensures) list (entryFault ws) (l .loop .inv .2) (bad .result)
-    (entries-asked ws (s .args .form) (s .pre .0) (l .loop .k) (bad .result) (clause .result) (a .before .of .result .fields) (omega arith) list (clause .ensures) (fields-read ws (l .loop .k) (clause .ensures) (a .before .of .ensures)) (bad .ensures))
+    (entries-asked ws (s .args .form) (s .pre .0) (l .loop .k) (bad .result) (clause .result) (a .before .shape-of .result .fields) (omega arith) list (clause .ensures) (fields-read ws (l .loop .k) (clause .ensures) (a .before .shape-of .ensures)) (bad .ensures))
     (c .if2 .taken)
 
 add-k : tie.Need-add-k Inv-loop μ-loop
@@ -84,14 +84,14 @@ loop-again c =
     let s = l .before .before in
     let ws = s .args .words .now in
     let k = l .loop .k in
-    let same = fields-read ws k (clause .ensures) (a .before .of .ensures) in
+    let same = fields-read ws k (clause .ensures) (a .before .shape-of .ensures) in
     let both : (c .if1 .x ≡ listStart ws (k + 1)) × Walked ws (entryFault ws) (k + 1) =
     ⊎-elim
     (λ w.
     let list = told isList same (a .is-list .ensures) (w .0 .taken) in (
       w .4 ∙ sym (after-list ws k list ∙ ap (λ (x : ClauseRow). x .first + x .count) (sym (clause .ensures))),
       walk-on ws (s .args .form) (s .pre .0) (omega arith) (clause .result) (clause .ensures) list (entryFault ws) (l .loop .inv .2) (w .2 .result)
-          (entries-asked ws (s .args .form) (s .pre .0) k (w .2 .result) (clause .result) (a .before .of .result .fields) (omega arith) list (clause .ensures) same (w .2 .ensures))
+          (entries-asked ws (s .args .form) (s .pre .0) k (w .2 .result) (clause .result) (a .before .shape-of .result .fields) (omega arith) list (clause .ensures) same (w .2 .ensures))
           (w .3 .left),
     ))
     (λ w.
@@ -120,7 +120,7 @@ first-bad-entry-spec =
     μ-loop
     loop-holds
     clause-at-requires
-    of-requires
+    shape-of-requires
     is-list-requires
     add-end
     first-bad-in-requires

@@ -21,8 +21,8 @@ abbrev μ-loop : tie.MeasureT-loop
 clause-at-requires : tie.Need-clause-at-requires Inv-loop μ-loop
 clause-at-requires c κs = ((c .before .before .before .pre .0 .0 .clauses-laid .schemas-laid .formed), c .before .before .before .pre .1 .0)
 
-of-requires : tie.Need-of-requires Inv-loop μ-loop
-of-requires c κs = search needs
+shape-of-requires : tie.Need-shape-of-requires Inv-loop μ-loop
+shape-of-requires c κs = search needs
 
 add-end : tie.Need-add-end Inv-loop μ-loop
 add-end c = omega (arith, list-inside (c .before .before .before .before .before .before .args .words .now) (c .before .before .before .before .before .before .args .form) (c .before .before .before .before .before .before .pre .0 .0 .clauses-laid) (c .before .before .before .before .before .before .pre .1 .0) (c .before .before .clause-at .result) (c .before .before .clause-at .ensures) (c .before .before .before .before .before .before .pre .1 .1), form-e (c .before .before .before .before .before .before .args .words .now) (c .before .before .before .before .before .before .args .form) (c .before .before .before .before .before .before .pre .0 .0 .clauses-laid .schemas-laid .formed), facts (c .before .before .before .before .before .before .args .words .now) (c .before .before .before .before .before .before .args .form) (c .before .before .before .before .before .before .pre .0 .0 .clauses-laid .schemas-laid .formed) .few-entries)
@@ -37,10 +37,10 @@ text-range-requires : tie.Need-text-range-requires Inv-loop μ-loop
 text-range-requires c κs = search needs
 
 settles-requires : tie.Need-settles-requires Inv-loop μ-loop
-settles-requires c κs = (c .before .before .before .before .before .before .before .before .before .before .pre .0 .2, entry-within (c .before .before .before .before .before .before .before .before .before .before .args .words .now) (c .before .before .before .before .before .before .before .before .before .before .args .text .now) (c .before .before .before .before .before .before .before .before .before .before .args .form) (c .before .before .before .before .before .before .before .before .before .before .pre .0 .0) (c .before .before .before .before .before .before .before .before .before .before .pre .0 .1) (c .before .before .before .before .before .before .before .before .before .before .args .k) (c .before .before .before .before .before .before .before .before .before .before .pre .1 .0) (c .before .before .before .before .before .before .before .before .before .before .pre .1 .1) (c .before .before .before .loop .x) (c .before .before .before .loop .inv .1 .low) (omega (arith, ap (λ (r : ClauseRow). r .first) (c .before .before .before .before .before .before .clause-at .ensures), ap (λ (r : ClauseRow). r .count) (c .before .before .before .before .before .before .clause-at .ensures))) (c .text-range .result) (read-as (fields-read (c .before .before .before .before .before .before .before .before .before .before .args .words .now) (c .before .before .before .before .before .before .before .before .before .before .args .k) (c .before .before .before .before .before .before .clause-at .ensures) (c .before .before .before .before .before .of .ensures)) (c .before .entry-at .ensures) (c .text-range .ensures)))
+settles-requires c κs = (c .before .before .before .before .before .before .before .before .before .before .pre .0 .2, entry-within (c .before .before .before .before .before .before .before .before .before .before .args .words .now) (c .before .before .before .before .before .before .before .before .before .before .args .text .now) (c .before .before .before .before .before .before .before .before .before .before .args .form) (c .before .before .before .before .before .before .before .before .before .before .pre .0 .0) (c .before .before .before .before .before .before .before .before .before .before .pre .0 .1) (c .before .before .before .before .before .before .before .before .before .before .args .k) (c .before .before .before .before .before .before .before .before .before .before .pre .1 .0) (c .before .before .before .before .before .before .before .before .before .before .pre .1 .1) (c .before .before .before .loop .x) (c .before .before .before .loop .inv .1 .low) (omega (arith, ap (λ (r : ClauseRow). r .first) (c .before .before .before .before .before .before .clause-at .ensures), ap (λ (r : ClauseRow). r .count) (c .before .before .before .before .before .before .clause-at .ensures))) (c .text-range .result) (read-as (fields-read (c .before .before .before .before .before .before .before .before .before .before .args .words .now) (c .before .before .before .before .before .before .before .before .before .before .args .k) (c .before .before .before .before .before .before .clause-at .ensures) (c .before .before .before .before .before .shape-of .ensures)) (c .before .entry-at .ensures) (c .text-range .ensures)))
 
 returns : tie.Need-returns Inv-loop μ-loop
-returns c = search-stops (c .before .before .before .before .before .before .before .before .before .before .before .before .args .words .now) (c .before .before .before .before .before .before .before .before .before .before .before .before .args .text .now) (c .before .before .before .before .before .before .before .before .before .before .before .before .args .k) (c .before .before .before .before .before .loop .inv .1) (omega (arith, ap (λ (r : ClauseRow). r .first) (c .before .before .before .before .before .before .before .before .clause-at .ensures), ap (λ (r : ClauseRow). r .count) (c .before .before .before .before .before .before .before .before .clause-at .ensures))) (entry-is (c .before .before .before .before .before .before .before .before .before .before .before .before .args .words .now) (c .before .before .before .before .before .before .before .before .before .before .before .before .args .text .now) (c .before .before .before .before .before .before .before .before .before .before .before .before .args .form) (c .before .before .before .before .before .before .before .before .before .before .before .before .pre .0 .0) (c .before .before .before .before .before .before .before .before .before .before .before .before .pre .0 .1) (c .before .before .before .before .before .before .before .before .before .before .before .before .args .k) (c .before .before .before .before .before .before .before .before .before .before .before .before .pre .1 .0) (c .before .before .before .before .before .before .before .before .before .before .before .before .pre .1 .1) (c .before .before .before .before .before .loop .x) (c .before .before .before .before .before .loop .inv .1 .low) (omega (arith, ap (λ (r : ClauseRow). r .first) (c .before .before .before .before .before .before .before .before .clause-at .ensures), ap (λ (r : ClauseRow). r .count) (c .before .before .before .before .before .before .before .before .clause-at .ensures))) (c .before .before .text-range .result) (read-as (fields-read (c .before .before .before .before .before .before .before .before .before .before .before .before .args .words .now) (c .before .before .before .before .before .before .before .before .before .before .before .before .args .k) (c .before .before .before .before .before .before .before .before .clause-at .ensures) (c .before .before .before .before .before .before .before .of .ensures)) (c .before .before .before .entry-at .ensures) (c .before .before .text-range .ensures)) ∙ ap not (sym (c .before .settles .ensures)) ∙ c .if1 .taken)
+returns c = search-stops (c .before .before .before .before .before .before .before .before .before .before .before .before .args .words .now) (c .before .before .before .before .before .before .before .before .before .before .before .before .args .text .now) (c .before .before .before .before .before .before .before .before .before .before .before .before .args .k) (c .before .before .before .before .before .loop .inv .1) (omega (arith, ap (λ (r : ClauseRow). r .first) (c .before .before .before .before .before .before .before .before .clause-at .ensures), ap (λ (r : ClauseRow). r .count) (c .before .before .before .before .before .before .before .before .clause-at .ensures))) (entry-is (c .before .before .before .before .before .before .before .before .before .before .before .before .args .words .now) (c .before .before .before .before .before .before .before .before .before .before .before .before .args .text .now) (c .before .before .before .before .before .before .before .before .before .before .before .before .args .form) (c .before .before .before .before .before .before .before .before .before .before .before .before .pre .0 .0) (c .before .before .before .before .before .before .before .before .before .before .before .before .pre .0 .1) (c .before .before .before .before .before .before .before .before .before .before .before .before .args .k) (c .before .before .before .before .before .before .before .before .before .before .before .before .pre .1 .0) (c .before .before .before .before .before .before .before .before .before .before .before .before .pre .1 .1) (c .before .before .before .before .before .loop .x) (c .before .before .before .before .before .loop .inv .1 .low) (omega (arith, ap (λ (r : ClauseRow). r .first) (c .before .before .before .before .before .before .before .before .clause-at .ensures), ap (λ (r : ClauseRow). r .count) (c .before .before .before .before .before .before .before .before .clause-at .ensures))) (c .before .before .text-range .result) (read-as (fields-read (c .before .before .before .before .before .before .before .before .before .before .before .before .args .words .now) (c .before .before .before .before .before .before .before .before .before .before .before .before .args .k) (c .before .before .before .before .before .before .before .before .clause-at .ensures) (c .before .before .before .before .before .before .before .shape-of .ensures)) (c .before .before .before .entry-at .ensures) (c .before .before .text-range .ensures)) ∙ ap not (sym (c .before .settles .ensures)) ∙ c .if1 .taken)
 
 add-x : tie.Need-add-x Inv-loop μ-loop
 add-x c = omega (arith, list-inside (c .before .before .before .before .before .before .before .before .before .before .before .before .args .words .now) (c .before .before .before .before .before .before .before .before .before .before .before .before .args .form) (c .before .before .before .before .before .before .before .before .before .before .before .before .pre .0 .0 .clauses-laid) (c .before .before .before .before .before .before .before .before .before .before .before .before .pre .1 .0) (c .before .before .before .before .before .before .before .before .clause-at .result) (c .before .before .before .before .before .before .before .before .clause-at .ensures) (c .before .before .before .before .before .before .before .before .before .before .before .before .pre .1 .1), form-e (c .before .before .before .before .before .before .before .before .before .before .before .before .args .words .now) (c .before .before .before .before .before .before .before .before .before .before .before .before .args .form) (c .before .before .before .before .before .before .before .before .before .before .before .before .pre .0 .0 .clauses-laid .schemas-laid .formed), facts (c .before .before .before .before .before .before .before .before .before .before .before .before .args .words .now) (c .before .before .before .before .before .before .before .before .before .before .before .before .args .form) (c .before .before .before .before .before .before .before .before .before .before .before .before .pre .0 .0 .clauses-laid .schemas-laid .formed) .few-entries)
@@ -49,10 +49,10 @@ loop-less : tie.Need-loop-less Inv-loop μ-loop
 loop-less c = omega arith
 
 loop-again : tie.Need-loop-again Inv-loop μ-loop
-loop-again c = (omega arith, search-on (c .before .before .before .before .before .before .before .before .before .before .before .before .args .words .now) (c .before .before .before .before .before .before .before .before .before .before .before .before .args .text .now) (c .before .before .before .before .before .before .before .before .before .before .before .before .args .k) (c .before .before .before .before .before .loop .inv .1) (omega (arith, ap (λ (r : ClauseRow). r .first) (c .before .before .before .before .before .before .before .before .clause-at .ensures), ap (λ (r : ClauseRow). r .count) (c .before .before .before .before .before .before .before .before .clause-at .ensures))) (entry-is (c .before .before .before .before .before .before .before .before .before .before .before .before .args .words .now) (c .before .before .before .before .before .before .before .before .before .before .before .before .args .text .now) (c .before .before .before .before .before .before .before .before .before .before .before .before .args .form) (c .before .before .before .before .before .before .before .before .before .before .before .before .pre .0 .0) (c .before .before .before .before .before .before .before .before .before .before .before .before .pre .0 .1) (c .before .before .before .before .before .before .before .before .before .before .before .before .args .k) (c .before .before .before .before .before .before .before .before .before .before .before .before .pre .1 .0) (c .before .before .before .before .before .before .before .before .before .before .before .before .pre .1 .1) (c .before .before .before .before .before .loop .x) (c .before .before .before .before .before .loop .inv .1 .low) (omega (arith, ap (λ (r : ClauseRow). r .first) (c .before .before .before .before .before .before .before .before .clause-at .ensures), ap (λ (r : ClauseRow). r .count) (c .before .before .before .before .before .before .before .before .clause-at .ensures))) (c .before .before .text-range .result) (read-as (fields-read (c .before .before .before .before .before .before .before .before .before .before .before .before .args .words .now) (c .before .before .before .before .before .before .before .before .before .before .before .before .args .k) (c .before .before .before .before .before .before .before .before .clause-at .ensures) (c .before .before .before .before .before .before .before .of .ensures)) (c .before .before .before .entry-at .ensures) (c .before .before .text-range .ensures)) ∙ ap not (sym (c .before .settles .ensures)) ∙ c .if1 .left))
+loop-again c = (omega arith, search-on (c .before .before .before .before .before .before .before .before .before .before .before .before .args .words .now) (c .before .before .before .before .before .before .before .before .before .before .before .before .args .text .now) (c .before .before .before .before .before .before .before .before .before .before .before .before .args .k) (c .before .before .before .before .before .loop .inv .1) (omega (arith, ap (λ (r : ClauseRow). r .first) (c .before .before .before .before .before .before .before .before .clause-at .ensures), ap (λ (r : ClauseRow). r .count) (c .before .before .before .before .before .before .before .before .clause-at .ensures))) (entry-is (c .before .before .before .before .before .before .before .before .before .before .before .before .args .words .now) (c .before .before .before .before .before .before .before .before .before .before .before .before .args .text .now) (c .before .before .before .before .before .before .before .before .before .before .before .before .args .form) (c .before .before .before .before .before .before .before .before .before .before .before .before .pre .0 .0) (c .before .before .before .before .before .before .before .before .before .before .before .before .pre .0 .1) (c .before .before .before .before .before .before .before .before .before .before .before .before .args .k) (c .before .before .before .before .before .before .before .before .before .before .before .before .pre .1 .0) (c .before .before .before .before .before .before .before .before .before .before .before .before .pre .1 .1) (c .before .before .before .before .before .loop .x) (c .before .before .before .before .before .loop .inv .1 .low) (omega (arith, ap (λ (r : ClauseRow). r .first) (c .before .before .before .before .before .before .before .before .clause-at .ensures), ap (λ (r : ClauseRow). r .count) (c .before .before .before .before .before .before .before .before .clause-at .ensures))) (c .before .before .text-range .result) (read-as (fields-read (c .before .before .before .before .before .before .before .before .before .before .before .before .args .words .now) (c .before .before .before .before .before .before .before .before .before .before .before .before .args .k) (c .before .before .before .before .before .before .before .before .clause-at .ensures) (c .before .before .before .before .before .before .before .shape-of .ensures)) (c .before .before .before .entry-at .ensures) (c .before .before .text-range .ensures)) ∙ ap not (sym (c .before .settles .ensures)) ∙ c .if1 .left))
 
 returns-2 : tie.Need-returns-2 Inv-loop μ-loop
 returns-2 c = search-ends (c .before .before .before .before .before .before .before .before .args .words .now) (c .before .before .before .before .before .before .before .before .args .text .now) (c .before .before .before .before .before .before .before .before .args .k) (c .before .loop .inv .1) (omega (arith, ap (λ (r : ClauseRow). r .first) (c .before .before .before .before .clause-at .ensures), ap (λ (r : ClauseRow). r .count) (c .before .before .before .before .clause-at .ensures)))
 
 pub first-in-spec : {M : Type 1} → statement M
-first-in-spec = tie.close (tie.spec Inv-loop μ-loop clause-at-requires of-requires add-end loop-holds entry-at-requires text-range-requires settles-requires returns add-x loop-less loop-again returns-2)
+first-in-spec = tie.close (tie.spec Inv-loop μ-loop clause-at-requires shape-of-requires add-end loop-holds entry-at-requires text-range-requires settles-requires returns add-x loop-less loop-again returns-2)

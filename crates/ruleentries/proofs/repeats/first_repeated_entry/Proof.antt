@@ -26,8 +26,8 @@ loop-holds c = let s = c .before .before in (omega arith, walk-begins (s .args .
 clause-at-requires : tie.Need-clause-at-requires Inv-loop μ-loop
 clause-at-requires c κs = (c .before .before .before .before .pre .0 .clauses-laid .schemas-laid .formed, omega arith)
 
-of-requires : tie.Need-of-requires Inv-loop μ-loop
-of-requires c κs = search needs
+shape-of-requires : tie.Need-shape-of-requires Inv-loop μ-loop
+shape-of-requires c κs = search needs
 
 is-named-requires : tie.Need-is-named-requires Inv-loop μ-loop
 is-named-requires c κs = search needs
@@ -39,7 +39,7 @@ first-repeated-in-requires c κs =
     let l = a .before .before .before .before in
     let s = l .before .before .before in
     let ws = s .args .words .now in
-    ((s .pre .0, s .pre .1), (omega arith, told isNamed (fields-read ws (l .loop .k) (clause .ensures) (a .before .of .ensures)) (a .is-named .ensures) (c .if1 .taken)))
+    ((s .pre .0, s .pre .1), (omega arith, told isNamed (fields-read ws (l .loop .k) (clause .ensures) (a .before .shape-of .ensures)) (a .is-named .ensures) (c .if1 .taken)))
 
 add-if2 : tie.Need-add-if2 Inv-loop μ-loop
 add-if2 c =
@@ -48,7 +48,7 @@ add-if2 c =
     let l = a .before .before .before .before in
     let s = l .before .before .before in
     let ws = s .args .words .now in
-    let list = named-list (fieldsAt ws (l .loop .k)) (told isNamed (fields-read ws (l .loop .k) (clause .ensures) (a .before .of .ensures)) (a .is-named .ensures) (c .before .before .if1 .taken)) in
+    let list = named-list (fieldsAt ws (l .loop .k)) (told isNamed (fields-read ws (l .loop .k) (clause .ensures) (a .before .shape-of .ensures)) (a .is-named .ensures) (c .before .before .if1 .taken)) in
     let inside = list-inside ws (s .args .form) (s .pre .0 .clauses-laid) (omega arith) (clause .result) (clause .ensures) list in
     let formed = s .pre .0 .clauses-laid .schemas-laid .formed in
     omega (arith, form-e ws (s .args .form) formed, facts ws (s .args .form) formed .few-entries)
@@ -60,7 +60,7 @@ returns c =
     let l = a .before .before .before .before in
     let s = l .before .before .before in
     let ws = s .args .words .now in
-    let list = named-list (fieldsAt ws (l .loop .k)) (told isNamed (fields-read ws (l .loop .k) (clause .ensures) (a .before .of .ensures)) (a .is-named .ensures) (c .before .before .before .if1 .taken)) in
+    let list = named-list (fieldsAt ws (l .loop .k)) (told isNamed (fields-read ws (l .loop .k) (clause .ensures) (a .before .shape-of .ensures)) (a .is-named .ensures) (c .before .before .before .if1 .taken)) in
     let again = c .before .before .first-repeated-in in
     walk-ends ws (s .args .form) (s .pre .0 .clauses-laid) (omega arith) (clause .result) (clause .ensures) list (repeated ws (s .args .text .now)) (l .loop .inv .1) (again .result) (again .ensures) (c .if2 .taken)
 
@@ -84,9 +84,9 @@ loop-again c =
     let next : Walked ws test (l .loop .k + 1) =
     ⊎-elim
     (λ w.
-    let list = named-list (fieldsAt ws (l .loop .k)) (told isNamed (fields-read ws (l .loop .k) (clause .ensures) (a .before .of .ensures)) (a .is-named .ensures) (w .0 .taken)) in
+    let list = named-list (fieldsAt ws (l .loop .k)) (told isNamed (fields-read ws (l .loop .k) (clause .ensures) (a .before .shape-of .ensures)) (a .is-named .ensures) (w .0 .taken)) in
     walk-on ws (s .args .form) (s .pre .0 .clauses-laid) (omega arith) (clause .result) (clause .ensures) list test (l .loop .inv .1) (w .1 .result) (w .1 .ensures) (w .3 .left))
-    (λ w. unnamed-on ws (s .args .text .now) (s .args .form) (s .pre .0) (l .loop .k) (omega arith) (told isNamed (fields-read ws (l .loop .k) (clause .ensures) (a .before .of .ensures)) (a .is-named .ensures) (w .left)) (l .loop .inv .1))
+    (λ w. unnamed-on ws (s .args .text .now) (s .args .form) (s .pre .0) (l .loop .k) (omega arith) (told isNamed (fields-read ws (l .loop .k) (clause .ensures) (a .before .shape-of .ensures)) (a .is-named .ensures) (w .left)) (l .loop .inv .1))
     (c .if1 .came)
     in
     (omega arith, next)
@@ -110,7 +110,7 @@ first-repeated-entry-spec =
     μ-loop
     loop-holds
     clause-at-requires
-    of-requires
+    shape-of-requires
     is-named-requires
     first-repeated-in-requires
     add-if2
