@@ -2,8 +2,8 @@
 ghost use Prim.Native.Nat.{_<_};
 ghost use Rattle.rulesheet.specs.Sheet.{schemaAt};
 ghost use Rattle.clause.specs.Read.{RulesRead, ClauseRead};
+use rulereader::clause_of;
 use rulesheet::clause::Clause;
-use rulesheet::clause::clause_of;
 use rulesheet::form::RuleForm;
 use rulesheet::form::schema_at;
 use sheet::record::RuleRow;

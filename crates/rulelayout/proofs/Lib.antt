@@ -1,4 +1,1 @@
 pub mod Schemas
-pub mod Passes
-pub mod Naming
-pub mod Readable

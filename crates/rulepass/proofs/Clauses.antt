@@ -28,7 +28,7 @@ use Rattle.rulesheet.specs.Read.{RulesFormed}
 use Rattle.rulesheet.proofs.Trailers.{form-m, form-e}
 use Rattle.rulesheet.proofs.Reaching.{namedBy, made-at}
 use Rattle.rulesheet.proofs.Sizes.{counts-of}
-use Rattle.rulelayout.proofs.Passes.{list-fields}
+use Rattle.ruleclauses.proofs.Passes.{list-fields}
 use Rattle.rulepass.specs.declared.Pass.{Pass}
 use Rattle.rulepass.specs.Pass as Pass
 use Rattle.rulepass.specs.Pass.{ListFine, listedBy, schemaIn, AllLater, schemasBy, LeadsOn, ClausePassed}

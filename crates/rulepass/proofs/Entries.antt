@@ -34,7 +34,7 @@ use Rattle.rulesheet.specs.Sheet.{entry-words, schemasWord, entriesWord, textWo
 use Rattle.rulesheet.specs.Faults.{isNamed, entryOk}
 use Rattle.rulesheet.specs.Read.{RulesFormed}
 use Rattle.rulesheet.proofs.Repeating.{named-fits}
-use Rattle.rulelayout.proofs.Naming.{lie-repeats}
+use Rattle.ruleentries.proofs.Naming.{lie-repeats}
 use Rattle.rulepass.specs.Pass.{boundOf, namedOk, AllNamed, keyOf, NamesFit, NamesDiffer, ListFine}
 
 pub entries-ok : (ws : List ℕ) (fields : Fields) (size m first count end r : ℕ) → end ≡ first + count

@@ -19,7 +19,7 @@ use Rattle.rulesheet.specs.Sheet.{schemasWord, schemaAt, clauseAt, targetsOf}
 use Rattle.rulesheet.specs.Faults.{fieldsOk, fieldsAt, rises, listStart, listOk, clauseFineIn}
 use Rattle.rulesheet.proofs.Taking.{next-list}
 use Rattle.rulesheet.proofs.Reaching.{targets-are}
-use Rattle.rulelayout.proofs.Passes.{code-rises}
+use Rattle.ruleclauses.proofs.Passes.{code-rises}
 use Rattle.unguarded.specs.Graph.{chain-steps}
 use Rattle.rulepass.specs.declared.Pass.{Pass}
 use Rattle.rulepass.specs.Pass.{unit, stepsBefore, schemasBy, ClausePassed, ClauseFine, PassedTo, SchemaPassed, Come}

@@ -17,8 +17,8 @@ use crate::later::after_list;
 use crate::later::after_one;
 use crate::lists::entries_fine;
 use crate::lists::named_fine;
-use rulelayout::layout::fields_ok;
-use rulesheet::code::Shape;
+use ruleclauses::fields_ok;
+use rulecodes::shape_of;
 use rulesheet::form::ClauseRow;
 use rulesheet::form::RuleForm;
 use rulesheet::form::clause_at;
@@ -132,7 +132,7 @@ fn pass_clause(
     requires { ⌜ RulesFormed (now words) form × (length (now text) ≡ textWord (now words)) ⌝ }
     ensures { λ r. ⌜ (r .fine ≡ true → ClausePassed (now (words .entry)) (now (text .entry)) (s .0) clause start steps r) ⌝ }
 {
-    let shape = Shape::of(clause.code);
+    let shape = shape_of(clause.code);
     let fields = shape.fields;
     if !fields.is_list() {
         return Pass {

@@ -12,7 +12,7 @@ ghost use Rattle.rulesheet.specs.Faults.{isNamed};
 ghost use Rattle.rulesheet.specs.Read.{RulesFormed};
 ghost use Rattle.rulepass.specs.Pass.{namedOk, boundOf, keyOf, AllNamed, NamesFit, NamesDiffer, ListFine};
 use names::Names;
-use rulelayout::layout::first_bad_in;
+use ruleentries::first_bad_in;
 use rulesheet::code::Fields;
 use rulesheet::form::EntryRow;
 use rulesheet::form::RuleForm;

@@ -32,7 +32,7 @@ use Rattle.unguarded.specs.Places.{chainPlace}
 use Rattle.unguarded.proofs.Grounds.{none-looped}
 use Rattle.rulepass.specs.Pass.{Laid}
 use Rattle.reach.specs.Reach.{AllUtf8}
-use Rattle.rulelayout.proofs.Readable.{all-fine}
+use Rattle.ruletexts.proofs.Readable.{all-fine}
 use Rattle.rules.specs.Check.{rulesOutcome}
 use Rattle.rules.specs.Accepted.{TrailerFine}
 

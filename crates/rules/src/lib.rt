@@ -1,5 +1,6 @@
-// The whole check of a rule sheet, over the layout (`rulelayout`), the unguarded steps (`unguarded`)
-// and the pass that tells most sheets that are in order (`rulepass`).
+// The whole check of a rule sheet, over its layout and names (`rulelayout`, `ruleclauses`,
+// `ruleentries`), the text of its entries (`ruletexts`), the unguarded steps (`unguarded`) and the pass
+// that tells most sheets that are in order (`rulepass`).
 //
 // Its contract cites `specs/Check.antt`.
 ghost use mathlib.Core.Bool.{true};
@@ -12,9 +13,7 @@ ghost use Rattle.rulepass.specs.Pass.{Laid};
 ghost use Rattle.rules.specs.Check.{rulesOutcome};
 ghost use Rattle.rules.specs.Accepted.{TrailerFine};
 use reach::is_ascii;
-use rulelayout::layout;
-use rulelayout::repeats;
-use rulelayout::texts;
+use ruleentries::repeats;
 use rulesheet::form::RuleForm;
 use sheet::refusal::Checked;
 use sheet::refusal::Refusal;
@@ -28,7 +27,7 @@ fn check_rest(words: &[u32], text: &[u8], form: RuleForm, short: bool) -> Checke
 {
     let m = form.m;
     let c = form.c;
-    let bad = texts::first_not_utf8(words, text, form);
+    let bad = ruletexts::first_not_utf8(words, text, form);
     if bad < form.e {
         return Checked::Refused(Refusal::NotUtf8, m + c + bad);
     }
@@ -55,15 +54,15 @@ fn check_lines(words: &[u32], text: &[u8], form: RuleForm) -> Checked
     let m = form.m;
     let c = form.c;
     let e = form.e;
-    let schema = layout::first_bad_schema(words, form);
+    let schema = rulelayout::first_bad_schema(words, form);
     if schema < m {
         return Checked::Refused(Refusal::RuleLayout, schema);
     }
-    let clause = layout::first_bad_clause(words, form);
+    let clause = ruleclauses::first_bad_clause(words, form);
     if clause < c {
         return Checked::Refused(Refusal::RuleLayout, m + clause);
     }
-    let entry = layout::first_bad_entry(words, form, text.len());
+    let entry = ruleentries::first_bad_entry(words, form, text.len());
     if entry < e {
         return Checked::Refused(Refusal::RuleLayout, m + c + entry);
     }
@@ -80,7 +79,7 @@ fn check_lines(words: &[u32], text: &[u8], form: RuleForm) -> Checked
 pub fn check_rules(words: &[u32], text: &[u8]) -> Checked
     ensures { λ r. ⌜ outcomeOf r ≡ rulesOutcome (now (words .entry)) (now (text .entry)) ⌝ }
 {
-    if !layout::trailer_ok(words, text.len()) {
+    if !rulelayout::trailer_ok(words, text.len()) {
         return Checked::Refused(Refusal::RuleTrailer, 0);
     }
     let form = RuleForm::of(words);

@@ -5,7 +5,6 @@ pub mod Taking
 pub mod Walking
 pub mod Reaching
 pub mod Sizes
-pub mod Stepping
 pub mod Repeating
 pub mod Items
 pub mod Naming

@@ -21,9 +21,9 @@ ghost use Rattle.told.specs.Read.{namedBy, namesAny, marksNamed, NamesFr
 use few::applies;
 use few::telling_of;
 use few::told_of;
+use rulereader::entry_name;
 use rulesheet::clause::Clause;
 use rulesheet::clause::Entries;
-use rulesheet::clause::entry_name;
 use rulesheet::form::RuleForm;
 use rulesheet::form::clause_at;
 use rulesheet::form::schema_at;

@@ -10,10 +10,10 @@ ghost use Rattle.rulesheet.specs.Read.{RulesLaid};
 ghost use Rattle.unguarded.specs.Graph.{chain-steps};
 ghost use Rattle.unguarded.specs.Places.{chainPlace};
 ghost use Rattle.unguarded.specs.Lengths.{Quiet, StartAfter, Takes, Longer, Noted, Raised, Passed, Lengths, Ready};
+use rulereader::steps::step_at;
+use rulereader::steps::steps_of;
 use rulesheet::form::RuleForm;
 use rulesheet::form::schema_at;
-use rulesheet::steps::step_at;
-use rulesheet::steps::steps_of;
 use sheet::record::RuleRow;
 use sheet::record::wide;
 

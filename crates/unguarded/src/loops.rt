@@ -10,10 +10,10 @@ ghost use Rattle.rulesheet.specs.Read.{RulesLaid};
 ghost use Rattle.unguarded.specs.Graph.{onLoop};
 ghost use Rattle.unguarded.specs.Places.{loopPlace};
 ghost use Rattle.unguarded.specs.Worklist.{Tidy, Visited};
+use rulereader::steps::step_at;
+use rulereader::steps::steps_of;
 use rulesheet::form::RuleForm;
 use rulesheet::form::schema_at;
-use rulesheet::steps::step_at;
-use rulesheet::steps::steps_of;
 use sheet::record::RuleRow;
 use sheet::record::wide;
 

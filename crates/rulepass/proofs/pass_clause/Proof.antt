@@ -8,8 +8,8 @@ use borrow.Author.Needs.{needs}
 use Rattle.rulepass.proofs.pass_clause.Statement.{statement}
 use Rattle.rulepass.proofs.pass_clause.Tie as tie
 
-of-requires : tie.Need-of-requires
-of-requires c κs = search needs
+shape-of-requires : tie.Need-shape-of-requires
+shape-of-requires c κs = search needs
 
 is-list-requires : tie.Need-is-list-requires
 is-list-requires c κs = search needs
@@ -23,7 +23,7 @@ after-one-requires c κs = search needs
 returns : tie.Need-returns
 returns c t =
     let s = c .before .before .before .before .before .before .before in
-    passed-other (s .args .words .now) (s .args .text .now) (s .args .form) (s .pre .0) (s .args .s .0) (s .args .clause) (c .before .before .before .before .of .result) (c .before .before .before .before .of .ensures) (s .args .start) (s .args .steps) _ (sym (c .before .before .before .is-list .ensures) ∙ not-true _ (c .before .before .if1 .taken)) (sym (c .before .fields-ok .ensures) ∙ t) refl (c .after-one .ensures)
+    passed-other (s .args .words .now) (s .args .text .now) (s .args .form) (s .pre .0) (s .args .s .0) (s .args .clause) (c .before .before .before .before .shape-of .result) (c .before .before .before .before .shape-of .ensures) (s .args .start) (s .args .steps) _ (sym (c .before .before .before .is-list .ensures) ∙ not-true _ (c .before .before .if1 .taken)) (sym (c .before .fields-ok .ensures) ∙ t) refl (c .after-one .ensures)
 
 is-named-requires : tie.Need-is-named-requires
 is-named-requires c κs = search needs
@@ -41,7 +41,7 @@ returns-2 c = search needs
 pass-list-requires : tie.Need-pass-list-requires
 pass-list-requires c κs =
     let s = c .before .before .before .before .before .before .before .before in
-    (s .pre .0, s .pre .1, c .before .before .before .before .before .of .ensures, sym (c .before .before .before .before .is-list .ensures) ∙ not-false _ (c .before .before .before .if1 .left))
+    (s .pre .0, s .pre .1, c .before .before .before .before .before .shape-of .ensures, sym (c .before .before .before .before .is-list .ensures) ∙ not-false _ (c .before .before .before .if1 .left))
 
 returns-3 : tie.Need-returns-3
 returns-3 c = search needs
@@ -50,7 +50,7 @@ pub pass-clause-spec : {M : Type 1} → statement M
 pass-clause-spec =
     tie.close
     (tie.spec
-    of-requires
+    shape-of-requires
     is-list-requires
     fields-ok-requires
     after-one-requires

@@ -2,7 +2,7 @@
 use native.Mathlib.Omega.{arith}
 use borrow.Author.Tests.{eqb-true}
 use Rattle.rulesheet.proofs.Trailers.{form-e}
-use Rattle.rulelayout.proofs.Naming.{lie-end, lie-lying}
+use Rattle.ruleentries.proofs.Naming.{lie-end, lie-lying}
 use Rattle.rulepass.proofs.Entries.{found-differ}
 use borrow.Author.Needs.{needs}
 use Rattle.rulepass.proofs.lists.names_differ.Statement.{statement}
