@@ -10,9 +10,6 @@ ghost use Rattle.sheet.specs.Refusals.{outcomeOf};
 ghost use Rattle.sheet.specs.Faults.{recordOutcome};
 ghost use Rattle.recordcheck.specs.Order.{Begun, Ordered};
 use reach::is_ascii;
-use recordlayout::layout;
-use recordlayout::repeats;
-use recordlayout::texts;
 use sheet::record::RecordForm;
 use sheet::refusal::Checked;
 use sheet::refusal::Refusal;
@@ -27,7 +24,7 @@ fn check_texts(words: &[u32], text: &[u8], form: RecordForm) -> Checked
     if is_ascii(text) {
         return Checked::Accepted(rows);
     }
-    let bad = texts::first_not_utf8(words, text, form);
+    let bad = recordtexts::first_not_utf8(words, text, form);
     if bad < rows {
         return Checked::Refused(Refusal::NotUtf8, bad);
     }
@@ -40,16 +37,16 @@ fn check_lines(words: &[u32], text: &[u8], form: RecordForm) -> Checked
     ensures { λ r. ⌜ outcomeOf r ≡ recordOutcome (now (words .entry)) (now (text .entry)) ⌝ }
 {
     let rows = form.rows;
-    let pass = layout::pass_rows(words, form, text.len());
+    let pass = recordlayout::pass_rows(words, form, text.len());
     let fault = pass.fault;
     if fault < rows {
         return Checked::Refused(Refusal::RecordLayout, fault);
     }
-    let again = repeats::first_repeated(words, text, form);
+    let again = recordnames::first_repeated(words, text, form);
     if again < rows {
         return Checked::Refused(Refusal::RepeatedName, again);
     }
-    let bad = texts::first_not_utf8(words, text, form);
+    let bad = recordtexts::first_not_utf8(words, text, form);
     if bad < rows {
         return Checked::Refused(Refusal::NotUtf8, bad);
     }
@@ -65,7 +62,7 @@ fn check_lines(words: &[u32], text: &[u8], form: RecordForm) -> Checked
 pub fn check_record(words: &[u32], text: &[u8]) -> Checked
     ensures { λ r. ⌜ outcomeOf r ≡ recordOutcome (now (words .entry)) (now (text .entry)) ⌝ }
 {
-    if !layout::trailer_ok(words, text.len()) {
+    if !recordfields::trailer_ok(words, text.len()) {
         return Checked::Refused(Refusal::RecordTrailer, 0);
     }
     let form = RecordForm::of(words);

@@ -6,7 +6,7 @@ use Prim.Native.Nat.{ℕ, _≤_}
 use Rattle.laws.specs.Lowest.{lowest}
 use Rattle.sheet.specs.Record.{rowsWord}
 use Rattle.sheet.specs.Faults.{atFault, tooDeep}
-use Rattle.recordlayout.specs.declared.layout.Pass.{Pass}
+use Rattle.recordlayout.specs.declared.Pass.{Pass}
 
 -- what one pass over the rows finds: the lowest row at fault and, where none is, the lowest row too deep
 pub record Passed (ws : List ℕ) (pass : Pass) : Type 0 where
