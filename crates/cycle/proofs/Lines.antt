@@ -22,7 +22,7 @@ use Rattle.areas.specs.Writers.{Open, Shut, Marked}
 use Rattle.areas.proofs.Cells.{verd-settle, same-row, settled-le}
 use Rattle.plan.specs.Plan.{moved, afterMiss}
 use Rattle.steps.specs.Turns.{Turned}
-use Rattle.steps.specs.Lines.{InLine}
+use Rattle.line.specs.Lines.{InLine}
 use Rattle.steps.proofs.Turns.{at, goes-on, skipped-none}
 use Rattle.lent.specs.Lent.{Case, Fits, clausesOf, clauseAt, beforeOf, firstKid, kidCount, PassesFirst, HandsOn, givenOn, nextAt}
 use Rattle.lent.proofs.Reading.{pairs-few}

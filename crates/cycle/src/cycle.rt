@@ -21,7 +21,7 @@ ghost use Prim.Native.Nat.{_+_, _≤_, _<_};
 ghost use Rattle.rulesheet.specs.Sheet.{schemaAt};
 ghost use Rattle.areas.specs.Cells.{pairIs, Unsettled};
 ghost use Rattle.told.specs.Read.{Started};
-ghost use Rattle.steps.specs.Lines.{InLine};
+ghost use Rattle.line.specs.Lines.{InLine};
 ghost use Rattle.lent.specs.Lent.{lent, Lent, lentCase, clauseAt, beforeOf, rowOf, PassesFirst, RowsPass, Applying};
 ghost use Rattle.cycle.specs.State.{Named, rankOf, Ready, Judged, ClauseJudged};
 ghost use Rattle.cycle.specs.Steps.{StandsAt};

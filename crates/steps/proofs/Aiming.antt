@@ -1,5 +1,5 @@
 -- Where a clause stands, by what it takes.
---     members-object, members-some, elements-some     the children of a row that has members, or elements
+--     members-object        a row that has members is an object
 --     row-cell              a row has its cell in each column
 --     listed-turn, listed-end, single-turn, single-end     the schemas of the row itself
 --     placed-turn, placed-end, rest-turn, rest-end         elements by their place
@@ -41,14 +41,6 @@ members-object (string bytes) h = absurd (omega arith)
 members-object (array first k) h = absurd (omega arith)
 members-object (object first k) h = refl
 
-pub members-some : (v : Value) → memberCount v ≤ childCount v
-members-some null = omega arith
-members-some (bool b) = omega arith
-members-some (number z) = omega arith
-members-some (string bytes) = omega arith
-members-some (array first k) = omega arith
-members-some (object first k) = omega arith
-
 members-all : (v : Value) → 0 < memberCount v → memberCount v ≡ childCount v
 members-all null h = absurd (omega arith)
 members-all (bool b) h = absurd (omega arith)
@@ -56,14 +48,6 @@ members-all (number z) h = absurd (omega arith)
 members-all (string bytes) h = absurd (omega arith)
 members-all (array first k) h = absurd (omega arith)
 members-all (object first k) h = refl
-
-pub elements-some : (v : Value) → elementCount v ≤ childCount v
-elements-some null = omega arith
-elements-some (bool b) = omega arith
-elements-some (number z) = omega arith
-elements-some (string bytes) = omega arith
-elements-some (array first k) = omega arith
-elements-some (object first k) = omega arith
 
 -- a row has its cell in each column
 pub row-cell : (rows m long row rule : ℕ) → row < rows → rule < m → rows * m ≤ long → cellOf m row rule < long

@@ -1,5 +1,4 @@
-pub mod Reading
-pub mod Aiming
-pub mod Choosing
+mod Reading
+mod Aiming
+mod Choosing
 pub mod Turns
-pub mod Lines

@@ -10,7 +10,6 @@ ghost use Rattle.rulesheet.specs.Ruleset as R;
 ghost use Rattle.rulesheet.specs.Read.{RulesFormed};
 ghost use Rattle.rulesheet.specs.Clauses.{entryIn, schemasIn};
 ghost use Rattle.meaning.specs.Rules.{Pair as Meant, Marks};
-ghost use Rattle.looking.specs.Read.{sizeIn, orNone};
 ghost use Rattle.plan.specs.Plan.{memberCount, elementCount};
 ghost use Rattle.told.specs.Read.{Started};
 ghost use Rattle.steps.specs.Turns.{Turned, TurnedOn, TurnedFresh};
@@ -19,9 +18,7 @@ use crate::turn::at_step;
 use crate::turn::at_step_of;
 use crate::turn::ended;
 use areas::is_marked;
-use looking::sizes::Measured;
-use looking::sizes::elements_of;
-use looking::sizes::members_of;
+use line::counts::elements_in;
 use rulereader::entry_schema;
 use rulesheet::clause::Entries;
 use rulesheet::form::RuleForm;
@@ -31,34 +28,6 @@ use sheet::record::RecordRow;
 use sheet::record::RuleRow;
 use sheet::record::children_of;
 use sheet::record::wide;
-
-// ---- how many children there are to take
-
-// A size, or 0 where there is none.
-fn count_of(found: Measured) -> u32
-    ensures { λ r. ⌜ r ≡ orNone (sizeIn found) ⌝ }
-{
-    match found {
-        Measured::Size(size) => size,
-        Measured::Other => 0,
-    }
-}
-
-// How many members the row has: none if it is no object.
-pub(crate) fn members_in(record: &[u32], form: RecordForm, row: RecordRow) -> u32
-    requires { ⌜ Laid (now «record») form × (row .0 < form .rows) ⌝ }
-    ensures { λ r. ⌜ ((ts : List ℕ) → r ≡ memberCount (docOf (now («record» .entry)) ts .value (row .0))) ⌝ }
-{
-    count_of(members_of(record, form, row))
-}
-
-// How many elements it has: none if it is no array.
-pub(crate) fn elements_in(record: &[u32], form: RecordForm, row: RecordRow) -> u32
-    requires { ⌜ Laid (now «record») form × (row .0 < form .rows) ⌝ }
-    ensures { λ r. ⌜ ((ts : List ℕ) → r ≡ elementCount (docOf (now («record» .entry)) ts .value (row .0))) ⌝ }
-{
-    count_of(elements_of(record, form, row))
-}
 
 // The lesser of two numbers.
 fn lesser(a: u32, b: u32) -> u32

@@ -1,8 +1,9 @@
-// The steps of a clause on a row: how many there are, which pair each aims at, whether it is applied,
-// and what the clause says in the end.
+// Where a clause that applies schemas stands on a row, between two of its steps: which step is applied
+// next, and which pair it aims at. Whoever asks must show that the pair's cell is unsettled
+// (`turn::turn_of`); what asks less is private to this crate.
+//
+// Its contracts cite `specs/Turns.antt`.
 mod children;
-pub mod finish;
 mod here;
-pub mod line;
 mod members;
 pub mod turn;

@@ -1,7 +1,7 @@
 -- `finish` meets its contract. Assumes nothing.
 use mathlib.Core.Path.{refl, _∙_}
 use Rattle.areas.specs.Cells.{pairIs}
-use Rattle.steps.proofs.Reading.{ends-finish}
+use Rattle.finish.proofs.Ending.{ends-finish}
 use Rattle.lent.specs.Lent.{lent, lentCase, clauseAt}
 use Rattle.lent.proofs.Reading.{lent-sheets, forms-fit, record-lent, rules-lent, row-low, rule-low}
 use borrow.Author.Needs.{needs}

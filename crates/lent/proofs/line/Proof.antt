@@ -1,7 +1,7 @@
 -- `line` meets its contract. Assumes nothing.
 use mathlib.Core.Path.{refl}
 use native.Mathlib.Omega.{arith}
-use Rattle.steps.specs.Lines.{LineAsked}
+use Rattle.line.specs.Lines.{LineAsked}
 use Rattle.lent.specs.Lent.{lent}
 use Rattle.lent.proofs.Reading.{lent-sheets, forms-fit, record-lent, row-low, rule-low, rows-are}
 use borrow.Author.Needs.{needs}

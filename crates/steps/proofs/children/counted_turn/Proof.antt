@@ -4,7 +4,7 @@ use mathlib.Core.Path.{refl}
 use native.Mathlib.Omega.{arith}
 use Rattle.sheet.specs.Record.{docOf}
 use Rattle.looking.proofs.Naming.{child-inside}
-use Rattle.steps.proofs.Aiming.{elements-some}
+use Rattle.line.proofs.Counted.{elements-some}
 use Rattle.steps.proofs.Choosing.{first-in, counted-turn, counted-end}
 use borrow.Author.Needs.{needs}
 use Rattle.steps.proofs.children.counted_turn.Statement.{statement}

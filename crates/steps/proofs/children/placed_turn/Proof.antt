@@ -4,7 +4,8 @@ use mathlib.Core.Path.{refl, ap, _∙_}
 use native.Mathlib.Omega.{arith}
 use Rattle.sheet.specs.Record.{docOf}
 use Rattle.looking.proofs.Naming.{child-inside}
-use Rattle.steps.proofs.Aiming.{elements-some, placed-turn, placed-end}
+use Rattle.line.proofs.Counted.{elements-some}
+use Rattle.steps.proofs.Aiming.{placed-turn, placed-end}
 use borrow.Author.Needs.{needs}
 use Rattle.steps.proofs.children.placed_turn.Statement.{statement}
 use Rattle.steps.proofs.children.placed_turn.Tie as tie

@@ -5,7 +5,8 @@ use native.Mathlib.Omega.{arith}
 use Prim.Native.Nat.{_+_}
 use Rattle.sheet.specs.Record.{docOf}
 use Rattle.looking.proofs.Naming.{child-inside}
-use Rattle.steps.proofs.Aiming.{elements-some, rest-turn, rest-end}
+use Rattle.line.proofs.Counted.{elements-some}
+use Rattle.steps.proofs.Aiming.{rest-turn, rest-end}
 use borrow.Author.Needs.{needs}
 use Rattle.steps.proofs.children.rest_turn.Statement.{statement}
 use Rattle.steps.proofs.children.rest_turn.Tie as tie

@@ -4,7 +4,7 @@ use Rattle.sheet.specs.Record.{docOf}
 use Rattle.areas.specs.Cells.{column}
 use Rattle.clause.specs.Read.{beforeIn}
 use Rattle.steps.proofs.Turns.{marked-turned}
-use Rattle.steps.proofs.Aiming.{members-some}
+use Rattle.line.proofs.Counted.{members-some}
 use borrow.Author.Needs.{needs}
 use Rattle.steps.proofs.members.additional_turn.Statement.{statement}
 use Rattle.steps.proofs.members.additional_turn.Tie as tie

@@ -14,7 +14,8 @@ use Rattle.clause.proofs.Listing.{list-few}
 use Rattle.plan.specs.Plan.{memberCount}
 use Rattle.steps.specs.Turns.{Skipped}
 use Rattle.steps.proofs.Turns.{skipped-none}
-use Rattle.steps.proofs.Aiming.{members-object, members-some, no-members, named-turn, named-more, named-end}
+use Rattle.line.proofs.Counted.{members-some}
+use Rattle.steps.proofs.Aiming.{members-object, no-members, named-turn, named-more, named-end}
 use borrow.Author.Needs.{needs}
 use Rattle.steps.proofs.members.named_turn.Statement.{statement}
 use Rattle.steps.proofs.members.named_turn.Tie as tie

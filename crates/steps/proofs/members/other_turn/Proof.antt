@@ -12,7 +12,8 @@ use Rattle.looking.proofs.Naming.{child-inside}
 use Rattle.steps.specs.Turns.{Skipped}
 use Rattle.steps.proofs.Turns.{skipped-none}
 use Rattle.told.proofs.Earlier.{before-long}
-use Rattle.steps.proofs.Aiming.{members-some, other-turn, other-more, other-end}
+use Rattle.line.proofs.Counted.{members-some}
+use Rattle.steps.proofs.Aiming.{other-turn, other-more, other-end}
 use borrow.Author.Needs.{needs}
 use Rattle.steps.proofs.members.other_turn.Statement.{statement}
 use Rattle.steps.proofs.members.other_turn.Tie as tie

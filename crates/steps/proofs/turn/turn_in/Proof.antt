@@ -11,7 +11,7 @@ use Rattle.clause.specs.Read.{beforeIn}
 use Rattle.clause.proofs.Asserting.{sizes, list-read}
 use Rattle.steps.proofs.Reading.{no-steps}
 use Rattle.told.proofs.Earlier.{started-as}
-use Rattle.steps.proofs.Aiming.{members-some, elements-some}
+use Rattle.line.proofs.Counted.{members-some, elements-some}
 use Rattle.steps.proofs.Turns.{applied-child, turned-as, stops, skipped-none}
 use borrow.Author.Needs.{needs}
 use Rattle.steps.proofs.turn.turn_in.Statement.{statement}
