@@ -1,19 +1,16 @@
 // The two areas that a caller lends for judging: the cells, one byte for each pair of a record row
 // and a schema, and the list of the pairs in the order in which they are settled. No sheet is read
-// here: m is the number of schemas. A schema's cells are a column; `kids` are the children of some
-// row, whose marks stand in a column.
+// here: m is the number of schemas. A schema's cells are a column.
 //
 // After `clear` two functions alone store into the cells: `settle`, which writes verdicts, and
 // `write_mark`, which writes marks.
 //
 // Its contracts cite specs/, in reading order: `Cells`, `Writers`.
-ghost use mathlib.Core.Bool.{false};
 ghost use mathlib.Core.Path.{_≡_};
-ghost use Prim.Native.Nat.{_+_, _<_};
+ghost use Prim.Native.Nat.{_<_};
 ghost use lib.ListN.{length, getD, set};
-ghost use Rattle.areas.specs.Cells.{pairIs, cellAt, verd, bit, four, settledAs, plus, Cleared, markedBy};
-ghost use Rattle.areas.specs.Writers.{Open, Shut, Writes, Marked, merged};
-use sheet::record::Children;
+ghost use Rattle.areas.specs.Cells.{pairIs, cellAt, verd, bit, four, settledAs, Cleared};
+ghost use Rattle.areas.specs.Writers.{Open, Shut, Writes, Marked};
 use sheet::record::Pair;
 use sheet::record::RecordRow;
 use sheet::record::RuleRow;
@@ -122,60 +119,7 @@ pub fn write_mark(cells: &mut [u8], m: usize, row: RecordRow, s: RuleRow, on: bo
     cells[k] = x + four_of(on);
 }
 
-// Marks the row in column s too if it is marked in column `from`.
-fn add_mark(cells: &mut [u8], m: usize, row: RecordRow, s: RuleRow, from: RuleRow)
-    requires { ⌜ Writes m (row .0) 1 (s .0) (from .0) (now cells) ⌝ }
-    ensures { λ r. ⌜ Marked m (row .0) 1 (s .0) (merged m (now (cells .entry)) (s .0) (from .0)) (now (cells .entry)) (now (cells .exit)) ⌝ }
-{
-    if is_marked(
-        cells,
-        m,
-        Pair {
-            row: row,
-            rule: from,
-        },
-    ) {
-        write_mark(cells, m, row, s, true);
-    }
-}
-
-// To the marks of the rows in column s adds those in column `from`.
-pub fn add_marks(cells: &mut [u8], m: usize, kids: Children, s: RuleRow, from: RuleRow)
-    requires { ⌜ Writes m (kids .first) (kids .count) (s .0) (from .0) (now cells) ⌝ }
-    requires { ⌜ kids .first + kids .count < 4294967296 ⌝ }
-    ensures { λ r. ⌜ Marked m (kids .first) (kids .count) (s .0) (merged m (now (cells .entry)) (s .0) (from .0)) (now (cells .entry)) (now (cells .exit)) ⌝ }
-{
-    let mut i = 0;
-    while i < kids.count {
-        add_mark(cells, m, RecordRow(kids.first + i), s, from);
-        i += 1;
-    }
-}
-
-// Takes the row's mark in column s away, if it has one.
-fn take_mark(cells: &mut [u8], m: usize, row: RecordRow, s: RuleRow)
-    requires { ⌜ Writes m (row .0) 1 (s .0) (s .0) (now cells) ⌝ }
-    ensures { λ r. ⌜ Marked m (row .0) 1 (s .0) (λ k. false) (now (cells .entry)) (now (cells .exit)) ⌝ }
-{
-    if is_marked(cells, m, Pair { row: row, rule: s }) {
-        write_mark(cells, m, row, s, false);
-    }
-}
-
-// Takes the marks of the rows in column s away.
-pub fn take_marks(cells: &mut [u8], m: usize, kids: Children, s: RuleRow)
-    requires { ⌜ Writes m (kids .first) (kids .count) (s .0) (s .0) (now cells) ⌝ }
-    requires { ⌜ kids .first + kids .count < 4294967296 ⌝ }
-    ensures { λ r. ⌜ Marked m (kids .first) (kids .count) (s .0) (λ k. false) (now (cells .entry)) (now (cells .exit)) ⌝ }
-{
-    let mut i = 0;
-    while i < kids.count {
-        take_mark(cells, m, RecordRow(kids.first + i), s);
-        i += 1;
-    }
-}
-
-// ---- before the first pair, and after the last
+// ---- before the first pair
 
 // Sets every cell to 0.
 pub fn clear(cells: &mut [u8])
@@ -186,38 +130,4 @@ pub fn clear(cells: &mut [u8])
         cells[i] = 0;
         i += 1;
     }
-}
-
-// One more, if it is so.
-fn add(n: usize, so: bool) -> usize
-    requires { ⌜ n < 18446744073709551615 ⌝ }
-    ensures { λ r. ⌜ r ≡ plus n so ⌝ }
-{
-    if so { n + 1 } else { n }
-}
-
-// How many of the rows are marked in column 0.
-pub fn marked_of(cells: &[u8], m: usize, kids: Children) -> usize
-    requires { ⌜ Writes m (kids .first) (kids .count) 0 0 (now cells) ⌝ }
-    requires { ⌜ kids .first + kids .count < 4294967296 ⌝ }
-    ensures { λ r. ⌜ r ≡ markedBy m (now (cells .entry)) (kids .first) (kids .count) ⌝ }
-{
-    let mut n = 0;
-    let mut i = 0;
-    while i < kids.count {
-        let row = RecordRow(kids.first + i);
-        n = add(
-            n,
-            is_marked(
-                cells,
-                m,
-                Pair {
-                    row: row,
-                    rule: RuleRow(0),
-                },
-            ),
-        );
-        i += 1;
-    }
-    n
 }

@@ -5,7 +5,7 @@ ghost use Rattle.lent.specs.Lent.{Sheets, caseOf, wayBy};
 ghost use Rattle.meaning.specs.Answer.{listRoom};
 ghost use Rattle.run.specs.Whole.{Exact, Roomy, leftBy, judgedOf};
 use areas::clear;
-use areas::marked_of;
+use columns::marked_of;
 use cycle::cycle::Verdict;
 use cycle::cycle::judge_root;
 use lent::forms_of;

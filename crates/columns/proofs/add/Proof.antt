@@ -1,8 +1,8 @@
 -- `add` meets its contract: one more, or not. Assumes nothing.
 use Rattle.areas.specs.Cells.{plus}
 use borrow.Author.Needs.{needs}
-use Rattle.areas.proofs.add.Statement.{statement}
-use Rattle.areas.proofs.add.Tie as tie
+use Rattle.columns.proofs.add.Statement.{statement}
+use Rattle.columns.proofs.add.Tie as tie
 
 add-result : tie.Need-add-result
 add-result c = search needs

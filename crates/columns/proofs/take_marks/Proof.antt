@@ -3,10 +3,10 @@ use mathlib.Core.Bool.{false}
 use mathlib.Core.Path.{_≡_, refl}
 use Prim.Native.Nat.{_-_, _≤_}
 use native.Mathlib.Omega.{arith}
 use Rattle.areas.specs.Writers.{Marked}
 use Rattle.areas.proofs.Writers.{marked-none, marked-more, writes-row}
-use Rattle.areas.proofs.take_marks.Statement.{statement}
-use Rattle.areas.proofs.take_marks.Tie as tie
+use Rattle.columns.proofs.take_marks.Statement.{statement}
+use Rattle.columns.proofs.take_marks.Tie as tie
 
 abbrev Inv-loop : tie.InvT-loop
 Inv-loop cells₀ m kids s i₀ cells i = (i ≤ kids .count) × Marked m (kids .first) i (s .0) (λ k. false) cells₀ cells

@@ -2,10 +2,10 @@
 use mathlib.Core.Path.{_≡_, refl}
 use Prim.Native.Nat.{_-_, _≤_}
 use native.Mathlib.Omega.{arith}
 use Rattle.areas.specs.Writers.{Marked, merged}
 use Rattle.areas.proofs.Writers.{marked-none, marked-more, merged-later, one-row, writes-one}
-use Rattle.areas.proofs.add_marks.Statement.{statement}
-use Rattle.areas.proofs.add_marks.Tie as tie
+use Rattle.columns.proofs.add_marks.Statement.{statement}
+use Rattle.columns.proofs.add_marks.Tie as tie
 
 abbrev Inv-loop : tie.InvT-loop
 Inv-loop cells₀ m kids s from i₀ cells i = (i ≤ kids .count) × Marked m (kids .first) i (s .0) (merged m cells₀ (s .0) (from .0)) cells₀ cells

@@ -2,10 +2,10 @@
 use mathlib.Core.Path.{refl}
 use Prim.Native.Nat.{_-_, _≤_}
 use native.Mathlib.Omega.{arith}
 use Rattle.areas.proofs.Cells.{Counted, counted-none, counted-more, counted-end}
 use Rattle.areas.proofs.Writers.{cell-below}
-use Rattle.areas.proofs.marked_of.Statement.{statement}
-use Rattle.areas.proofs.marked_of.Tie as tie
+use Rattle.columns.proofs.marked_of.Statement.{statement}
+use Rattle.columns.proofs.marked_of.Tie as tie
 
 abbrev Inv-loop : tie.InvT-loop
 Inv-loop cells m kids n₀ i₀ n i = (i ≤ kids .count) × Counted m cells (kids .first) (kids .count) i n
