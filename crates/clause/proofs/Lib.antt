@@ -1,10 +1,7 @@
 -- In reading order.
 pub mod Reading
-pub mod Found
-pub mod Limits
 pub mod Listing
 pub mod Requiring
 pub mod Equality
 pub mod Asserting
 pub mod Telling
-pub mod Firsts

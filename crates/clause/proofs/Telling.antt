@@ -19,7 +19,7 @@ use Rattle.rulesheet.specs.declared.clause.Clause.{Clause}
 use Rattle.rulesheet.specs.declared.clause.Clause.the-variants.{Never}
 use Rattle.rulesheet.specs.Ruleset as R
 use Rattle.rulesheet.specs.Sheet as S
-use Rattle.rulesheet.specs.Clauses.{clauseMeans, number, held, Bounded, Tested}
+use Rattle.rulesheet.specs.Clauses.{clauseMeans, number, held, Tested}
 use Rattle.few.specs.Asked.{PlainRead}
 use Rattle.meaning.specs.Rules.{passes}
 use Rattle.clause.specs.Read.{RulesRead, clauseIn, Tries}

@@ -1,12 +1,10 @@
--- What is asked of the rules that a test reads, how a clause is read and tried, and the numbers of types.
+-- What is asked of the rules that a test reads, and how a clause is read and tried.
 -- Assumes nothing.
 use mathlib.Core.Bool.{Bool, true}
 use mathlib.Core.List.{List}
 use mathlib.Core.Path.{_≡_}
 use Prim.Native.Nat.{ℕ, _+_, _≤_, _<_}
 use lib.ListN.{length, getD, take}
-use Rattle.sheet.specs.declared.kind.RowKind.{RowKind}
-use Rattle.sheet.specs.declared.kind.RowKind.the-variants.{Null, False, True, Number, String, Array, Object}
 use Rattle.sheet.specs.Doc.{Doc}
 use Rattle.rulesheet.specs.declared.code.Fields.{Fields}
 use Rattle.rulesheet.specs.declared.form.ClauseRow.{ClauseRow}
@@ -59,20 +57,3 @@ Tries d j c ok = (t : Test) × (c ≡ asserts t) × (ok ≡ passes d j t)
 pub record PassedFirst (d : Doc) (j : ℕ) (clauses : ℕ → R.Clause) (n r : ℕ) : Type 0 where
   pub within : r ≤ n
   pub passed : (k : ℕ) → k < r → Tries d j (clauses k) true
-
--- the first r of the n rows from `row` on are So
-pub record FirstRows (row n r : ℕ) (So : ℕ → Type 0) : Type 0 where
-  pub within : r ≤ n
-  pub each : (k : ℕ) → k < r → So (row + k)
-
--- ---- types
-
--- 01's number of the type that the rows of a kind have; a whole number is an integer besides
-abbrev pub typeNumber : RowKind → ℕ
-typeNumber Null = 1
-typeNumber False = 2
-typeNumber True = 2
-typeNumber Number = 8
-typeNumber String = 16
-typeNumber Array = 32
-typeNumber Object = 64

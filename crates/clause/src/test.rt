@@ -9,26 +9,28 @@ ghost use Rattle.meaning.specs.Rules.{passes};
 ghost use Rattle.areas.specs.Cells.{pairIs, Unsettled};
 ghost use Rattle.looking.specs.Read.{RecordRead};
 ghost use Rattle.clause.specs.Read.{RulesRead, clauseIn};
-use crate::bounds::exclusive_maximum;
-use crate::bounds::exclusive_minimum;
-use crate::bounds::maximum;
-use crate::bounds::minimum;
-use crate::bounds::multiple_of;
 use crate::members::required;
 use crate::read::clause_in;
-use crate::sizes::max_items;
 use crate::sizes::max_length;
-use crate::sizes::max_properties;
-use crate::sizes::min_items;
 use crate::sizes::min_length;
-use crate::sizes::min_properties;
-use crate::types::typed;
 use crate::values::enum_holds;
+use looking::numbers::number_in;
+use looking::sizes::elements_of;
+use looking::sizes::members_of;
 use rulesheet::clause::Clause;
 use rulesheet::form::RuleForm;
 use sheet::record::Pair;
 use sheet::record::RecordForm;
 use sheet::record::RecordRow;
+use sheet::record::kind_of;
+use testing::bounds::exclusive_maximum;
+use testing::bounds::exclusive_minimum;
+use testing::bounds::maximum;
+use testing::bounds::minimum;
+use testing::bounds::multiple_of;
+use testing::sizes::at_least;
+use testing::sizes::at_most;
+use testing::types::typed;
 
 // Whether the row passes the clause, which is a test.
 fn passes_test<'a>(
@@ -47,19 +49,23 @@ fn passes_test<'a>(
 {
     match clause {
         Clause::Never => false,
-        Clause::Types(mask) => typed(record, form, row, mask),
+        Clause::Types(mask) => typed(
+            number_in(record, form, row),
+            kind_of(record, form, row),
+            mask,
+        ),
         Clause::Enum(es) => enum_holds(record, text, form, row, rules, rule_text, rule_form, es),
-        Clause::Minimum(limit) => minimum(record, form, row, limit),
-        Clause::Maximum(limit) => maximum(record, form, row, limit),
-        Clause::ExclusiveMinimum(limit) => exclusive_minimum(record, form, row, limit),
-        Clause::ExclusiveMaximum(limit) => exclusive_maximum(record, form, row, limit),
-        Clause::MultipleOf(limit) => multiple_of(record, form, row, limit),
+        Clause::Minimum(limit) => minimum(number_in(record, form, row), limit),
+        Clause::Maximum(limit) => maximum(number_in(record, form, row), limit),
+        Clause::ExclusiveMinimum(limit) => exclusive_minimum(number_in(record, form, row), limit),
+        Clause::ExclusiveMaximum(limit) => exclusive_maximum(number_in(record, form, row), limit),
+        Clause::MultipleOf(limit) => multiple_of(number_in(record, form, row), limit),
         Clause::MinLength(k) => min_length(record, text, form, row, k),
         Clause::MaxLength(k) => max_length(record, text, form, row, k),
-        Clause::MinItems(k) => min_items(record, form, row, k),
-        Clause::MaxItems(k) => max_items(record, form, row, k),
-        Clause::MinProperties(k) => min_properties(record, form, row, k),
-        Clause::MaxProperties(k) => max_properties(record, form, row, k),
+        Clause::MinItems(k) => at_least(elements_of(record, form, row), k),
+        Clause::MaxItems(k) => at_most(elements_of(record, form, row), k),
+        Clause::MinProperties(k) => at_least(members_of(record, form, row), k),
+        Clause::MaxProperties(k) => at_most(members_of(record, form, row), k),
         Clause::Required(es) => required(record, text, form, row, rules, rule_text, rule_form, es),
         _ => false,
     }

@@ -1,4 +1,4 @@
--- What is asked of the record sheet that is looked at, how a row's number and size are held, and which child has a name.
+-- What is asked of the record sheet that is looked at, how a row's number, bytes and size are held, and which child has a name.
 -- Assumes nothing.
 use mathlib.Core.Bool.{true}
 use mathlib.Core.List.{List}
@@ -9,14 +9,16 @@ use lib.IntN.{ℤ}
 use lib.ListN.{length}
 use Rattle.laws.specs.Lowest.{lowest}
 use Rattle.decimal.specs.Value.{value, Plain}
+use Rattle.text.specs.Part.{fits, part}
 use Rattle.sheet.specs.declared.record.RecordForm.{RecordForm}
 use Rattle.sheet.specs.Doc.{Value, Doc, Child, firstChild, childCount, isObject}
 use Rattle.sheet.specs.Record.{textWord, docOf}
 use Rattle.sheet.specs.Accepted.{Laid}
-use Rattle.meaning.specs.Tests.{number?}
+use Rattle.meaning.specs.Tests.{number?, bytes?}
 use Rattle.meaning.specs.Rules.{called}
 use Rattle.looking.specs.declared.numbers.Numbered as N
 use Rattle.looking.specs.declared.sizes.Measured as M
+use Rattle.looking.specs.declared.sizes.Spelled as S
 
 -- no row of the record breaks the layout, the text has the length that its trailer says, and no two children of an object share a name
 pub record RecordRead (ws ts : List ℕ) (form : RecordForm) : Type 0 where
@@ -25,7 +27,7 @@ pub record RecordRead (ws ts : List ℕ) (form : RecordForm) : Type 0 where
   pub differ : (j k l : ℕ) → j < form .rows → isObject (docOf ws ts .value j) ≡ true → Child (docOf ws ts) j k → Child (docOf ws ts) j l → k < l
       → docOf ws ts .name k ≡ docOf ws ts .name l → ⊥
 
--- ---- numbers and sizes
+-- ---- numbers, strings and sizes
 
 abbrev pub numberIn : N.Numbered → Option ℤ
 numberIn (N.the-variants.Number d) = some (value d)
@@ -39,6 +41,19 @@ PlainIn N.the-variants.Other = Unit
 pub record NumberFound (v : Value) (r : N.Numbered) : Type 0 where
   pub number-is : number? v ≡ numberIn r
   pub plain : PlainIn r
+
+abbrev pub bytesIn : List ℕ → S.Spelled → Option (List ℕ)
+bytesIn ts (S.the-variants.Bytes r) = some (part ts r)
+bytesIn ts S.the-variants.Other = none
+
+abbrev pub FitsIn : ℕ → S.Spelled → Type 0
+FitsIn n (S.the-variants.Bytes r) = fits n r ≡ true
+FitsIn n S.the-variants.Other = Unit
+
+-- r holds where in this text the bytes of a value stand that is a string
+pub record StringFound (ts : List ℕ) (v : Value) (r : S.Spelled) : Type 0 where
+  pub bytes-is : bytes? v ≡ bytesIn ts r
+  pub inside : FitsIn (length ts) r
 
 abbrev pub sizeIn : M.Measured → Option ℕ
 sizeIn (M.the-variants.Size n) = some n

@@ -1,22 +1,42 @@
-// The size of a row: the characters of a string, the elements of an array, the members of an object.
+// The size of a row: the characters of a string, the elements of an array, the members of an object;
+// and where the bytes of a string stand.
 ghost use mathlib.Core.List.{List};
 ghost use mathlib.Core.Path.{_≡_};
 ghost use Prim.Native.Nat.{ℕ, _<_};
-ghost use Rattle.sheet.specs.Record.{docOf};
+ghost use lib.ListN.{length};
+ghost use Rattle.sheet.specs.Record.{textWord, docOf};
 ghost use Rattle.sheet.specs.Accepted.{Laid};
 ghost use Rattle.meaning.specs.Tests.{bytes?, elements?, members?, lengthOf};
-ghost use Rattle.looking.specs.Read.{RecordRead, sizeIn, sizeBy, sizeOf};
+ghost use Rattle.looking.specs.Read.{RecordRead, sizeIn, sizeBy, sizeOf, StringFound};
 use crate::numbers::is_kind;
 use sheet::kind::RowKind;
 use sheet::record::RecordForm;
 use sheet::record::RecordRow;
 use sheet::record::children_of;
 use sheet::record::string_of;
+use text::Range;
 
 // A row's size, or that it has none of the sort that is asked for.
 pub enum Measured {
     Size(u32),
     Other,
+}
+
+// A string's bytes, as a range of the text, or that a row is no string.
+pub enum Spelled {
+    Bytes(Range),
+    Other,
+}
+
+// The row's bytes, if it is a string.
+pub fn string_in(record: &[u32], form: RecordForm, row: RecordRow) -> Spelled
+    requires { ⌜ Laid (now «record») form × (row .0 < form .rows) ⌝ }
+    ensures { λ r. ⌜ ((ts : List ℕ) → length ts ≡ textWord (now («record» .entry)) → StringFound ts (docOf (now («record» .entry)) ts .value (row .0)) r) ⌝ }
+{
+    if !is_kind(record, form, row, RowKind::STRING) {
+        return Spelled::Other;
+    }
+    Spelled::Bytes(string_of(record, form, row))
 }
 
 // The length of a string, in characters.

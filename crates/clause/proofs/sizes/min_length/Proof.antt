@@ -4,11 +4,16 @@ use borrow.Author.Needs.{needs}
 use Rattle.clause.proofs.sizes.min_length.Statement.{statement}
 use Rattle.clause.proofs.sizes.min_length.Tie as tie
 
+string-in-requires : tie.Need-string-in-requires
+string-in-requires c κs = search needs
+
 few-characters-requires : tie.Need-few-characters-requires
-few-characters-requires c κs = search needs
+few-characters-requires c κs =
+    let start = c .before .before .before .before in
+    c .string-in .ensures (start .args .text .now) (start .pre .0 .text-length) .inside
 
 returns : tie.Need-returns
-returns c = c .few-characters .ensures
+returns c = c .few-characters .ensures _ (c .before .string-in .ensures _ (c .before .before .before .before .before .pre .0 .text-length))
 
 length-of-requires : tie.Need-length-of-requires
 length-of-requires c κs = search needs
@@ -20,4 +25,4 @@ returns-2 : tie.Need-returns-2
 returns-2 c = c .at-least .ensures lengthOf _ (c .before .length-of .ensures)
 
 pub min-length-spec : {M : Type 1} → statement M
-min-length-spec = tie.close (tie.spec few-characters-requires returns length-of-requires at-least-requires returns-2)
+min-length-spec = tie.close (tie.spec string-in-requires few-characters-requires returns length-of-requires at-least-requires returns-2)

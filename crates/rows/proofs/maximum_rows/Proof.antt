@@ -1,0 +1,71 @@
+-- `maximum_rows` meets its contract: each row passed over is no number or at most the limit. Assumes nothing.
+use mathlib.Core.Bool.{true}
+use mathlib.Core.List.{List, []}
+use mathlib.Core.Path.{_≡_}
+use Prim.Native.Nat.{ℕ, _-_}
+use native.Mathlib.Omega.{arith}
+use lib.Signed.{leZ}
+use borrow.Author.Needs.{needs}
+use borrow.Author.Tests.{not-false}
+use Rattle.decimal.specs.declared.Decimal.{Decimal}
+use Rattle.decimal.specs.Value.{value}
+use Rattle.sheet.specs.Record.{docOf}
+use Rattle.meaning.specs.Tests.{number?, given}
+use Rattle.rows.specs.Firsts.{FirstRows}
+use Rattle.rows.proofs.Firsts.{rows-none, rows-more}
+use Rattle.rows.proofs.maximum_rows.Statement.{statement}
+use Rattle.rows.proofs.maximum_rows.Tie as tie
+
+abbrev So : List ℕ → Decimal → ℕ → Type 0
+So ws limit j = (ts : List ℕ) → given (number? (docOf ws ts .value j)) (λ y. leZ y (value limit)) ≡ true
+
+abbrev Inv-loop : tie.InvT-loop
+Inv-loop «record» form row n limit k₀ k = FirstRows (row .0) n k (So «record» limit)
+
+abbrev μ-loop : tie.MeasureT-loop
+μ-loop «record» form row n limit k₀ k = n - k
+
+loop-holds : tie.Need-loop-holds Inv-loop μ-loop
+loop-holds c = rows-none (So (c .before .args .«record» .now) (c .before .args .limit)) _ _
+
+add-t9 : tie.Need-add-t9 Inv-loop μ-loop
+add-t9 c = search needs
+
+number-in-requires : tie.Need-number-in-requires Inv-loop μ-loop
+number-in-requires c κs = search needs
+
+plainly-maximum-requires : tie.Need-plainly-maximum-requires Inv-loop μ-loop
+plainly-maximum-requires c κs = (c .number-in .ensures [] .plain, c .before .before .before .before .before .pre .2)
+
+returns : tie.Need-returns Inv-loop μ-loop
+returns c = c .before .before .before .before .before .loop .inv
+
+add-k : tie.Need-add-k Inv-loop μ-loop
+add-k c = search needs
+
+loop-less : tie.Need-loop-less Inv-loop μ-loop
+loop-less c = search needs
+
+loop-again : tie.Need-loop-again Inv-loop μ-loop
+loop-again c =
+    let start = c .before .before .before .before .before .before .before in
+    rows-more (So (start .args .«record» .now) (start .args .limit)) _ _ _ (c .before .before .before .before .before .loop .inv) (omega arith) (λ ts. c .before .plainly-maximum .ensures (not-false _ (c .if1 .left)) _ (c .before .before .number-in .ensures ts))
+
+returns-2 : tie.Need-returns-2 Inv-loop μ-loop
+returns-2 c = c .before .loop .inv
+
+pub maximum-rows-spec : {M : Type 1} → statement M
+maximum-rows-spec =
+    tie.close
+    (tie.spec
+    Inv-loop
+    μ-loop
+    loop-holds
+    add-t9
+    number-in-requires
+    plainly-maximum-requires
+    returns
+    add-k
+    loop-less
+    loop-again
+    returns-2)
