@@ -1,6 +1,6 @@
 -- `judge_root` meets its contract. Assumes nothing.
 use Rattle.lent.proofs.Reading.{forms-fit, schemas-lent, formed-lent, reads-by}
-use Rattle.cycle.proofs.Testing.{passes-many}
+use Rattle.progress.proofs.Testing.{passes-many}
 use borrow.Author.Needs.{needs}
 use Rattle.cycle.proofs.cycle.judge_root.Statement.{statement}
 use Rattle.cycle.proofs.cycle.judge_root.Tie as tie

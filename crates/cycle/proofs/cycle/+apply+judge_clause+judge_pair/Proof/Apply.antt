@@ -6,9 +6,9 @@ use borrow.Author.Needs.{needs}
 use borrow.Fn.PlainCycle.{and}
 use Rattle.areas.specs.Cells.{pairIs, cellAt}
 use Rattle.lent.proofs.Reading.{forms-fit, schemas-lent, formed-lent, clauses-many, reads-by}
-use Rattle.cycle.proofs.Claused.{known, unsettled-by, cells-kept, list-kept}
-use Rattle.cycle.proofs.Turning.{cell-asks}
-use Rattle.cycle.proofs.Testing.{passes-many, told-open, told-end}
+use Rattle.progress.proofs.Claused.{known, unsettled-by, cells-kept, list-kept}
+use Rattle.progress.proofs.Turning.{cell-asks}
+use Rattle.progress.proofs.Testing.{passes-many, told-open, told-end}
 use Rattle.cycle.proofs.cycle.apply.Reads as apply
 use Rattle.cycle.proofs.cycle.+apply+judge_clause+judge_pair.Lts-apply as apply-lts
 use Rattle.cycle.proofs.cycle.+apply+judge_clause+judge_pair.Proof.Base.{apply-at, apply-claims}

@@ -3,7 +3,7 @@
 use Prim.Native.Nat.{_+_, _*_, _-_}
 use Rattle.areas.specs.Cells.{pairIs}
 use Rattle.lent.specs.Lent.{lentCase}
-use Rattle.cycle.specs.State.{rankOf}
+use Rattle.progress.specs.State.{rankOf}
 use Prim.Native.Nat.{ℕ, _<_}
 use borrow.Fn.Kinds.{In}
 use borrow.Fn.PlainCycle.{Measures, is, falls, and}
@@ -18,7 +18,7 @@ use Rattle.cycle.proofs.cycle.judge_pair.Kinds as judge-pair-kinds
 use Rattle.cycle.proofs.cycle.+apply+judge_clause+judge_pair.Lts-judge_pair as judge-pair-lts
 use Rattle.areas.proofs.settle.Reads as settle-reads
 use Rattle.sheet.proofs.record.wide.Reads as wide-reads
-use Rattle.cycle.proofs.cycle.in_line.Reads as in-line-reads
+use Rattle.lines.proofs.in_line.Reads as in-line-reads
 use Rattle.lent.proofs.clause_row.Reads as clause-row-reads
 use Rattle.lent.proofs.clauses_of.Reads as clauses-of-reads
 use Rattle.lent.proofs.finish.Reads as finish-reads

@@ -8,11 +8,11 @@ use borrow.Author.Tests.{not-true, not-false}
 use Rattle.areas.specs.Cells.{pairIs}
 use Rattle.lent.specs.Lent.{lentCase}
 use Rattle.lent.proofs.Reading.{clause-has, schemas-lent, reads-by, reads-clause}
-use Rattle.cycle.specs.Steps.{StandsAt, many, Standing}
-use Rattle.cycle.specs.State.{WhereDone}
-use Rattle.cycle.proofs.Claused.{cells-kept, list-kept}
-use Rattle.cycle.proofs.Lines.{areas-count}
-use Rattle.cycle.proofs.Turning.{standing-asks, standing-turn, turning-low, turning-ahead, turning-aim, turning-ready, turning-cell, turning-hands, turning-more, turning-end, falls-by}
+use Rattle.progress.specs.Steps.{StandsAt, many, Standing}
+use Rattle.progress.specs.State.{WhereDone}
+use Rattle.progress.proofs.Claused.{cells-kept, list-kept}
+use Rattle.progress.proofs.State.{areas-count}
+use Rattle.progress.proofs.Turning.{standing-asks, standing-turn, turning-low, turning-ahead, turning-aim, turning-ready, turning-cell, turning-hands, turning-more, turning-end, falls-by}
 use Prim.Native.Nat.{ℕ}
 use borrow.Fn.PlainCycle.{and}
 use Rattle.cycle.proofs.cycle.judge_clause.Reads as judge-clause

@@ -8,11 +8,11 @@ use borrow.Fn.PlainCycle.{and}
 use Rattle.areas.specs.Cells.{pairIs, cellAt}
 use Rattle.lent.specs.Lent.{lentCase, clauseAt}
 use Rattle.lent.proofs.Reading.{forms-fit, schemas-lent, formed-lent, clauses-many, reads-by, reads-clause, lt-by}
-use Rattle.cycle.specs.State.{WhereDone}
-use Rattle.cycle.proofs.Going.{going-ready, going-unsettled, going-writes, going-open}
-use Rattle.cycle.proofs.Named.{claused-named}
-use Rattle.cycle.proofs.Claused.{Clausing, claused-more, claused-next, claused-shut, claused-end, cells-kept, list-kept}
-use Rattle.cycle.proofs.Testing.{claused-test, claused-first, passes-many, applies-lent, applying-by, tries-by}
+use Rattle.progress.specs.State.{WhereDone}
+use Rattle.progress.proofs.Going.{going-ready, going-unsettled, going-writes, going-open}
+use Rattle.progress.proofs.Named.{claused-named}
+use Rattle.progress.proofs.Claused.{Clausing, claused-more, claused-next, claused-shut, claused-end, cells-kept, list-kept}
+use Rattle.progress.proofs.Testing.{claused-test, claused-first, passes-many, applies-lent, applying-by, tries-by}
 use Rattle.cycle.proofs.cycle.judge_pair.Reads as judge-pair
 use Rattle.cycle.proofs.cycle.+apply+judge_clause+judge_pair.Lts-judge_pair as judge-pair-lts
 use Rattle.cycle.proofs.cycle.+apply+judge_clause+judge_pair.Proof.Base.{judge-pair-at, judge-pair-claims}

@@ -6,13 +6,13 @@ use borrow.Author.Needs.{needs}
 use Rattle.areas.specs.Cells.{pairIs, cellAt, Unsettled}
 use Rattle.lent.specs.Lent.{lentCase}
 use Rattle.lent.proofs.Reading.{schemas-lent, reads-by, clause-has, clauses-many}
-use Rattle.cycle.specs.State.{WhereDone}
-use Rattle.cycle.specs.Steps.{Standing}
-use Rattle.cycle.proofs.Claused.{cells-kept, list-kept}
-use Rattle.cycle.proofs.Turning.{standing-first}
-use Rattle.cycle.proofs.Lines.{line-aim, line-open, line-hands, line-more, line-unsettled}
-use Rattle.cycle.proofs.cycle.settle_line.Statement.{statement}
-use Rattle.cycle.proofs.cycle.settle_line.Tie as tie
+use Rattle.progress.specs.State.{WhereDone}
+use Rattle.progress.specs.Steps.{Standing}
+use Rattle.progress.proofs.Claused.{cells-kept, list-kept}
+use Rattle.progress.proofs.Turning.{standing-first}
+use Rattle.lines.proofs.Lines.{line-aim, line-open, line-hands, line-more, line-unsettled}
+use Rattle.lines.proofs.settle_line.Statement.{statement}
+use Rattle.lines.proofs.settle_line.Tie as tie
 
 abbrev Inv-loop : tie.InvT-loop
 Inv-loop sheets texts forms cells₀ list₀ count p i n m first rule now₀ k₀ cells list now k =

@@ -3,7 +3,7 @@
 --     line-aim, line-open, line-judged, line-hands    what settling its pair asks, and handing on
 --     line-more, line-unsettled             one step more is taken, and those after it are as they were
 --     line-fewer                            fewer steps of a line
---     areas-count, cells-room               there are few pairs
+--     cells-room                            there are few pairs
 -- Assumes nothing.
 use mathlib.Core.Bool.{Bool, true, cond}
 use mathlib.Core.List.{List, List·Memᴰ as Has}
@@ -19,18 +19,18 @@ use Rattle.rulesheet.specs.Ruleset.{Clause}
 use Rattle.meaning.specs.Rules.{Pair, Marks}
 use Rattle.areas.specs.Cells.{cellAt, verd, Unsettled, settledAs}
 use Rattle.areas.specs.Writers.{Open, Shut, Marked}
-use Rattle.areas.proofs.Cells.{verd-settle, same-row, settled-le}
+use Rattle.areas.proofs.Cells.{verd-settle, same-row}
 use Rattle.plan.specs.Plan.{moved, afterMiss}
 use Rattle.steps.specs.Turns.{Turned}
 use Rattle.steps.specs.Lines.{InLine}
 use Rattle.steps.proofs.Turns.{at, goes-on, skipped-none}
-use Rattle.lent.specs.Lent.{Case, Fits, clausesOf, clauseAt, beforeOf, firstKid, kidCount, PassesFirst, HandsOn, givenOn, nextAt}
+use Rattle.lent.specs.Lent.{Case, clausesOf, clauseAt, beforeOf, firstKid, kidCount, PassesFirst, HandsOn, givenOn, nextAt}
 use Rattle.lent.proofs.Reading.{pairs-few}
-use Rattle.cycle.specs.State.{Areas, Ready, Judged}
-use Rattle.cycle.specs.Steps.{Standing}
-use Rattle.cycle.proofs.Going.{Aim}
-use Rattle.cycle.proofs.Turning.{first-open, Turning, turning, turning-aim, turning-ready, turning-hands, turning-more}
-use Rattle.cycle.proofs.Testing.{told-open, told-end}
+use Rattle.progress.specs.State.{Ready, Judged}
+use Rattle.progress.specs.Steps.{Standing}
+use Rattle.progress.proofs.Going.{Aim}
+use Rattle.progress.proofs.Turning.{first-open, Turning, turning, turning-aim, turning-ready, turning-hands, turning-more}
+use Rattle.progress.proofs.Testing.{told-open, told-end}
 
 module _ (T : Case) (p : Pair) (cl : ℕ) {first n s : ℕ} (L : InLine (T .doc) p (beforeOf T p cl) (clauseAt T p cl) first n s) (few : n < 4294967296) {k : ℕ} (h : k < n) {row : RecordRow} {rule : RuleRow} (there : row .0 ≡ first + k) (schema : rule .0 ≡ s) where
   abbrev q : Pair
@@ -97,10 +97,6 @@ line-fewer h L =
       hits-none = λ a. L .hits-none (omega arith);
       branches-none = λ a. L .branches-none (omega arith);
     }
-
--- no more pairs are settled than there are
-pub areas-count : {T : Case} {d : List Pair} {h : Pair → Marks} {l₀ c l : List ℕ} {n : ℕ} → Fits T → Areas T d h l₀ c l n → n < 4294967296
-areas-count {T} {c = c} fit A = omega (arith, pairs-few (T .n) (T .m) (fit .rows .few) (fit .few), A .long, A .counted, settled-le c)
 
 -- the cells are as many as there are pairs, and few
 pub cells-room : {T : Case} {t : ℕ} {p : Pair} {c l : List ℕ} {n : ℕ} → Ready T t p c l n → (T .n * T .m ≤ length c) × (length c < 4294967296)

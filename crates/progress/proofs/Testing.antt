@@ -32,12 +32,12 @@ use Rattle.lent.specs.Lent.{Case, lent, Lent, lentCase, InCase, clausesOf, clau
 use Rattle.lent.proofs.Ways.{goes-on}
 use Rattle.lent.proofs.Reading.{rule-low}
 use Rattle.lent.proofs.Marks.{kept-all}
-use Rattle.cycle.specs.Steps.{many, Stepped}
-use Rattle.cycle.specs.declared.cycle.Done.{Done}
-use Rattle.cycle.specs.State.{rankOf, Ready, WhereDone, Judged}
-use Rattle.cycle.proofs.Pairs.{resAt}
-use Rattle.cycle.proofs.Going.{ready-as, stepped-none, stepped-end, going-unsettled, going-ready, going-open}
-use Rattle.cycle.proofs.Claused.{Claused, Clausing, claused-none, claused-more, claused-next, claused-end}
+use Rattle.progress.specs.Steps.{many, Stepped}
+use Rattle.progress.specs.declared.Done.{Done}
+use Rattle.progress.specs.State.{rankOf, Ready, WhereDone, Judged}
+use Rattle.progress.proofs.Pairs.{resAt}
+use Rattle.progress.proofs.Going.{ready-as, stepped-none, stepped-end, going-unsettled, going-ready, going-open}
+use Rattle.progress.proofs.Claused.{Claused, Clausing, claused-none, claused-more, claused-next, claused-end}
 
 no-steps : (T : Case) (p : Pair) (i : ℕ) (t : Test) → clauseAt T p i ≡ asserts t → 0 ≡ many T p i
 unfolding stepsOf

@@ -6,11 +6,11 @@ use Rattle.sheet.specs.declared.record.RecordRow.{RecordRow}
 use Rattle.areas.specs.Cells.{pairIs}
 use Rattle.lent.specs.Lent.{lentCase}
 use Rattle.lent.proofs.Reading.{clause-has}
-use Rattle.cycle.proofs.Turning.{standing-first}
-use Rattle.cycle.proofs.Lines.{line-aim, line-fewer, cells-room}
+use Rattle.progress.proofs.Turning.{standing-first}
+use Rattle.lines.proofs.Lines.{line-aim, line-fewer, cells-room}
 use borrow.Author.Needs.{needs}
-use Rattle.cycle.proofs.cycle.in_line.Statement.{statement}
-use Rattle.cycle.proofs.cycle.in_line.Tie as tie
+use Rattle.lines.proofs.in_line.Statement.{statement}
+use Rattle.lines.proofs.in_line.Tie as tie
 
 line-requires : tie.Need-line-requires
 line-requires c κs = search needs

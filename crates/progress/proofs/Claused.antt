@@ -19,12 +19,12 @@ use Rattle.areas.specs.Cells.{verd, cellAt, Unsettled}
 use Rattle.areas.specs.Writers.{Shut, Marked}
 use Rattle.plan.proofs.Plans.{clause-same}
 use Rattle.lent.specs.Lent.{Case, goesOn, Kid, firstKid, kidCount, clausesOf, clauseAt, beforeOf, kept}
-use Rattle.cycle.specs.Steps.{Going}
-use Rattle.cycle.specs.declared.cycle.Done.{Done}
-use Rattle.cycle.specs.State.{rankOf, truthOf, settleOf, bitsOf, overlay, Areas, Quiet, Ready, WhereDone, Judged, ClauseJudged}
-use Rattle.cycle.proofs.Pairs.{start, both, shut, resAt, doneAt, res-stays, done-stays, res-next, done-next, truth-at, settle-old, settle-at, settle-self, turn-new, turn-grows}
-use Rattle.cycle.proofs.State.{overlay-self, overlay-other, areas-self, areas-bits, areas-listed, areas-free, areas-said, areas-then, areas-settle, areas-long}
-use Rattle.cycle.proofs.Going.{ready-as, going-pair, going-bits, going-mark, going-open, open-bits}
+use Rattle.progress.specs.Steps.{Going}
+use Rattle.progress.specs.declared.Done.{Done}
+use Rattle.progress.specs.State.{rankOf, truthOf, settleOf, bitsOf, overlay, Areas, Quiet, Ready, WhereDone, Judged, ClauseJudged}
+use Rattle.progress.proofs.Pairs.{start, both, shut, resAt, doneAt, res-stays, done-stays, res-next, done-next, truth-at, settle-old, settle-at, settle-self, turn-new, turn-grows}
+use Rattle.progress.proofs.State.{overlay-self, overlay-other, areas-self, areas-bits, areas-listed, areas-free, areas-said, areas-then, areas-settle, areas-long}
+use Rattle.progress.proofs.Going.{ready-as, going-pair, going-bits, going-mark, going-open, open-bits}
 
 -- i clauses of p were judged, or passed over since a failure has stopped it
 pub record Claused (T : Case) (p : Pair) (d₀ : List Pair) (c₀ l₀ : List ℕ) (i : ℕ) (cells list : List ℕ) (count : ℕ) (ok : Bool) : Type 0 where

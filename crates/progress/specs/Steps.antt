@@ -9,7 +9,7 @@ use Rattle.meaning.specs.Settling.{listed}
 use Rattle.plan.specs.Folds.{tallyBy, marksBy, doneBy}
 use Rattle.plan.specs.Plan.{countsHits, branches, moved, stepsOf, aimOf, goOf, wayOf, stopsBy}
 use Rattle.lent.specs.Lent.{Case, Fits, InCase, clauseAt, beforeOf}
-use Rattle.cycle.specs.State.{rankOf, truthOf, settleOf, bitsOf, overlay, Areas, Quiet, WhereDone}
+use Rattle.progress.specs.State.{rankOf, truthOf, settleOf, bitsOf, overlay, Areas, Quiet, WhereDone}
 
 -- p is in progress: its marks are κ, and `done` are settled. No pair below p that is not settled has marks
 pub record Going (T : Case) (p : Pair) (held : Pair → Marks) (l₀ : List ℕ) (done : List Pair) (κ : Marks) (cells list : List ℕ) (count : ℕ) : Type 0 where

@@ -5,4 +5,3 @@ pub mod Claused
 pub mod Turning
 pub mod Testing
 pub mod Named
-pub mod Lines

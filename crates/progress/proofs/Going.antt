@@ -32,11 +32,11 @@ use Rattle.plan.proofs.Folds.{or-no, tally-few, done-picked}
 use Rattle.plan.proofs.Plans.{Aimed, applied-is, holds-is, marks-is, go-is, go-same, aimed}
 use Rattle.lent.specs.Lent.{Case, Fits, InCase, Kid, firstKid, kidCount, clausesOf, clauseAt, beforeOf, handedOn, HandsOn, givenOn}
 use Rattle.lent.proofs.Reading.{pairs-few}
-use Rattle.cycle.specs.Steps.{Going, aims, stopped, fresh, carries, goes, keeps, many, Stepped}
-use Rattle.cycle.specs.declared.cycle.Done.{Done}
-use Rattle.cycle.specs.State.{rankOf, truthOf, settleOf, bitsOf, overlay, Areas, Quiet, Ready, WhereDone, Judged, ClauseJudged}
-use Rattle.cycle.proofs.Pairs.{settle-self, settle-still, settle-new, settle-grows}
-use Rattle.cycle.proofs.State.{cond-else, not-same, overlay-self, overlay-other, areas-bits, areas-marks, areas-self, areas-free, areas-unsettled, areas-cell, areas-then, areas-mark}
+use Rattle.progress.specs.Steps.{Going, aims, stopped, fresh, carries, goes, keeps, many, Stepped}
+use Rattle.progress.specs.declared.Done.{Done}
+use Rattle.progress.specs.State.{rankOf, truthOf, settleOf, bitsOf, overlay, Areas, Quiet, Ready, WhereDone, Judged, ClauseJudged}
+use Rattle.progress.proofs.Pairs.{settle-self, settle-still, settle-new, settle-grows}
+use Rattle.progress.proofs.State.{cond-else, not-same, overlay-self, overlay-other, areas-bits, areas-marks, areas-self, areas-free, areas-unsettled, areas-cell, areas-then, areas-mark}
 
 lower-other : (T : Case) (p q : Pair) → rankOf T q < rankOf T p → samePair q p ≡ false
 lower-other T p q h = not-same p q (λ e. let z : rankOf T q ≡ rankOf T p = ap (rankOf T) e in omega arith)

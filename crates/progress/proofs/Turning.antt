@@ -27,16 +27,16 @@ use Rattle.told.specs.Read.{Started}
 use Rattle.steps.specs.Turns.{Skipped, Turned}
 use Rattle.lent.specs.Lent.{Case, Fits, InCase, firstKid, kidCount, clausesOf, clauseAt, beforeOf, Turns, TurnsTo, nextAt, HandsOn, givenOn}
 use Rattle.lent.proofs.Reading.{pairs-few}
-use Rattle.cycle.specs.Steps.{many, aims, stopped, fresh, goes, Stepped, Standing}
-use Rattle.cycle.specs.declared.cycle.Done.{Done}
-use Rattle.cycle.specs.State.{Named, rankOf, bitsOf, Areas, Ready, WhereDone, Judged, ClauseJudged}
-use Rattle.cycle.proofs.State.{areas-cell}
-use Rattle.cycle.proofs.Going.{Aim, ready-as, stepped-none, stepped-few, stepped-go, stepped-goes, stepped-aim, stepped-skips, stepped-stops, stepped-went, stepped-hands, stepped-end, going-unsettled, going-ready, going-aimed, going-apply}
+use Rattle.progress.specs.Steps.{many, aims, stopped, fresh, goes, Stepped, Standing}
+use Rattle.progress.specs.declared.Done.{Done}
+use Rattle.progress.specs.State.{Named, rankOf, bitsOf, Areas, Ready, WhereDone, Judged, ClauseJudged}
+use Rattle.progress.proofs.State.{areas-cell}
+use Rattle.progress.proofs.Going.{Aim, ready-as, stepped-none, stepped-few, stepped-go, stepped-goes, stepped-aim, stepped-skips, stepped-stops, stepped-went, stepped-hands, stepped-end, going-unsettled, going-ready, going-aimed, going-apply}
 use Rattle.laws.proofs.Tests.{decide}
 use Rattle.plan.proofs.Plans.{Aimed, after-miss}
-use Rattle.cycle.proofs.Pairs.{resAt}
-use Rattle.cycle.proofs.Named.{standing-marked}
-use Rattle.cycle.proofs.Claused.{Claused, claused-more}
+use Rattle.progress.proofs.Pairs.{resAt}
+use Rattle.progress.proofs.Named.{standing-marked}
+use Rattle.progress.proofs.Claused.{Claused, claused-more}
 
 -- ---- the clause stands where `at` says
 

@@ -27,7 +27,7 @@ use Rattle.meaning.proofs.Truth.{truth-is}
 use Rattle.meaning.proofs.Settled.{listed-in, in-listed, not-listed, kept, new, reached-low, settles, settle-is}
 use Rattle.plan.proofs.Folds.{turn-append}
 use Rattle.lent.specs.Lent.{Case, Fits, clausesOf, clauseAt, beforeOf}
-use Rattle.cycle.specs.State.{rankOf, truthOf, settleOf}
+use Rattle.progress.specs.State.{rankOf, truthOf, settleOf}
 
 abbrev pub start : Result
 start = record { holds = true; marks = nothing }

@@ -26,11 +26,11 @@ use Rattle.told.proofs.Marking.{named-marks, member-elem}
 use Rattle.steps.specs.Turns.{NamesMarked}
 use Rattle.steps.proofs.Turns.{twice}
 use Rattle.lent.specs.Lent.{Case, clausesOf, clauseAt, beforeOf}
-use Rattle.cycle.specs.Steps.{Stepped, goes}
-use Rattle.cycle.specs.State.{truthOf, bitsOf, Named}
-use Rattle.cycle.proofs.Pairs.{resAt, both, start, res-stays, res-next, one-before}
-use Rattle.cycle.proofs.Going.{going-bits, open-bits}
-use Rattle.cycle.proofs.Claused.{Clausing}
+use Rattle.progress.specs.Steps.{Stepped, goes}
+use Rattle.progress.specs.State.{truthOf, bitsOf, Named}
+use Rattle.progress.proofs.Pairs.{resAt, both, start, res-stays, res-next, one-before}
+use Rattle.progress.proofs.Going.{going-bits, open-bits}
+use Rattle.progress.proofs.Claused.{Clausing}
 
 module _ (T : Case) (p : Pair) where
   -- a clause that is not stopped comes after those that are not

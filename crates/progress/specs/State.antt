@@ -12,7 +12,7 @@ use Rattle.areas.specs.Cells.{cellAt, verd, Unsettled, bit, settledAs, column}
 use Rattle.told.specs.Read.{NamesOnly}
 use Rattle.steps.specs.Turns.{NamesMarked}
 use Rattle.lent.specs.Lent.{Case, Fits, InCase, Kid, clauseAt, beforeOf}
-use Rattle.cycle.specs.declared.cycle.Done.{Done}
+use Rattle.progress.specs.declared.Done.{Done}
 
 abbrev pub rankOf : Case → Pair → ℕ
 rankOf T p = rank (T .doc) (T .rules) p
