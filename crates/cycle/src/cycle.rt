@@ -9,10 +9,11 @@
 // `judge_root`, so that `judge_pair` has two callers and `apply` becomes part of `judge_clause`.
 //
 // 1,024 pairs can be open at once, so an open pair keeps little: sheets, texts and forms lie behind one
-// address each, and what is read of them is read in `lent`, where no pair is open.
+// address each, and what is read of them is read in `lent`, `trying`, `stepping` and `marking`, where no
+// pair is open.
 //
 // One cycle serves both calls: whether judging goes on after a failure, in whole, or stops, cut, is
-// asked of `lent::next_clause` and `lent::next_step`.
+// asked of `lent::next_clause` and `stepping::next_step`.
 //
 // The contracts cite `specs/State.antt` of `progress`, and of what is lent `specs/Lent.antt` of `lent`.
 ghost use mathlib.Core.Path.{_≡_};
@@ -26,23 +27,23 @@ use few::applies;
 use lent::RULES;
 use lent::clause_row;
 use lent::clauses_of;
-use lent::finish;
-use lent::give;
-use lent::holds;
-use lent::moved;
 use lent::next_clause;
-use lent::next_step;
-use lent::plain;
 use lent::schemas_of;
-use lent::shut;
-use lent::start;
-use lent::turn;
-use lent::verdict_of;
 use lines::in_line;
+use marking::give;
+use marking::shut;
+use marking::verdict_of;
 use progress::Done;
 use rulesheet::form::ClauseRow;
 use sheet::record::Pair;
 use sheet::record::wide;
+use stepping::finish;
+use stepping::moved;
+use stepping::next_step;
+use stepping::start;
+use stepping::turn;
+use trying::holds;
+use trying::plain;
 
 // What judging a record gives: whether it is valid, how many pairs are settled, and how many
 // children of the root are marked.

@@ -8,7 +8,7 @@ use areas::marked_of;
 use cycle::cycle::Verdict;
 use cycle::cycle::judge_root;
 use lent::forms_of;
-use lent::verdict_of;
+use marking::verdict_of;
 use rulesheet::form::RuleForm;
 use sheet::record::Pair;
 use sheet::record::RecordForm;

@@ -14,13 +14,13 @@ ghost use Rattle.lent.specs.Lent.{lent, Lent, lentCase, clauseAt, beforeOf, row
 ghost use Rattle.progress.specs.State.{rankOf, Ready};
 ghost use Rattle.progress.specs.Steps.{StandsAt};
 use areas::settle;
-use lent::give;
-use lent::line;
-use lent::plain_rows;
 use lent::schemas_of;
+use marking::give;
 use rulesheet::form::ClauseRow;
 use sheet::record::Pair;
 use sheet::record::RecordRow;
+use stepping::line;
+use trying::plain_rows;
 
 // Settles n pairs in a line that clause i of the pair p applies first, of which the rows' own words tell
 // that they hold: those of q's schema on the rows from q's on.

@@ -21,18 +21,18 @@ use Rattle.sheet.proofs.record.wide.Reads as wide-reads
 use Rattle.lines.proofs.in_line.Reads as in-line-reads
 use Rattle.lent.proofs.clause_row.Reads as clause-row-reads
 use Rattle.lent.proofs.clauses_of.Reads as clauses-of-reads
-use Rattle.lent.proofs.finish.Reads as finish-reads
-use Rattle.lent.proofs.give.Reads as give-reads
-use Rattle.lent.proofs.holds.Reads as holds-reads
-use Rattle.lent.proofs.moved.Reads as moved-reads
+use Rattle.stepping.proofs.finish.Reads as finish-reads
+use Rattle.marking.proofs.give.Reads as give-reads
+use Rattle.trying.proofs.holds.Reads as holds-reads
+use Rattle.stepping.proofs.moved.Reads as moved-reads
 use Rattle.lent.proofs.next_clause.Reads as next-clause-reads
-use Rattle.lent.proofs.next_step.Reads as next-step-reads
-use Rattle.lent.proofs.plain.Reads as plain-reads
+use Rattle.stepping.proofs.next_step.Reads as next-step-reads
+use Rattle.trying.proofs.plain.Reads as plain-reads
 use Rattle.lent.proofs.schemas_of.Reads as schemas-of-reads
-use Rattle.lent.proofs.shut.Reads as shut-reads
-use Rattle.lent.proofs.start.Reads as start-reads
-use Rattle.lent.proofs.turn.Reads as turn-reads
-use Rattle.lent.proofs.verdict_of.Reads as verdict-of-reads
+use Rattle.marking.proofs.shut.Reads as shut-reads
+use Rattle.stepping.proofs.start.Reads as start-reads
+use Rattle.stepping.proofs.turn.Reads as turn-reads
+use Rattle.marking.proofs.verdict_of.Reads as verdict-of-reads
 use Rattle.few.proofs.applies.Reads as applies-reads
 
 abbrev pub μ-apply : Measures 4 apply-kinds.ps ℕ
