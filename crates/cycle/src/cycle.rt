@@ -6,7 +6,7 @@
 // Most pairs have tests only, and the row's own words tell that it passes them: such a pair is settled
 // where it is applied, and no frame is made for it. Those that a clause applies first and in a line, one
 // schema to one row after the other, are settled at once (`in_line`). The root is judged by
-// `judge_root`, so that `judge_pair` has two callers and `apply` becomes part of `judge_clause`.
+// `root::judge_root`, so that `judge_pair` has two callers and `apply` becomes part of `judge_clause`.
 //
 // 1,024 pairs can be open at once, so an open pair keeps little: sheets, texts and forms lie behind one
 // address each, and what is read of them is read in `lent`, `trying`, `stepping` and `marking`, where no
@@ -45,14 +45,6 @@ use stepping::turn;
 use trying::holds;
 use trying::plain;
 
-// What judging a record gives: whether it is valid, how many pairs are settled, and how many
-// children of the root are marked.
-pub struct Verdict {
-    pub ok: bool,
-    pub count: usize,
-    pub marked: usize,
-}
-
 // Applies a pair: its cell answers if it is settled, and else it is judged. The answer is how many
 // pairs are settled then.
 fn apply<'a, 'b>(
@@ -81,7 +73,7 @@ fn apply<'a, 'b>(
 
 // Judges the clauses of a pair that is not settled, of which the first `passed` are tests that its row
 // passes, and settles it.
-fn judge_pair<'a, 'b>(
+pub fn judge_pair<'a, 'b>(
     sheets: &'a [&'b [u32]; 2],
     texts: &'a [&'b [u8]; 2],
     forms: &'a [usize; 9],
@@ -154,23 +146,4 @@ fn judge_clause<'a, 'b>(
         give(sheets, texts, forms, cells, p, at.pair, !at.hits | held);
         x = next_step(sheets, texts, forms, p, i, row, at.step, tally);
     }
-}
-
-// Judges the root pair, or any other that is not settled where none is.
-pub fn judge_root<'a, 'b>(
-    sheets: &'a [&'b [u32]; 2],
-    texts: &'a [&'b [u8]; 2],
-    forms: &'a [usize; 9],
-    cells: &mut [u8],
-    list: &mut [u32],
-    p: Pair,
-) -> usize
-    requires { ⌜ Lent (now sheets) (now texts) (now forms) ⌝ }
-    requires { ⌜ Ready (lentCase (now sheets) (now texts) (now forms)) (rankOf (lentCase (now sheets) (now texts) (now forms)) (pairIs p) + 1) (pairIs p) (now cells) (now list) 0 ⌝ }
-    requires { ⌜ Unsettled (lentCase (now sheets) (now texts) (now forms) .m) (pairIs p) (now cells) ⌝ }
-    ensures { λ r. ⌜ Judged (lentCase (now (sheets .entry)) (now (texts .entry)) (now (forms .entry))) (pairIs p) (now (cells .entry)) (now (list .entry)) 0 (now (cells .exit)) (now (list .exit)) r ⌝ }
-{
-    let many = clauses_of(sheets[RULES], forms, p.rule);
-    let passed = plain(sheets, texts, forms, cells, p, many);
-    judge_pair(sheets, texts, forms, cells, list, 0, p, passed)
 }

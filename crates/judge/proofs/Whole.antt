@@ -26,7 +26,7 @@ use Rattle.meaning.proofs.Rows.{by-rows}
 use Rattle.areas.specs.Cells.{Unsettled, cellOf, verd, bit, four, settledAs, column, markedBy, Cleared, cellAt}
 use Rattle.areas.specs.Writers.{Writes}
 use Rattle.areas.proofs.Cells.{settledAs-read, whole as both-parts, zero-verd, zero-bit, settled-blank}
-use Rattle.cycle.specs.declared.cycle.Verdict.{Verdict}
+use Rattle.judge.specs.declared.run.Verdict.{Verdict}
 use Rattle.lent.specs.Lent.{Case, pair, Fits, InCase, firstKid, kidCount}
 use Rattle.progress.specs.State.{truthOf, settleOf, bitsOf, written, Areas, Quiet, Ready, Judged}
 use Rattle.judge.specs.Whole.{Exact, Fresh, Roomy, leftBy, judgedOf}

@@ -4,7 +4,6 @@
 --     areas-then       one run after another
 --     areas-mark       marks were written
 --     areas-settle     a pair was settled
---     areas-count      there are few pairs
 -- Assumes nothing.
 use mathlib.Core.Bool.{Bool, true, false, cond, true≢false}
 use mathlib.Core.List.{List, [], _∷_, _++_, map}
@@ -23,9 +22,8 @@ use Rattle.meaning.proofs.Settled.{same-pair, self, in-listed, last-in}
 use Rattle.plan.proofs.Folds.{map-append, eq-or}
 use Rattle.areas.specs.Cells.{verd, bit, settledAs, column, cellAt, Unsettled}
 use Rattle.areas.specs.Writers.{Open, Shut, Writes, Marked}
-use Rattle.areas.proofs.Cells.{settledAs-some, same-row, same-rule, verd-settle, bit-settle, settle-small, settled-set, settled-same, settled-le}
+use Rattle.areas.proofs.Cells.{settledAs-some, same-row, same-rule, verd-settle, bit-settle, settle-small, settled-set, settled-same}
 use Rattle.lent.specs.Lent.{Case, Fits, InCase, Kid, firstKid, kidCount}
-use Rattle.lent.proofs.Reading.{pairs-few}
 use Rattle.progress.specs.State.{truthOf, bitsOf, overlay, written, Areas}
 
 -- ---- tests
@@ -263,7 +261,3 @@ areas-writes {T} {p = p} A fit i = record {
   from-in = i .rule-in;
   rows-in = λ k a b. let z = fit .rows .child-inside (p .row) k (i .row-in) (record { after = a; within = b }) in let w = row-inside (T .n) (T .m) k z in let e = A .long in omega arith;
 }
-
--- no more pairs are settled than there are
-pub areas-count : {T : Case} {d : List Pair} {h : Pair → Marks} {l₀ c l : List ℕ} {n : ℕ} → Fits T → Areas T d h l₀ c l n → n < 4294967296
-areas-count {T} {c = c} fit A = omega (arith, pairs-few (T .n) (T .m) (fit .rows .few) (fit .few), A .long, A .counted, settled-le c)

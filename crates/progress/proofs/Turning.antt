@@ -1,6 +1,7 @@
 -- A clause of a pair in progress between two of its steps: the loop over the pairs that it applies.
 --     Turning, turning          the clause stands where a turn says
 --     Standing, standing-first, standing-asks, standing-turn     so many of its steps are taken
+--     standing-count, standing-cells, standing-list              and what that says of the areas
 --     turning-more              a pair that it applies was judged
 --     turning-aim, turning-ready      that pair, and what applying it asks
 --     turning-hands             what handing on asks
@@ -21,6 +22,7 @@ use Rattle.meaning.specs.Rules.{Pair, Marks, Way, whole, cut, stops, passes}
 use Rattle.meaning.specs.Fit.{rank}
 use Rattle.areas.specs.Cells.{pairIs, cellAt, verd, Unsettled, column}
 use Rattle.areas.specs.Writers.{Marked}
+use Rattle.areas.proofs.Cells.{settled-le}
 use Rattle.steps.specs.declared.turn.Turn.{Turn}
 use Rattle.plan.specs.Plan.{countsHits, branches, moved, stepsOf, finishOf, wayOf, stopsBy}
 use Rattle.told.specs.Read.{Started}
@@ -30,13 +32,12 @@ use Rattle.lent.proofs.Reading.{pairs-few}
 use Rattle.progress.specs.Steps.{many, aims, stopped, fresh, goes, Stepped, Standing}
 use Rattle.progress.specs.declared.Done.{Done}
 use Rattle.progress.specs.State.{Named, rankOf, bitsOf, Areas, Ready, WhereDone, Judged, ClauseJudged}
-use Rattle.progress.proofs.State.{areas-cell}
+use Rattle.progress.proofs.State.{areas-cell, areas-long}
 use Rattle.progress.proofs.Going.{Aim, ready-as, stepped-none, stepped-few, stepped-go, stepped-goes, stepped-aim, stepped-skips, stepped-stops, stepped-went, stepped-hands, stepped-end, going-unsettled, going-ready, going-aimed, going-apply}
 use Rattle.laws.proofs.Tests.{decide}
 use Rattle.plan.proofs.Plans.{Aimed, after-miss}
-use Rattle.progress.proofs.Pairs.{resAt}
 use Rattle.progress.proofs.Named.{standing-marked}
-use Rattle.progress.proofs.Claused.{Claused, claused-more}
+use Rattle.progress.proofs.Claused.{cells-kept}
 
 -- ---- the clause stands where `at` says
 
@@ -83,6 +84,20 @@ module _ {T : Case} {p : Pair} {cl : ℕ} {d₀ : List Pair} {c₀ l₀ : List �
 
   pub standing-turn : {at : Turn} → TurnsTo T p cl x tally c at → Turning T p cl d₀ c₀ l₀ c l n tally at
   standing-turn t = turning Z t
+
+  -- no more pairs are settled than there are
+  pub standing-count : n < 4294967296
+  standing-count =
+      let fit = Z .steps .going .fit in
+      let A = Z .steps .going .areas in
+      omega (arith, pairs-few (T .n) (T .m) (fit .rows .few) (fit .few), A .long, A .counted, settled-le c)
+
+  -- the areas keep their lengths
+  pub standing-cells : {h₀ : Pair → Marks} {a : List ℕ} {n₀ : ℕ} → Areas T d₀ h₀ a c₀ l₀ n₀ → length c ≡ length c₀
+  standing-cells A = cells-kept A (Z .steps .going .areas)
+
+  pub standing-list : length l ≡ length l₀
+  standing-list = areas-long (Z .steps .going .areas)
 
 -- what reading a pair's cell asks
 pub cell-asks : {T : Case} {q : Pair} {d : List Pair} {h : Pair → Marks} {l₀ c l : List ℕ} {n : ℕ} → Fits T → InCase T q → Areas T d h l₀ c l n

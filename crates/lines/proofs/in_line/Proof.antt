@@ -4,7 +4,7 @@ use Prim.Native.Nat.{_+_, _<_}
 use native.Mathlib.Omega.{arith}
 use Rattle.sheet.specs.declared.record.RecordRow.{RecordRow}
 use Rattle.areas.specs.Cells.{pairIs}
-use Rattle.lent.specs.Lent.{lentCase}
+use Rattle.lent.specs.Lent.{lentCase, clauseAt, beforeOf}
 use Rattle.lent.proofs.Reading.{clause-has}
 use Rattle.progress.proofs.Turning.{standing-first}
 use Rattle.lines.proofs.Lines.{line-aim, line-fewer, cells-room}
@@ -41,7 +41,10 @@ settle-line-requires c κs =
     let start = c .before .before .before .before .before .before .before .before .before .before in
     let at = c .before .before .before .before .before .before .before .line in
     let found = c .before .before .plain-rows .ensures in
-    (start .pre .0, (start .pre .1 .0, (start .pre .1 .1 .0, (line-fewer (found .0) (at .ensures .0), (found .1, omega (arith, found .0, at .ensures .1))))))
+    let T = lentCase (start .args .sheets .now) (start .args .texts .now) (start .args .forms .now) in
+    let p = pairIs (start .args .p) in
+    let L = line-fewer {D = T .doc} {p = p} {before = beforeOf T p (start .args .i)} {c = clauseAt T p (start .args .i)} (found .0) (at .ensures .0) in
+    (start .pre .0, (start .pre .1 .0, (start .pre .1 .1 .0, (L, (found .1, omega (arith, found .0, at .ensures .1))))))
 
 same-length : tie.Need-same-length
 same-length c = search needs

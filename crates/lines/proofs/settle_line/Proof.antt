@@ -8,8 +8,7 @@ use Rattle.lent.specs.Lent.{lentCase}
 use Rattle.lent.proofs.Reading.{schemas-lent, reads-by, clause-has, clauses-many}
 use Rattle.progress.specs.State.{WhereDone}
 use Rattle.progress.specs.Steps.{Standing}
-use Rattle.progress.proofs.Claused.{cells-kept, list-kept}
-use Rattle.progress.proofs.Turning.{standing-first}
+use Rattle.progress.proofs.Turning.{standing-first, standing-cells, standing-list}
 use Rattle.lines.proofs.Lines.{line-aim, line-open, line-hands, line-more, line-unsettled}
 use Rattle.lines.proofs.settle_line.Statement.{statement}
 use Rattle.lines.proofs.settle_line.Tie as tie
@@ -109,13 +108,13 @@ same-length : tie.Need-same-length Inv-loop μ-loop
 same-length c =
     let start = c .before .before .before .before .before .before in
     let R = start .pre .1 .0 in
-    cells-kept (R .areas) (c .before .loop .inv .2 (R .done) (R .areas) .steps .going .areas)
+    standing-cells (c .before .loop .inv .2 (R .done) (R .areas)) (R .areas)
 
 same-length-2 : tie.Need-same-length-2 Inv-loop μ-loop
 same-length-2 c =
     let start = c .before .before .before .before .before .before in
     let R = start .pre .1 .0 in
-    list-kept (R .areas) (c .before .loop .inv .2 (R .done) (R .areas) .steps .going .areas)
+    standing-list (c .before .loop .inv .2 (R .done) (R .areas))
 
 returns : tie.Need-returns Inv-loop μ-loop
 returns c =
