@@ -42,8 +42,16 @@ def read(path):
 
 def with_cells():
     """The crates that cells may come to: the judge, those it stands on and those that stand on it."""
-    stands_on = dict(line.split(':', 1) for line in read(os.path.join(ROOT, 'crates.txt')).splitlines() if ':' in line)
-    return sorted({'judge', *stands_on['judge'].split(), *(crate for crate in stands_on if 'judge' in stands_on[crate].split())})
+    named = {line.split(':')[0]: line.split(':')[1].split() for line in read(os.path.join(ROOT, 'crates.txt')).splitlines() if ':' in line}
+    return sorted({crate for crate in named if crate in reached(named, 'judge') or 'judge' in reached(named, crate)})
+
+
+def reached(named, crate):
+    """A crate and those that it stands on, by the crates that each names."""
+    found = {crate}
+    for below in named.get(crate, []):
+        found |= reached(named, below)
+    return found
 
 
 def found():

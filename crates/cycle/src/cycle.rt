@@ -6,62 +6,44 @@
 // Most pairs have tests only, and the row's own words tell that it passes them: such a pair is settled
 // where it is applied, and no frame is made for it. Those that a clause applies first and in a line, one
 // schema to one row after the other, are settled at once (`in_line`). The root is judged by
-// `judge_root`, so that `judge_pair` has two callers and `apply` becomes part of `judge_clause`.
+// `root::judge_root`, so that `judge_pair` has two callers and `apply` becomes part of `judge_clause`.
 //
 // 1,024 pairs can be open at once, so an open pair keeps little: sheets, texts and forms lie behind one
-// address each, and what is read of them is read in `lent`, where no pair is open.
+// address each, and what is read of them is read in `lent`, `trying`, `stepping` and `marking`, where no
+// pair is open.
 //
 // One cycle serves both calls: whether judging goes on after a failure, in whole, or stops, cut, is
-// asked of `lent::next_clause` and `lent::next_step`.
+// asked of `lent::next_clause` and `stepping::next_step`.
 //
-// The contracts cite `specs/State.antt` and `specs/Steps.antt`, and of what is lent `specs/Lent.antt` of
-// `lent`.
+// The contracts cite `specs/State.antt` of `progress`, and of what is lent `specs/Lent.antt` of `lent`.
 ghost use mathlib.Core.Path.{_≡_};
-ghost use Prim.Native.Nat.{_+_, _≤_, _<_};
+ghost use Prim.Native.Nat.{_+_, _<_};
 ghost use Rattle.rulesheet.specs.Sheet.{schemaAt};
 ghost use Rattle.areas.specs.Cells.{pairIs, Unsettled};
-ghost use Rattle.told.specs.Read.{Started};
-ghost use Rattle.line.specs.Lines.{InLine};
-ghost use Rattle.lent.specs.Lent.{lent, Lent, lentCase, clauseAt, beforeOf, rowOf, PassesFirst, RowsPass, Applying};
-ghost use Rattle.cycle.specs.State.{Named, rankOf, Ready, Judged, ClauseJudged};
-ghost use Rattle.cycle.specs.Steps.{StandsAt};
+ghost use Rattle.lent.specs.Lent.{lent, Lent, lentCase, rowOf, PassesFirst, Applying};
+ghost use Rattle.progress.specs.State.{Named, rankOf, Ready, Judged, ClauseJudged};
 use areas::settle;
 use few::applies;
 use lent::RULES;
 use lent::clause_row;
 use lent::clauses_of;
-use lent::finish;
-use lent::give;
-use lent::holds;
-use lent::line;
-use lent::moved;
 use lent::next_clause;
-use lent::next_step;
-use lent::plain;
-use lent::plain_rows;
 use lent::schemas_of;
-use lent::shut;
-use lent::start;
-use lent::turn;
-use lent::verdict_of;
+use lines::in_line;
+use marking::give;
+use marking::shut;
+use marking::verdict_of;
+use progress::Done;
 use rulesheet::form::ClauseRow;
 use sheet::record::Pair;
-use sheet::record::RecordRow;
 use sheet::record::wide;
-
-// What judging a clause gives: whether it holds, and how many pairs are settled by then.
-pub struct Done {
-    pub ok: bool,
-    pub count: usize,
-}
-
-// What judging a record gives: whether it is valid, how many pairs are settled, and how many
-// children of the root are marked.
-pub struct Verdict {
-    pub ok: bool,
-    pub count: usize,
-    pub marked: usize,
-}
+use stepping::finish;
+use stepping::moved;
+use stepping::next_step;
+use stepping::start;
+use stepping::turn;
+use trying::holds;
+use trying::plain;
 
 // Applies a pair: its cell answers if it is settled, and else it is judged. The answer is how many
 // pairs are settled then.
@@ -91,7 +73,7 @@ fn apply<'a, 'b>(
 
 // Judges the clauses of a pair that is not settled, of which the first `passed` are tests that its row
 // passes, and settles it.
-fn judge_pair<'a, 'b>(
+pub fn judge_pair<'a, 'b>(
     sheets: &'a [&'b [u32]; 2],
     texts: &'a [&'b [u8]; 2],
     forms: &'a [usize; 9],
@@ -124,77 +106,6 @@ fn judge_pair<'a, 'b>(
     }
     shut(sheets, texts, forms, cells, p, ok);
     settle(cells, list, schemas_of(forms), p, ok, now)
-}
-
-// Settles n pairs in a line that clause i of the pair p applies first, of which the rows' own words tell
-// that they hold: those of q's schema on the rows from q's on.
-fn settle_line<'a, 'b>(
-    sheets: &'a [&'b [u32]; 2],
-    texts: &'a [&'b [u8]; 2],
-    forms: &'a [usize; 9],
-    cells: &mut [u8],
-    list: &mut [u32],
-    count: usize,
-    p: Pair,
-    i: u32,
-    q: Pair,
-    n: u32,
-)
-    requires { ⌜ Lent (now sheets) (now texts) (now forms) ⌝ }
-    requires { ⌜ Ready (lentCase (now sheets) (now texts) (now forms)) (rankOf (lentCase (now sheets) (now texts) (now forms)) (pairIs p)) (pairIs p) (now cells) (now list) count ⌝ }
-    requires { ⌜ Unsettled (lentCase (now sheets) (now texts) (now forms) .m) (pairIs p) (now cells) × (i < schemaAt (lent (now sheets) 1) (p .rule .0) .count) ⌝ }
-    requires { ⌜ InLine (lentCase (now sheets) (now texts) (now forms) .doc) (pairIs p) (beforeOf (lentCase (now sheets) (now texts) (now forms)) (pairIs p) i) (clauseAt (lentCase (now sheets) (now texts) (now forms)) (pairIs p) i) (q .row .0) n (q .rule .0) ⌝ }
-    requires { ⌜ RowsPass (lentCase (now sheets) (now texts) (now forms)) (pairIs q) (schemaAt (lent (now sheets) 1) (q .rule .0) .count) n (now cells) × (q .row .0 + n ≤ lentCase (now sheets) (now texts) (now forms) .n) ⌝ }
-    ensures { λ r. ⌜ StandsAt (lentCase (now (sheets .entry)) (now (texts .entry)) (now (forms .entry))) (pairIs p) i (now (cells .entry)) (now (list .entry)) count n (now (cells .exit)) (now (list .exit)) ⌝ }
-{
-    let m = schemas_of(forms);
-    let first = q.row.0;
-    let rule = q.rule;
-    let mut now = count;
-    let mut k = 0;
-    while k < n {
-        let at = Pair {
-            row: RecordRow(first + k),
-            rule: rule,
-        };
-        now = settle(cells, list, m, at, true, now);
-        give(sheets, texts, forms, cells, p, at, true);
-        k += 1;
-    }
-}
-
-// Settles those of the first steps of clause i of the pair p that stand in a line and of which the rows'
-// own words tell that they hold. The answer is how many.
-fn in_line<'a, 'b>(
-    sheets: &'a [&'b [u32]; 2],
-    texts: &'a [&'b [u8]; 2],
-    forms: &'a [usize; 9],
-    cells: &mut [u8],
-    list: &mut [u32],
-    count: usize,
-    p: Pair,
-    i: u32,
-    row: ClauseRow,
-    from: u32,
-) -> u32
-    requires { ⌜ Lent (now sheets) (now texts) (now forms) ⌝ }
-    requires { ⌜ Ready (lentCase (now sheets) (now texts) (now forms)) (rankOf (lentCase (now sheets) (now texts) (now forms)) (pairIs p)) (pairIs p) (now cells) (now list) count ⌝ }
-    requires { ⌜ Unsettled (lentCase (now sheets) (now texts) (now forms) .m) (pairIs p) (now cells) × (i < schemaAt (lent (now sheets) 1) (p .rule .0) .count) ⌝ }
-    requires { ⌜ (row ≡ rowOf (now sheets) (pairIs p) i) × Started (beforeOf (lentCase (now sheets) (now texts) (now forms)) (pairIs p) i) (clauseAt (lentCase (now sheets) (now texts) (now forms)) (pairIs p) i) from ⌝ }
-    ensures { λ r. ⌜ StandsAt (lentCase (now (sheets .entry)) (now (texts .entry)) (now (forms .entry))) (pairIs p) i (now (cells .entry)) (now (list .entry)) count r (now (cells .exit)) (now (list .exit)) ⌝ }
-{
-    let at = line(sheets, texts, forms, p, i, row, from);
-    if at.count == 0 {
-        return 0;
-    }
-    let rule = at.rule;
-    let q = Pair {
-        row: RecordRow(at.first),
-        rule: rule,
-    };
-    let n = plain_rows(sheets, texts, forms, cells, q, at.count);
-    settle_line(sheets, texts, forms, cells, list, count, p, i, q, n);
-    n
 }
 
 // Judges clause i of a pair that is not settled, which applies schemas and has the words `row`: one pair
@@ -235,23 +146,4 @@ fn judge_clause<'a, 'b>(
         give(sheets, texts, forms, cells, p, at.pair, !at.hits | held);
         x = next_step(sheets, texts, forms, p, i, row, at.step, tally);
     }
-}
-
-// Judges the root pair, or any other that is not settled where none is.
-pub fn judge_root<'a, 'b>(
-    sheets: &'a [&'b [u32]; 2],
-    texts: &'a [&'b [u8]; 2],
-    forms: &'a [usize; 9],
-    cells: &mut [u8],
-    list: &mut [u32],
-    p: Pair,
-) -> usize
-    requires { ⌜ Lent (now sheets) (now texts) (now forms) ⌝ }
-    requires { ⌜ Ready (lentCase (now sheets) (now texts) (now forms)) (rankOf (lentCase (now sheets) (now texts) (now forms)) (pairIs p) + 1) (pairIs p) (now cells) (now list) 0 ⌝ }
-    requires { ⌜ Unsettled (lentCase (now sheets) (now texts) (now forms) .m) (pairIs p) (now cells) ⌝ }
-    ensures { λ r. ⌜ Judged (lentCase (now (sheets .entry)) (now (texts .entry)) (now (forms .entry))) (pairIs p) (now (cells .entry)) (now (list .entry)) 0 (now (cells .exit)) (now (list .exit)) r ⌝ }
-{
-    let many = clauses_of(sheets[RULES], forms, p.rule);
-    let passed = plain(sheets, texts, forms, cells, p, many);
-    judge_pair(sheets, texts, forms, cells, list, 0, p, passed)
 }

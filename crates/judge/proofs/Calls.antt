@@ -26,7 +26,7 @@ use Rattle.meaning.specs.Rules.{Way, whole, cut}
 use Rattle.meaning.specs.Answer.{valid, invalid, Left, verdict, listRoom, judged, judge}
 use Rattle.meaning.proofs.Answers.{rows-are, schemas-are, call-judged, fits}
 use Rattle.clause.proofs.Reading.{record-read, rules-read}
-use Rattle.cycle.specs.declared.cycle.Verdict.{Verdict}
+use Rattle.run.specs.declared.Verdict.{Verdict}
 use Rattle.lent.specs.Lent.{Sheets, caseOf}
 use Rattle.run.specs.Whole.{Roomy, leftBy, judgedOf}
 use Rattle.meaning.proofs.Verdicts.{cut-list}

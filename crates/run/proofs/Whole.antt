@@ -26,13 +26,13 @@ use Rattle.meaning.proofs.Rows.{by-rows}
 use Rattle.areas.specs.Cells.{Unsettled, cellOf, verd, bit, four, settledAs, column, markedBy, Cleared, cellAt}
 use Rattle.areas.specs.Writers.{Writes}
 use Rattle.areas.proofs.Cells.{settledAs-read, whole as both-parts, zero-verd, zero-bit, settled-blank}
-use Rattle.cycle.specs.declared.cycle.Verdict.{Verdict}
+use Rattle.run.specs.declared.Verdict.{Verdict}
 use Rattle.lent.specs.Lent.{Case, pair, Fits, InCase, firstKid, kidCount}
-use Rattle.cycle.specs.State.{truthOf, settleOf, bitsOf, written, Areas, Quiet, Ready, Judged}
+use Rattle.progress.specs.State.{truthOf, settleOf, bitsOf, written, Areas, Quiet, Ready, Judged}
 use Rattle.run.specs.Whole.{Exact, Fresh, Roomy, leftBy, judgedOf}
-use Rattle.cycle.proofs.Pairs.{settle-self}
-use Rattle.cycle.proofs.State.{written-room, written-none, areas-marks, areas-writes}
-use Rattle.cycle.proofs.Going.{open-bits}
+use Rattle.progress.proofs.Pairs.{settle-self}
+use Rattle.progress.proofs.State.{written-room, written-none, areas-marks, areas-writes}
+use Rattle.progress.proofs.Going.{open-bits}
 
 -- ---- the run begins
 

@@ -6,7 +6,7 @@ use mathlib.Core.List.{List}
 use mathlib.Core.Path.{_≡_}
 use lib.ListN.{length, getD}
 use Rattle.meaning.specs.Answer.{Left, verdict, listRoom, judged}
-use Rattle.cycle.specs.declared.cycle.Verdict.{Verdict}
+use Rattle.run.specs.declared.Verdict.{Verdict}
 use Rattle.lent.specs.Lent.{Case, Fits}
 
 -- areas of exactly n × m places; of the list none, if judging is cut

@@ -6,10 +6,9 @@ ghost use Rattle.meaning.specs.Answer.{listRoom};
 ghost use Rattle.run.specs.Whole.{Exact, Roomy, leftBy, judgedOf};
 use areas::clear;
 use columns::marked_of;
-use cycle::cycle::Verdict;
-use cycle::cycle::judge_root;
 use lent::forms_of;
-use lent::verdict_of;
+use marking::verdict_of;
+use root::judge_root;
 use rulesheet::form::RuleForm;
 use sheet::record::Pair;
 use sheet::record::RecordForm;
@@ -17,6 +16,14 @@ use sheet::record::RecordRow;
 use sheet::record::RuleRow;
 use sheet::record::children_of;
 use sheet::record::wide;
+
+// What judging a record gives: whether it is valid, how many pairs are settled, and how many
+// children of the root are marked.
+pub struct Verdict {
+    pub ok: bool,
+    pub count: usize,
+    pub marked: usize,
+}
 
 // How many places of the list are asked, for so many pairs: none if judging is cut.
 pub fn list_room(pairs: usize, cut: bool) -> usize

@@ -3,7 +3,7 @@ use mathlib.Core.Path.{refl, _∙_}
 use native.Mathlib.Omega.{arith}
 use Rattle.lent.specs.Lent.{pair, wayBy}
 use Rattle.run.proofs.Whole.{cleared-fresh, root-ready, root-unsettled, root-areas, root-writes, root-judged}
-use Rattle.cycle.proofs.Turning.{cell-asks}
+use Rattle.progress.proofs.Turning.{cell-asks}
 use Rattle.lent.proofs.Reading.{lends, way-lent, lent-schemas, schemas-are, row-low, kid-first, kid-many, kids-small}
 use borrow.Author.Needs.{needs}
 use Rattle.run.proofs.run_exact.Statement.{statement}

@@ -3,7 +3,7 @@
 use Prim.Native.Nat.{_+_, _*_, _-_}
 use Rattle.areas.specs.Cells.{pairIs}
 use Rattle.lent.specs.Lent.{lentCase}
-use Rattle.cycle.specs.State.{rankOf}
+use Rattle.progress.specs.State.{rankOf}
 use Prim.Native.Nat.{ℕ, _<_}
 use borrow.Fn.Kinds.{In}
 use borrow.Fn.PlainCycle.{Measures, is, falls, and}
@@ -18,21 +18,21 @@ use Rattle.cycle.proofs.cycle.judge_pair.Kinds as judge-pair-kinds
 use Rattle.cycle.proofs.cycle.+apply+judge_clause+judge_pair.Lts-judge_pair as judge-pair-lts
 use Rattle.areas.proofs.settle.Reads as settle-reads
 use Rattle.sheet.proofs.record.wide.Reads as wide-reads
-use Rattle.cycle.proofs.cycle.in_line.Reads as in-line-reads
+use Rattle.lines.proofs.in_line.Reads as in-line-reads
 use Rattle.lent.proofs.clause_row.Reads as clause-row-reads
 use Rattle.lent.proofs.clauses_of.Reads as clauses-of-reads
-use Rattle.lent.proofs.finish.Reads as finish-reads
-use Rattle.lent.proofs.give.Reads as give-reads
-use Rattle.lent.proofs.holds.Reads as holds-reads
-use Rattle.lent.proofs.moved.Reads as moved-reads
+use Rattle.stepping.proofs.finish.Reads as finish-reads
+use Rattle.marking.proofs.give.Reads as give-reads
+use Rattle.trying.proofs.holds.Reads as holds-reads
+use Rattle.stepping.proofs.moved.Reads as moved-reads
 use Rattle.lent.proofs.next_clause.Reads as next-clause-reads
-use Rattle.lent.proofs.next_step.Reads as next-step-reads
-use Rattle.lent.proofs.plain.Reads as plain-reads
+use Rattle.stepping.proofs.next_step.Reads as next-step-reads
+use Rattle.trying.proofs.plain.Reads as plain-reads
 use Rattle.lent.proofs.schemas_of.Reads as schemas-of-reads
-use Rattle.lent.proofs.shut.Reads as shut-reads
-use Rattle.lent.proofs.start.Reads as start-reads
-use Rattle.lent.proofs.turn.Reads as turn-reads
-use Rattle.lent.proofs.verdict_of.Reads as verdict-of-reads
+use Rattle.marking.proofs.shut.Reads as shut-reads
+use Rattle.stepping.proofs.start.Reads as start-reads
+use Rattle.stepping.proofs.turn.Reads as turn-reads
+use Rattle.marking.proofs.verdict_of.Reads as verdict-of-reads
 use Rattle.few.proofs.applies.Reads as applies-reads
 
 abbrev pub μ-apply : Measures 4 apply-kinds.ps ℕ

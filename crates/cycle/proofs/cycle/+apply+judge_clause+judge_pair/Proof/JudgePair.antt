@@ -8,11 +8,11 @@ use borrow.Fn.PlainCycle.{and}
 use Rattle.areas.specs.Cells.{pairIs, cellAt}
 use Rattle.lent.specs.Lent.{lentCase, clauseAt}
 use Rattle.lent.proofs.Reading.{forms-fit, schemas-lent, formed-lent, clauses-many, reads-by, reads-clause, lt-by}
-use Rattle.cycle.specs.State.{WhereDone}
-use Rattle.cycle.proofs.Going.{going-ready, going-unsettled, going-writes, going-open}
-use Rattle.cycle.proofs.Named.{claused-named}
-use Rattle.cycle.proofs.Claused.{Clausing, claused-more, claused-next, claused-shut, claused-end, cells-kept, list-kept}
-use Rattle.cycle.proofs.Testing.{claused-test, claused-first, passes-many, applies-lent, applying-by, tries-by}
+use Rattle.progress.specs.State.{WhereDone}
+use Rattle.progress.proofs.Going.{going-ready, going-unsettled, going-writes, going-open}
+use Rattle.progress.proofs.Named.{claused-named}
+use Rattle.progress.proofs.Claused.{Clausing, claused-more, claused-next, claused-shut, claused-end, cells-kept, list-kept}
+use Rattle.progress.proofs.Testing.{claused-test, claused-first, passes-many, applies-lent, applying-by, tries-by}
 use Rattle.cycle.proofs.cycle.judge_pair.Reads as judge-pair
 use Rattle.cycle.proofs.cycle.+apply+judge_clause+judge_pair.Lts-judge_pair as judge-pair-lts
 use Rattle.cycle.proofs.cycle.+apply+judge_clause+judge_pair.Proof.Base.{judge-pair-at, judge-pair-claims}
@@ -31,15 +31,18 @@ judge-pair-element-copy-out-clauses-of t c =
 
 pub judge-pair-clauses-of-requires : (t : ℕ) → judge-pair-lts.Need-clauses-of-requires (judge-pair-claims t) (judge-pair-at t) judge-pair.Post judge-pair-Inv-loop judge-pair-μ-loop
 judge-pair-clauses-of-requires t c κs =
-    (forms-fit (c .before .before .before .pre .1 .0), rw (schemas-lent (c .before .before .before .pre .1 .0)) ((c .before .before .before .pre .1 .1 .0) .inside .rule-in), formed-lent (c .before .before .before .pre .1 .0))
+    let start = c .before .before .before in
+    (forms-fit (start .pre .1 .0), rw (schemas-lent (start .pre .1 .0)) (start .pre .1 .1 .0 .inside .rule-in), formed-lent (start .pre .1 .0))
 
 pub judge-pair-loop-holds : (t : ℕ) → judge-pair-lts.Need-loop-holds (judge-pair-claims t) (judge-pair-at t) judge-pair.Post judge-pair-Inv-loop judge-pair-μ-loop
 judge-pair-loop-holds t c =
-    claused-first (c .before .before .before .before .pre .1 .1 .0) (c .before .before .before .before .pre .1 .1 .1 .0) (passes-many (sym (c .clauses-of .ensures)) (c .before .before .before .before .pre .1 .1 .1 .1))
+    let start = c .before .before .before .before in
+    claused-first (start .pre .1 .1 .0) (start .pre .1 .1 .1 .0) (passes-many (sym (c .clauses-of .ensures)) (start .pre .1 .1 .1 .1))
 
 pub judge-pair-clause-row-requires : (t : ℕ) → judge-pair-lts.Need-clause-row-requires (judge-pair-claims t) (judge-pair-at t) judge-pair.Post judge-pair-Inv-loop judge-pair-μ-loop
 judge-pair-clause-row-requires t c κs =
-    reads-clause (c .before .before .before .before .before .before .pre .1 .0) ((c .before .before .before .before .before .before .pre .1 .1 .0) .inside) (lt-by (c .loop-test .taken) (c .before .before .clauses-of .ensures))
+    let start = c .before .before .before .before .before .before in
+    reads-clause (start .pre .1 .0) (start .pre .1 .1 .0 .inside) (lt-by (c .loop-test .taken) (c .before .before .clauses-of .ensures))
 
 pub judge-pair-applies-requires : (t : ℕ) → judge-pair-lts.Need-applies-requires (judge-pair-claims t) (judge-pair-at t) judge-pair.Post judge-pair-Inv-loop judge-pair-μ-loop
 judge-pair-applies-requires t c κs =
@@ -59,7 +62,9 @@ judge-pair-judge-clause-requires t c κs =
 
 pub judge-pair-holds-requires : (t : ℕ) → judge-pair-lts.Need-holds-requires (judge-pair-claims t) (judge-pair-at t) judge-pair.Post judge-pair-Inv-loop judge-pair-μ-loop
 judge-pair-holds-requires t c κs =
-    (reads-clause (c .before .before .before .before .before .before .before .before .before .before .pre .1 .0) ((c .before .before .before .before .before .before .before .before .before .before .pre .1 .1 .0) .inside) (lt-by (c .before .before .before .before .loop-test .taken) (c .before .before .before .before .before .before .clauses-of .ensures)), going-unsettled (c .before .before .before .before .before .loop .inv ((c .before .before .before .before .before .before .before .before .before .before .pre .1 .1 .0) .done) ((c .before .before .before .before .before .before .before .before .before .before .pre .1 .1 .0) .areas) .claused .going))
+    let start = c .before .before .before .before .before .before .before .before .before .before in
+    let R = start .pre .1 .1 .0 in
+    (reads-clause (start .pre .1 .0) (R .inside) (lt-by (c .before .before .before .before .loop-test .taken) (c .before .before .before .before .before .before .clauses-of .ensures)), going-unsettled (c .before .before .before .before .before .loop .inv (R .done) (R .areas) .claused .going))
 
 pub judge-pair-next-clause-requires : (t : ℕ) → judge-pair-lts.Need-next-clause-requires (judge-pair-claims t) (judge-pair-at t) judge-pair.Post judge-pair-Inv-loop judge-pair-μ-loop
 judge-pair-next-clause-requires t c κs =
@@ -76,7 +81,7 @@ judge-pair-loop-again t c =
     let start = c .before .before .before .before .before .before .before .before .before .before in
     let T = lentCase (start .args .sheets .now) (start .args .texts .now) (start .args .forms .now) in
     let h = c .before .before .before .before .loop-test .taken in
-    let told = (applies-lent (c .before .before .before .before .before .before .before .before .before .before .pre .1 .0) ((c .before .before .before .before .before .before .before .before .before .before .pre .1 .1 .0) .inside) (lt-by (c .before .before .before .before .loop-test .taken) (c .before .before .before .before .before .before .clauses-of .ensures)) (c .before .before .before .clause-row .ensures) (c .before .before .applies .ensures)) in
+    let told = applies-lent (start .pre .1 .0) (start .pre .1 .1 .0 .inside) (lt-by h (c .before .before .before .before .before .before .clauses-of .ensures)) (c .before .before .before .clause-row .ensures) (c .before .before .applies .ensures) in
     λ d A.
     let L = c .before .before .before .before .before .loop .inv d A in
     claused-next
@@ -88,7 +93,9 @@ judge-pair-loop-again t c =
 
 pub judge-pair-shut-requires : (t : ℕ) → judge-pair-lts.Need-shut-requires (judge-pair-claims t) (judge-pair-at t) judge-pair.Post judge-pair-Inv-loop judge-pair-μ-loop
 judge-pair-shut-requires t c κs =
-    (reads-by (c .before .before .before .before .before .before .before .pre .1 .0) ((c .before .before .before .before .before .before .before .pre .1 .1 .0) .inside), going-writes (c .before .before .loop .inv ((c .before .before .before .before .before .before .before .pre .1 .1 .0) .done) ((c .before .before .before .before .before .before .before .pre .1 .1 .0) .areas) .claused .going) _ ((c .before .before .before .before .before .before .before .pre .1 .1 .0) .inside .rule-in))
+    let start = c .before .before .before .before .before .before .before in
+    let R = start .pre .1 .1 .0 in
+    (reads-by (start .pre .1 .0) (R .inside), going-writes (c .before .before .loop .inv (R .done) (R .areas) .claused .going) _ (R .inside .rule-in))
 
 pub judge-pair-schemas-of-requires : (t : ℕ) → judge-pair-lts.Need-schemas-of-requires (judge-pair-claims t) (judge-pair-at t) judge-pair.Post judge-pair-Inv-loop judge-pair-μ-loop
 judge-pair-schemas-of-requires t c κs =
@@ -96,16 +103,24 @@ judge-pair-schemas-of-requires t c κs =
 
 pub judge-pair-settle-requires : (t : ℕ) → judge-pair-lts.Need-settle-requires (judge-pair-claims t) (judge-pair-at t) judge-pair.Post judge-pair-Inv-loop judge-pair-μ-loop
 judge-pair-settle-requires t c κs =
-    going-open (claused-shut (c .before .before .before .before .before .before .before .before .loop .inv ((c .before .before .before .before .before .before .before .before .before .before .before .before .before .pre .1 .1 .0) .done) ((c .before .before .before .before .before .before .before .before .before .before .before .before .before .pre .1 .1 .0) .areas) .claused) (c .before .before .before .before .before .shut .ensures)) (ap (λ (k : ℕ). cellAt k (pairIs (c .before .before .before .before .before .before .before .before .before .before .before .before .before .args .p))) (c .schemas-of .ensures ∙ schemas-lent (c .before .before .before .before .before .before .before .before .before .before .before .before .before .pre .1 .0)))
+    let start = c .before .before .before .before .before .before .before .before .before .before .before .before .before in
+    let R = start .pre .1 .1 .0 in
+    going-open (claused-shut (c .before .before .before .before .before .before .before .before .loop .inv (R .done) (R .areas) .claused) (c .before .before .before .before .before .shut .ensures)) (ap (λ (k : ℕ). cellAt k (pairIs (start .args .p))) (c .schemas-of .ensures ∙ schemas-lent (start .pre .1 .0)))
 
 pub judge-pair-same-length : (t : ℕ) → judge-pair-lts.Need-same-length (judge-pair-claims t) (judge-pair-at t) judge-pair.Post judge-pair-Inv-loop judge-pair-μ-loop
 judge-pair-same-length t c =
-    c .before .before .before .before .settle .kept .0 ∙ c .before .before .before .before .before .before .before .before .before .before .shut .ensures .len ∙ cells-kept ((c .before .before .before .before .before .before .before .before .before .before .before .before .before .before .before .before .before .before .pre .1 .1 .0) .areas) ((c .before .before .before .before .before .before .before .before .before .before .before .before .before .loop .inv ((c .before .before .before .before .before .before .before .before .before .before .before .before .before .before .before .before .before .before .pre .1 .1 .0) .done) ((c .before .before .before .before .before .before .before .before .before .before .before .before .before .before .before .before .before .before .pre .1 .1 .0) .areas) .claused .going) .areas)
+    let start = c .before .before .before .before .before .before .before .before .before .before .before .before .before .before .before .before .before .before in
+    let R = start .pre .1 .1 .0 in
+    c .before .before .before .before .settle .kept .0 ∙ c .before .before .before .before .before .before .before .before .before .before .shut .ensures .len ∙ cells-kept (R .areas) (c .before .before .before .before .before .before .before .before .before .before .before .before .before .loop .inv (R .done) (R .areas) .claused .going .areas)
 
 pub judge-pair-same-length-2 : (t : ℕ) → judge-pair-lts.Need-same-length-2 (judge-pair-claims t) (judge-pair-at t) judge-pair.Post judge-pair-Inv-loop judge-pair-μ-loop
 judge-pair-same-length-2 t c =
-    c .before .before .before .before .settle .kept .1 .0 ∙ list-kept ((c .before .before .before .before .before .before .before .before .before .before .before .before .before .before .before .before .before .before .pre .1 .1 .0) .areas) ((c .before .before .before .before .before .before .before .before .before .before .before .before .before .loop .inv ((c .before .before .before .before .before .before .before .before .before .before .before .before .before .before .before .before .before .before .pre .1 .1 .0) .done) ((c .before .before .before .before .before .before .before .before .before .before .before .before .before .before .before .before .before .before .pre .1 .1 .0) .areas) .claused .going) .areas)
+    let start = c .before .before .before .before .before .before .before .before .before .before .before .before .before .before .before .before .before .before in
+    let R = start .pre .1 .1 .0 in
+    c .before .before .before .before .settle .kept .1 .0 ∙ list-kept (R .areas) (c .before .before .before .before .before .before .before .before .before .before .before .before .before .loop .inv (R .done) (R .areas) .claused .going .areas)
 
 pub judge-pair-returns : (t : ℕ) → judge-pair-lts.Need-returns (judge-pair-claims t) (judge-pair-at t) judge-pair.Post judge-pair-Inv-loop judge-pair-μ-loop
 judge-pair-returns t c =
-    claused-end (clauses-many ((c .before .before .before .before .before .before .before .before .before .before .before .before .before .before .before .before .before .before .pre .1 .0) .sheets) ((c .before .before .before .before .before .before .before .before .before .before .before .before .before .before .before .before .before .before .pre .1 .1 .0) .inside) (c .before .before .before .before .before .before .before .before .before .before .before .before .before .before .clauses-of .ensures)) (c .before .before .before .before .before .before .before .before .before .before .before .before .loop-test .left) (c .before .before .before .before .before .before .before .before .before .before .before .before .before .before .before .before .before .before .pre .1 .1 .0) (c .before .before .before .before .before .before .before .before .before .before .before .before .before .before .before .before .before .before .pre .1 .1 .1 .0) (c .before .before .before .before .before .before .before .before .before .before .shut .ensures) (ap (λ (k : ℕ). cellAt k (pairIs (c .before .before .before .before .before .before .before .before .before .before .before .before .before .before .before .before .before .before .args .p))) (c .before .before .before .before .before .schemas-of .ensures ∙ schemas-lent (c .before .before .before .before .before .before .before .before .before .before .before .before .before .before .before .before .before .before .pre .1 .0))) (c .before .before .before .before .settle .ensures) (c .before .before .before .before .before .before .before .before .before .before .before .before .before .loop .inv)
+    let start = c .before .before .before .before .before .before .before .before .before .before .before .before .before .before .before .before .before .before in
+    let R = start .pre .1 .1 .0 in
+    claused-end (clauses-many (start .pre .1 .0 .sheets) (R .inside) (c .before .before .before .before .before .before .before .before .before .before .before .before .before .before .clauses-of .ensures)) (c .before .before .before .before .before .before .before .before .before .before .before .before .loop-test .left) R (start .pre .1 .1 .1 .0) (c .before .before .before .before .before .before .before .before .before .before .shut .ensures) (ap (λ (k : ℕ). cellAt k (pairIs (start .args .p))) (c .before .before .before .before .before .schemas-of .ensures ∙ schemas-lent (start .pre .1 .0))) (c .before .before .before .before .settle .ensures) (c .before .before .before .before .before .before .before .before .before .before .before .before .before .loop .inv)
