@@ -1,5 +1,5 @@
 // One pass over a rule sheet that tells most sheets that are in order, by the same table of codes
-// (`rulesheet`) as the passes that find a fault's place. Where it says no, or that it cannot tell,
+// (`rulecodes`) as the passes that find a fault's place. Where it says no, or that it cannot tell,
 // those are asked.
 //
 // Its contracts cite `specs/Pass.antt`.
@@ -19,6 +19,7 @@ use crate::lists::entries_fine;
 use crate::lists::named_fine;
 use ruleclauses::fields_ok;
 use rulecodes::shape_of;
+use rulesheet::code::Shape;
 use rulesheet::form::ClauseRow;
 use rulesheet::form::RuleForm;
 use rulesheet::form::clause_at;

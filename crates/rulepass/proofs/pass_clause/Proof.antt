@@ -31,7 +31,7 @@ is-named-requires c κs = search needs
 pass-named-requires : tie.Need-pass-named-requires
 pass-named-requires c κs =
     let s = c .before .before .before .before .before .before .before .before in
-    let of = c .before .before .before .before .before .of in
+    let of = c .before .before .before .before .before .shape-of in
     let named = c .before .before .is-named in
     (s .pre .0, s .pre .1, of .ensures, sym (c .before .before .before .before .is-list .ensures) ∙ not-false _ (c .before .before .before .if1 .left), sym (named .ensures) ∙ left (named .result) (not (of .result .unguarded)) (c .if2 .taken), not-true _ (right (named .result) (not (of .result .unguarded)) (c .if2 .taken)))
 
