@@ -12,7 +12,7 @@ use Rattle.meaning.specs.Rules.{Way, whole}
 use Rattle.meaning.specs.Answer.{Answer, valid, invalid, refuses, numberForC}
 use Rattle.meaning.specs.Demands.{Demands}
 use Rattle.number.specs.Called.{outcomeAnswer}
-use Rattle.queue.specs.Listing.{recordsIn, wordsAt, textAt, queueOutcome}
+use Rattle.listing.specs.Listing.{recordsIn, wordsAt, textAt, queueOutcome}
 use Rattle.queue.specs.Queue.{judgeQueue}
 use Rattle.reader.specs.Call.{Reads}
 use Rattle.reader.specs.Made.{Made}

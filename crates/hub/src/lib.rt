@@ -9,7 +9,7 @@ ghost use Rattle.sheetcheck.specs.LastWord.{checkOutcome};
 ghost use Rattle.meaning.specs.Rules.{whole, cut};
 ghost use Rattle.meaning.specs.Answer.{numberForC};
 ghost use Rattle.number.specs.Called.{Called, outcomeAnswer};
-ghost use Rattle.queue.specs.Listing.{queuedOutcome};
+ghost use Rattle.queue.specs.Queue.{queuedOutcome};
 ghost use Rattle.laying.specs.Laying.{outcomeOf as readOutcome};
 ghost use Rattle.hub.specs.Entry.{QueueCalled, ReadCalled};
 use laying::Answer;

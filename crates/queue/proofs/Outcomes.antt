@@ -10,7 +10,7 @@ use Rattle.meaning.specs.Rules.{whole}
 use Rattle.meaning.specs.Answer as A
 use Rattle.meaning.specs.Answer.{refuses, numberForC, judge}
 use Rattle.meaning.proofs.Demands.{demands}
-use Rattle.queue.specs.Listing.{wordsAt, textAt}
+use Rattle.listing.specs.Listing.{wordsAt, textAt}
 use Rattle.queue.specs.Queue.{Judged, oneByOne}
 
 refused-same : (ws ts rs us cs ls : List ℕ) (number place : ℕ) → judge whole ws ts rs us cs ls .answer ≡ refuses number place

@@ -1,57 +1,24 @@
--- The listing: what its table gives, line by line, and what a record that lies inside gives.
---     words-inside, text-inside                    both ranges of a record fit
---     few-records                                  how many records a good listing has
---     none-outside                                 where the search finds none every record lies inside
+-- What the table of a call gives, line by line.
 --     bad-listing, outside-first, answers-short    a refused call
---     all-answered                                 a call that is not refused
+--     tested, all-answered                         a call that is not refused
 -- Assumes nothing.
-use mathlib.Core.Bool.{Bool, true, false, not, _||_}
+use mathlib.Core.Bool.{Bool, true, false}
 use mathlib.Core.List.{List, [], _∷_}
-use mathlib.Core.Path.{_≡_, refl, sym, ap, _∙_}
-use Prim.Native.Nat.{ℕ, _+_, _%_, _≤_, _<_}
+use mathlib.Core.Path.{_≡_, sym, ap, _∙_}
+use Prim.Native.Nat.{ℕ, _≤_, _<_}
 use native.Mathlib.Nat.{zero-add}
 use native.Mathlib.Omega.{arith}
-use lib.Dec.{eqb, ltb}
+use lib.Dec.{ltb}
 use lib.ListN.{length}
-use borrow.Author.Tests.{ltb-false, not-false, lt-ltb, le-ltb}
-use Rattle.text.specs.Part.{fits}
+use borrow.Author.Tests.{lt-ltb, le-ltb}
 use Rattle.laws.specs.Lowest.{lowest}
-use Rattle.laws.proofs.Searches.{clear-below}
 use Rattle.sheet.specs.Refusals.{Outcome, accepted, refused, Line, firstLine}
 use Rattle.sheet.proofs.Tables.{test-passed, test-given, line-passed, line-given}
 use Rattle.meaning.specs.Lists.{range}
-use Rattle.queue.specs.Listing.{recordsIn, wordsAt, textAt, outside, badListing, queueLines, queueOutcome}
+use Rattle.listing.specs.Listing.{recordsIn, outside, badListing, queueOutcome}
+use Rattle.listing.proofs.Inside.{none-outside}
 use Rattle.queue.specs.Queue.{Judged, oneByOne, Left, unless, judgeQueue}
-use Rattle.queue.specs.Parts.{Inside, Tested, AllJudged}
-
-neither : (a b : Bool) → (a || b) ≡ false → (a ≡ false) × (b ≡ false)
-neither true b e = (e, cc)
-neither false b e = (refl, e)
-
--- a listing that is not refused 30 has few records
-pub few-records : (listing : List ℕ) → badListing listing ≡ false → recordsIn listing ≤ 512
-few-records listing e = let h = ltb-false 2048 (length listing) (neither (not (eqb (length listing % 4) 0)) (ltb 2048 (length listing)) e .1) in omega arith
-
-module _ (words bytes : ℕ) (listing : List ℕ) where
-  both-inside : (i : ℕ) → outside words bytes listing i ≡ false → (fits words (wordsAt listing i) ≡ true) × (fits bytes (textAt listing i) ≡ true)
-  unfolding outside
-  both-inside i e =
-      let a = fits words (wordsAt listing i) in
-      let b = fits bytes (textAt listing i) in
-      let n = neither (not a) (not b) e in
-      (not-false a (n .0), not-false b (n .1))
-
-  pub words-inside : (i : ℕ) → outside words bytes listing i ≡ false → fits words (wordsAt listing i) ≡ true
-  words-inside i e = both-inside i e .0
-
-  pub text-inside : (i : ℕ) → outside words bytes listing i ≡ false → fits bytes (textAt listing i) ≡ true
-  text-inside i e = both-inside i e .1
-
-  pub none-outside : (place : ℕ) → place ≡ lowest (outside words bytes listing) (recordsIn listing) → recordsIn listing ≤ place
-      → (i : ℕ) → i < recordsIn listing → outside words bytes listing i ≡ false
-  none-outside place e h i l = clear-below (outside words bytes listing) (recordsIn listing) 0 i (omega arith) (omega arith) (omega arith)
-
--- ---- the table
+use Rattle.queue.specs.Parts.{Tested, AllJudged}
 
 module _ (ws bs listing rs us cs ls ns : List ℕ) where
   abbrev many : ℕ

@@ -1,5 +1,4 @@
 -- The loop over the records: what is left to judge gives what the whole gives.
---     called-listed                        a call on a record's own words and text
 --     going-begun, going-on, going-end     the loop's start, one record, its end
 -- Assumes nothing.
 use mathlib.Core.List.{List, [], _∷_, _++_, append-assoc, append-nil}
@@ -10,14 +9,13 @@ use native.Mathlib.Numerals.{add-one}
 use native.Mathlib.Omega.{arith}
 use lib.ListN.{length, take, drop, set, length-set, take-append-drop}
 use lib.Seq.{take-suc-set, drop-set-lt}
-use Rattle.text.specs.declared.Range.{Range}
 use Rattle.text.specs.Part.{part}
 use Rattle.meaning.specs.Lists.{range}
 use Rattle.meaning.specs.Rules.{whole}
 use Rattle.meaning.specs.Answer as A
 use Rattle.meaning.specs.Answer.{numberForC, judge}
 use Rattle.number.specs.Called.{Called}
-use Rattle.queue.specs.Listing.{recordsIn, wordsAt, textAt}
+use Rattle.listing.specs.Listing.{recordsIn, wordsAt, textAt}
 use Rattle.queue.specs.Queue.{Judged, oneByOne}
 use Rattle.queue.specs.Parts.{AllJudged}
 
@@ -38,12 +36,6 @@ module _ (ws bs listing rs us : List ℕ) where
   rest-next : (many i : ℕ) (h : i < many) (cs ls : List ℕ) → rest many i cs ls ≡ next many i h cs ls
   unfolding oneByOne range next
   rest-next many i h cs ls = let e : many - i ≡ suc (many - (i + 1)) = omega arith in rw (e, ← add-one i)
-
-module _ (ws bs listing : List ℕ) (i : ℕ) where
-  pub called-listed : {rs us cs ls cells list words text : List ℕ} {r : ℕ} {p q : Range}
-      → words ≡ part ws p → p ≡ wordsAt listing i → text ≡ part bs q → q ≡ textAt listing i
-      → Called whole words text rs us cs ls cells list r → Called whole (part ws (wordsAt listing i)) (part bs (textAt listing i)) rs us cs ls cells list r
-  called-listed e f g h c = rw (e, f, g, h) at c
 
 -- before record i: what is left to judge, from the areas as they are, gives what the whole gives from those at entry
 pub record Going (ws bs listing rs us cells₀ list₀ answers₀ : List ℕ) (many : ℕ) (cells list answers : List ℕ) (i : ℕ) : Type 0 where

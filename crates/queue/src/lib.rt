@@ -4,19 +4,19 @@
 //
 // The listing is tested whole before anything is judged, and the rules are checked once. The contract
 // of `judge_queue` cites `specs/Queue.antt`.
-mod listing;
-mod record;
-
 ghost use mathlib.Core.Path.{_≡_};
 ghost use lib.ListN.{length};
+ghost use Rattle.recordcall.specs.Asked.{RulesChecked};
 ghost use Rattle.queue.specs.Queue.{queueLeaves};
-ghost use Rattle.queue.specs.Parts.{RulesChecked, Tested, AllJudged};
-use listing::MOST_WORDS;
+ghost use Rattle.queue.specs.Parts.{Tested, AllJudged};
 use listing::first_outside;
 use listing::records_in;
-use record::judge_listed;
+use recordcall::judge_listed;
 use rules::check_rules;
 use sheet::refusal::Checked;
+
+// Four words for each of 512 records.
+const MOST_WORDS: usize = 2048;
 
 // What the call answers: how many records were answered; or why it was refused, with the place: the
 // lowest record outside the slices, or the records given. A listing that is none has place 0.

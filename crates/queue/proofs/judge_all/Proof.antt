@@ -3,14 +3,14 @@ use Prim.Native.Nat.{_-_, _≤_}
 use native.Mathlib.Omega.{arith}
 use borrow.Author.Needs.{needs}
 use lib.ListN.{length}
-use Rattle.queue.specs.Listing.{recordsIn}
+use Rattle.listing.specs.Listing.{recordsIn}
 use Rattle.queue.proofs.Turns.{Going, going-begun, going-on, going-end}
 use Rattle.queue.proofs.judge_all.Statement.{statement}
 use Rattle.queue.proofs.judge_all.Tie as tie
 use Rattle.queue.proofs.judge_all.Reads as reads
 use Rattle.queue.proofs.judge_all.Lts as lts
-use Rattle.queue.proofs.listing.records_in.Reads as records-in-reads
-use Rattle.queue.proofs.record.judge_listed.Reads as judge-listed-reads
+use Rattle.listing.proofs.records_in.Reads as records-in-reads
+use Rattle.recordcall.proofs.judge_listed.Reads as judge-listed-reads
 
 abbrev Inv-loop : tie.InvT-loop
 Inv-loop words bytes listing rules rule-text cells₀ list₀ answers₀ checked many i₀ cells list answers i =

@@ -1,14 +1,15 @@
 use mathlib.Core.Path.{_≡_, sym, ap, _∙_}
 use native.Mathlib.Omega.{arith}
-use Rattle.queue.proofs.Tables.{few-records, bad-listing, outside-first, answers-short, tested, all-answered}
+use Rattle.listing.proofs.Inside.{few-records}
+use Rattle.queue.proofs.Tables.{bad-listing, outside-first, answers-short, tested, all-answered}
 use borrow.Author.Needs.{needs}
 use Rattle.queue.proofs.judge_queue.Statement.{statement}
 use Rattle.queue.proofs.judge_queue.Tie as tie
 use Rattle.queue.proofs.judge_queue.Reads as reads
 use Rattle.queue.proofs.judge_queue.Lts as lts
 use Rattle.queue.proofs.judge_all.Reads as judge-all-reads
-use Rattle.queue.proofs.listing.first_outside.Reads as first-outside-reads
-use Rattle.queue.proofs.listing.records_in.Reads as records-in-reads
+use Rattle.listing.proofs.first_outside.Reads as first-outside-reads
+use Rattle.listing.proofs.records_in.Reads as records-in-reads
 use Rattle.rules.proofs.check_rules.Reads as check-rules-reads
 
 returns : tie.Need-returns

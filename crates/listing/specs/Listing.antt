@@ -9,9 +9,7 @@ use lib.Dec.{eqb, ltb}
 use lib.ListN.{length, getD}
 use Rattle.text.specs.declared.Range.{Range}
 use Rattle.text.specs.Part.{fits}
-use Rattle.sheet.specs.Refusals.{Outcome, refused, accepted, Line, lowestLine, firstLine}
-use Rattle.queue.specs.declared.Queued.{Queued}
-use Rattle.queue.specs.declared.Queued.the-variants.{Answered, BadListing, Outside, FewAnswers}
+use Rattle.sheet.specs.Refusals.{Outcome, Line, lowestLine, firstLine}
 
 abbrev pub most-records : ℕ
 most-records = 512
@@ -43,10 +41,3 @@ queueLines words bytes answers listing =
 -- what the call gives: how many records were answered, or a refusal
 unfoldable pub queueOutcome : (words bytes answers : ℕ) → List ℕ → Outcome
 queueOutcome words bytes answers listing = firstLine (queueLines words bytes answers listing) (recordsIn listing)
-
--- an answer of the call, in 02's numbers
-abbrev pub queuedOutcome : Queued → Outcome
-queuedOutcome (Answered many) = accepted many
-queuedOutcome BadListing = refused 30 0
-queuedOutcome (Outside place) = refused 31 place
-queuedOutcome (FewAnswers place) = refused 32 place

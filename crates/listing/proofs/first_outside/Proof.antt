@@ -4,13 +4,13 @@ use native.Mathlib.Nat.{sub-zero}
 use native.Mathlib.Omega.{arith}
 use borrow.Author.Needs.{needs}
 use Rattle.laws.proofs.Searches.{left, found, passed, ended}
-use Rattle.queue.specs.Listing.{recordsIn, outside}
-use Rattle.queue.proofs.listing.first_outside.Statement.{statement}
-use Rattle.queue.proofs.listing.first_outside.Tie as tie
-use Rattle.queue.proofs.listing.first_outside.Reads as reads
-use Rattle.queue.proofs.listing.first_outside.Lts as lts
-use Rattle.queue.proofs.listing.is_outside.Reads as is-outside-reads
-use Rattle.queue.proofs.listing.records_in.Reads as records-in-reads
+use Rattle.listing.specs.Listing.{recordsIn, outside}
+use Rattle.listing.proofs.first_outside.Statement.{statement}
+use Rattle.listing.proofs.first_outside.Tie as tie
+use Rattle.listing.proofs.first_outside.Reads as reads
+use Rattle.listing.proofs.first_outside.Lts as lts
+use Rattle.listing.proofs.is_outside.Reads as is-outside-reads
+use Rattle.listing.proofs.records_in.Reads as records-in-reads
 
 abbrev Inv-loop : tie.InvT-loop
 Inv-loop words bytes listing many place₀ k₀ place k =

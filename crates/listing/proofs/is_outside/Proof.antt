@@ -1,12 +1,12 @@
 use mathlib.Core.Path.{_≡_}
-use Rattle.queue.specs.Listing.{outside}
+use Rattle.listing.specs.Listing.{outside}
 use borrow.Author.Needs.{needs}
-use Rattle.queue.proofs.listing.is_outside.Statement.{statement}
-use Rattle.queue.proofs.listing.is_outside.Tie as tie
-use Rattle.queue.proofs.listing.is_outside.Reads as reads
-use Rattle.queue.proofs.listing.is_outside.Lts as lts
-use Rattle.queue.proofs.listing.text_at.Reads as text-at-reads
-use Rattle.queue.proofs.listing.words_at.Reads as words-at-reads
+use Rattle.listing.proofs.is_outside.Statement.{statement}
+use Rattle.listing.proofs.is_outside.Tie as tie
+use Rattle.listing.proofs.is_outside.Reads as reads
+use Rattle.listing.proofs.is_outside.Lts as lts
+use Rattle.listing.proofs.text_at.Reads as text-at-reads
+use Rattle.listing.proofs.words_at.Reads as words-at-reads
 use Rattle.text.proofs.range_fits.Reads as range-fits-reads
 
 words-at-requires : tie.Need-words-at-requires

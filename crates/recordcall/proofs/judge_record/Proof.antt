@@ -3,11 +3,11 @@ use Rattle.sheet.specs.Refusals.{outcomeOf}
 use Rattle.meaning.specs.Rules.{whole}
 use Rattle.meaning.proofs.Answers.{record-refused}
 use borrow.Author.Needs.{needs}
-use Rattle.queue.proofs.record.judge_record.Statement.{statement}
-use Rattle.queue.proofs.record.judge_record.Tie as tie
-use Rattle.queue.proofs.record.judge_record.Reads as reads
-use Rattle.queue.proofs.record.judge_record.Lts as lts
-use Rattle.queue.proofs.record.judge_checked.Reads as judge-checked-reads
+use Rattle.recordcall.proofs.judge_record.Statement.{statement}
+use Rattle.recordcall.proofs.judge_record.Tie as tie
+use Rattle.recordcall.proofs.judge_record.Reads as reads
+use Rattle.recordcall.proofs.judge_record.Lts as lts
+use Rattle.recordcall.proofs.judge_checked.Reads as judge-checked-reads
 use Rattle.recordcheck.proofs.check_record.Reads as check-record-reads
 
 check-record-requires : tie.Need-check-record-requires

@@ -4,18 +4,18 @@ use lib.ListN.{length}
 use Rattle.text.specs.Part.{fits}
 use Rattle.meaning.specs.Rules.{whole}
 use Rattle.number.proofs.Calls.{count-fits, call-told}
-use Rattle.queue.proofs.Turns.{called-listed}
-use Rattle.queue.proofs.Tables.{words-inside, text-inside}
+use Rattle.recordcall.proofs.Listed.{called-listed}
+use Rattle.listing.proofs.Inside.{words-inside, text-inside}
 use borrow.Author.Needs.{needs}
-use Rattle.queue.proofs.record.judge_listed.Statement.{statement}
-use Rattle.queue.proofs.record.judge_listed.Tie as tie
-use Rattle.queue.proofs.record.judge_listed.Reads as reads
-use Rattle.queue.proofs.record.judge_listed.Lts as lts
+use Rattle.recordcall.proofs.judge_listed.Statement.{statement}
+use Rattle.recordcall.proofs.judge_listed.Tie as tie
+use Rattle.recordcall.proofs.judge_listed.Reads as reads
+use Rattle.recordcall.proofs.judge_listed.Lts as lts
 use Rattle.number.proofs.number_of.Reads as number-of-reads
-use Rattle.queue.proofs.listing.text_at.Reads as text-at-reads
-use Rattle.queue.proofs.listing.words_at.Reads as words-at-reads
-use Rattle.queue.proofs.record.judge_record.Reads as judge-record-reads
-use Rattle.queue.proofs.record.words_of.Reads as words-of-reads
+use Rattle.listing.proofs.text_at.Reads as text-at-reads
+use Rattle.listing.proofs.words_at.Reads as words-at-reads
+use Rattle.recordcall.proofs.judge_record.Reads as judge-record-reads
+use Rattle.recordcall.proofs.words_of.Reads as words-of-reads
 use Rattle.text.proofs.bytes_of.Reads as bytes-of-reads
 
 words-at-requires : tie.Need-words-at-requires

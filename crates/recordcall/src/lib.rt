@@ -1,5 +1,5 @@
-// One record of a queue, by rules that were checked before. The contracts cite `callLeaves` of crate
-// `judge`, `Called` of crate `number`, and `specs/Parts.antt`.
+// One record of a queue: the call of `judge` with rules that were checked before. The contracts cite
+// `callLeaves` of crate `judge`, `Called` of crate `number`, and `specs/Asked.antt`.
 ghost use mathlib.Core.Path.{_≡_};
 ghost use mathlib.Core.Bool.{true};
 ghost use lib.ListN.{length};
@@ -9,12 +9,12 @@ ghost use Rattle.sheet.specs.Faults.{recordOutcome};
 ghost use Rattle.meaning.specs.Rules.{whole};
 ghost use Rattle.judge.specs.Call.{callLeaves};
 ghost use Rattle.number.specs.Called.{Called};
-ghost use Rattle.queue.specs.Listing.{wordsAt, textAt};
-ghost use Rattle.queue.specs.Parts.{RulesChecked, Inside};
-use crate::listing::text_at;
-use crate::listing::words_at;
+ghost use Rattle.listing.specs.Listing.{wordsAt, textAt};
+ghost use Rattle.recordcall.specs.Asked.{RulesChecked, Inside};
 use judge::answer::Answer;
 use judge::judge_in_areas;
+use listing::text_at;
+use listing::words_at;
 use number::number_of;
 use recordcheck::check_record;
 use sheet::refusal::Checked;
@@ -22,7 +22,7 @@ use text::Range;
 use text::bytes_of;
 
 // Judges record i of the listing, and gives the number of its answer.
-pub(crate) fn judge_listed<'a>(
+pub fn judge_listed<'a>(
     words: &'a [u32],
     bytes: &'a [u8],
     listing: &'a [u32],

@@ -5,10 +5,10 @@ use borrow.Author.Needs.{needs}
 use Rattle.text.specs.Part.{part}
 use Rattle.text.proofs.Ranges.{fits-le}
 use borrow.Author.Needs.{needs}
-use Rattle.queue.proofs.record.words_of.Statement.{statement}
-use Rattle.queue.proofs.record.words_of.Tie as tie
-use Rattle.queue.proofs.record.words_of.Reads as reads
-use Rattle.queue.proofs.record.words_of.Lts as lts
+use Rattle.recordcall.proofs.words_of.Statement.{statement}
+use Rattle.recordcall.proofs.words_of.Tie as tie
+use Rattle.recordcall.proofs.words_of.Reads as reads
+use Rattle.recordcall.proofs.words_of.Lts as lts
 
 cast-start : tie.Need-cast-start
 cast-start c = search needs

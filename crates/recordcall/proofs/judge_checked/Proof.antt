@@ -3,10 +3,10 @@ use Rattle.sheet.specs.Refusals.{outcomeOf}
 use Rattle.meaning.specs.Rules.{whole}
 use Rattle.meaning.proofs.Answers.{rules-refused}
 use borrow.Author.Needs.{needs}
-use Rattle.queue.proofs.record.judge_checked.Statement.{statement}
-use Rattle.queue.proofs.record.judge_checked.Tie as tie
-use Rattle.queue.proofs.record.judge_checked.Reads as reads
-use Rattle.queue.proofs.record.judge_checked.Lts as lts
+use Rattle.recordcall.proofs.judge_checked.Statement.{statement}
+use Rattle.recordcall.proofs.judge_checked.Tie as tie
+use Rattle.recordcall.proofs.judge_checked.Reads as reads
+use Rattle.recordcall.proofs.judge_checked.Lts as lts
 use Rattle.judge.proofs.judge_in_areas.Reads as judge-in-areas-reads
 
 enum-known-checked : tie.Need-enum-known-checked
