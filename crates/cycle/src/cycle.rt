@@ -6,7 +6,7 @@
 // Most pairs have tests only, and the row's own words tell that it passes them: such a pair is settled
 // where it is applied, and no frame is made for it. Those that a clause applies first and in a line, one
 // schema to one row after the other, are settled at once (`in_line`). The root is judged by
-// `root::judge_root`, so that `judge_pair` has two callers and `apply` becomes part of `judge_clause`.
+// `run::judge_root`, so that `judge_pair` has two callers and `apply` becomes part of `judge_clause`.
 //
 // 1,024 pairs can be open at once, so an open pair keeps little: sheets, texts and forms lie behind one
 // address each, and what is read of them is read in `lent`, `trying`, `stepping` and `marking`, where no

@@ -1,14 +1,20 @@
-// The run after both checks: the cells are cleared, the root pair is applied, its marks are counted.
-// The contracts cite `specs/Whole.antt`.
+// The run after both checks: the cells are cleared, the root pair is judged, its marks are counted.
+//
+// The contracts cite `specs/Whole.antt`, and of the root pair `specs/State.antt` of `progress`.
 ghost use mathlib.Core.Path.{_≡_};
-ghost use Rattle.lent.specs.Lent.{Sheets, caseOf, wayBy};
+ghost use Prim.Native.Nat.{_+_};
+ghost use Rattle.areas.specs.Cells.{pairIs, Unsettled};
+ghost use Rattle.lent.specs.Lent.{Lent, lentCase, Sheets, caseOf, wayBy};
 ghost use Rattle.meaning.specs.Answer.{listRoom};
+ghost use Rattle.progress.specs.State.{rankOf, Ready, Judged};
 ghost use Rattle.run.specs.Whole.{Exact, Roomy, leftBy, judgedOf};
 use areas::clear;
 use columns::marked_of;
+use cycle::cycle::judge_pair;
+use lent::RULES;
+use lent::clauses_of;
 use lent::forms_of;
 use marking::verdict_of;
-use root::judge_root;
 use rulesheet::form::RuleForm;
 use sheet::record::Pair;
 use sheet::record::RecordForm;
@@ -16,6 +22,7 @@ use sheet::record::RecordRow;
 use sheet::record::RuleRow;
 use sheet::record::children_of;
 use sheet::record::wide;
+use trying::plain;
 
 // What judging a record gives: whether it is valid, how many pairs are settled, and how many
 // children of the root are marked.
@@ -30,6 +37,25 @@ pub fn list_room(pairs: usize, cut: bool) -> usize
     ensures { λ r. ⌜ r ≡ listRoom (wayBy cut) pairs ⌝ }
 {
     if cut { 0 } else { pairs }
+}
+
+// Judges the root pair, or any other that is not settled where none is.
+fn judge_root<'a, 'b>(
+    sheets: &'a [&'b [u32]; 2],
+    texts: &'a [&'b [u8]; 2],
+    forms: &'a [usize; 9],
+    cells: &mut [u8],
+    list: &mut [u32],
+    p: Pair,
+) -> usize
+    requires { ⌜ Lent (now sheets) (now texts) (now forms) ⌝ }
+    requires { ⌜ Ready (lentCase (now sheets) (now texts) (now forms)) (rankOf (lentCase (now sheets) (now texts) (now forms)) (pairIs p) + 1) (pairIs p) (now cells) (now list) 0 ⌝ }
+    requires { ⌜ Unsettled (lentCase (now sheets) (now texts) (now forms) .m) (pairIs p) (now cells) ⌝ }
+    ensures { λ r. ⌜ Judged (lentCase (now (sheets .entry)) (now (texts .entry)) (now (forms .entry))) (pairIs p) (now (cells .entry)) (now (list .entry)) 0 (now (cells .exit)) (now (list .exit)) r ⌝ }
+{
+    let many = clauses_of(sheets[RULES], forms, p.rule);
+    let passed = plain(sheets, texts, forms, cells, p, many);
+    judge_pair(sheets, texts, forms, cells, list, 0, p, passed)
 }
 
 // In areas of exactly as many places as there are pairs.

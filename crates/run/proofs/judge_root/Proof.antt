@@ -2,8 +2,8 @@
 use Rattle.lent.proofs.Reading.{forms-fit, schemas-lent, formed-lent, reads-by}
 use Rattle.progress.proofs.Testing.{passes-many}
 use borrow.Author.Needs.{needs}
-use Rattle.root.proofs.judge_root.Statement.{statement}
-use Rattle.root.proofs.judge_root.Tie as tie
+use Rattle.run.proofs.judge_root.Statement.{statement}
+use Rattle.run.proofs.judge_root.Tie as tie
 
 element-copy-out-clauses-of : tie.Need-element-copy-out-clauses-of
 element-copy-out-clauses-of c = search needs
