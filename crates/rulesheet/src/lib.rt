@@ -3,8 +3,8 @@
 // code's shape, `rulereader` and `few` read clauses, and `rulelayout`, `ruleclauses`, `ruleentries` and
 // `ruletexts` test layout, names and their text.
 //
-// Its contracts cite specs/, in reading order: `Ruleset`, `Codes`, `Sheet`, `Faults`, `Read`,
-// `Clauses`.
+// Its contracts, and those of these crates, cite specs/, in reading order: `Ruleset`, `Codes`, `Sheet`,
+// `Faults`, `Read`, `Clauses`.
 pub mod clause;
 pub mod code;
 pub mod form;
