@@ -42,16 +42,12 @@ def read(path):
 
 def with_cells():
     """The crates that cells may come to: the judge, those it stands on and those that stand on it."""
-    named = {line.split(':')[0]: line.split(':')[1].split() for line in read(os.path.join(ROOT, 'crates.txt')).splitlines() if ':' in line}
-    return sorted({crate for crate in named if crate in reached(named, 'judge') or 'judge' in reached(named, crate)})
-
-
-def reached(named, crate):
-    """A crate and those that it stands on, by the crates that each names."""
-    found = {crate}
-    for below in named.get(crate, []):
-        found |= reached(named, below)
-    return found
+    reached = {}
+    for line in read(os.path.join(ROOT, 'crates.txt')).splitlines():        # lowest first
+        if ':' in line:
+            crate, below = line.split(':')
+            reached[crate] = {crate}.union(*(reached.get(other, ()) for other in below.split()))
+    return sorted(crate for crate in reached if crate in reached['judge'] or 'judge' in reached[crate])
 
 
 def found():

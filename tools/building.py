@@ -104,10 +104,11 @@ def crates():
     found = []
 
     def visit(name):
-        for below in needs.get(name, []):
+        if name not in needs or name in found:
+            return
+        for below in needs[name]:
             visit(below)
-        if name in needs and name not in found:
-            found.append(name)
+        found.append(name)
 
     visit(CRATE)
     return found

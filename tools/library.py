@@ -5,6 +5,7 @@ A judge is asked about rules once, and then about any number of records, in queu
 the library too.
 """
 import ctypes
+import os
 import struct
 import subprocess
 from collections import namedtuple
@@ -56,6 +57,18 @@ def queued(records):
     return sheets.Sheet(b''.join(record.words for record in records), b''.join(record.text for record in records)), listing
 
 
+def is_cut_short(path):
+    """Whether a library lacks bytes that its header says it has: who loads such a one is ended by the system."""
+    with open(path, 'rb') as file:
+        head = file.read(64)
+        size = file.seek(0, os.SEEK_END)
+    if head[:4] != b'\x7fELF' or len(head) < 64:
+        return False                    # the loader says what it is
+    start, = struct.unpack_from('<Q', head, 0x28)
+    entry, count = struct.unpack_from('<HH', head, 0x3A)
+    return size < start + entry * count         # the table of sections stands behind all else
+
+
 def opened():
     """The judge that this machine can have."""
     return Loaded() if building.LOADS else Worker()
@@ -66,6 +79,8 @@ class Loaded:
 
     def __init__(self):
         try:
+            if is_cut_short(building.LIBRARY):
+                raise OSError('it is cut short')
             self.library = ctypes.CDLL(building.LIBRARY)
         except OSError as fault:
             raise CannotJudge('cannot be loaded: %s' % fault, file=building.named(building.LIBRARY))
