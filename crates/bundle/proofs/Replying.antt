@@ -25,9 +25,9 @@ use Rattle.meaning.specs.Fit.{Fit}
 use Rattle.meaning.specs.Answer.{refuses, Left, verdict, judged, judge}
 use Rattle.meaning.proofs.Answers.{call-judged, fits}
 use Rattle.meaning.proofs.Trees.{once}
-use Rattle.judge.specs.declared.answer.Answer as J
-use Rattle.judge.specs.declared.answer.Answer.the-variants.{Refused as Refuses}
-use Rattle.judge.specs.Call.{answerOf, callLeaves}
+use Rattle.answer.specs.declared.Answer as J
+use Rattle.answer.specs.declared.Answer.the-variants.{Refused as Refuses}
+use Rattle.answer.specs.Call.{answerOf, callLeaves}
 use Rattle.bundle.specs.declared.parts.Bundle.the-variants.{Bad}
 use Rattle.bundle.specs.declared.Reply.the-variants.{BadBundle, Refused, TooLarge, Judged}
 use Rattle.bundle.specs.Bundle.{partsOf}

@@ -11,7 +11,7 @@ use crate::parts::Bundle;
 use crate::parts::WORD;
 use crate::parts::parts_of;
 use crate::parts::read_words;
-use judge::answer::Answer;
+use answer::Answer;
 use sheet::record::wide;
 use sheet::refusal::Checked;
 use sheet::refusal::Refusal;

@@ -13,9 +13,9 @@ use Rattle.meaning.specs.Lists.{all, range}
 use Rattle.meaning.specs.Rules.{whole}
 use Rattle.meaning.specs.Answer.{numberForC, judge}
 use Rattle.number.specs.Called.{outcomeAnswer, Called}
-use Rattle.listing.specs.Listing.{recordsIn, wordsAt, textAt, queueLines, queueOutcome}
-use Rattle.queue.specs.declared.Queued.{Queued}
-use Rattle.queue.specs.Queue.{Judged, oneByOne, Left, unless, judgeQueue, queuedOutcome, queueLeaves}
+use Rattle.listing.specs.Listing.{recordsIn, wordsAt, textAt, queueLines, queueOutcome, queuedOutcome}
+use Rattle.listing.specs.declared.Queued.{Queued}
+use Rattle.queue.specs.Queue.{Judged, oneByOne, Left, unless, judgeQueue, queueLeaves}
 use Rattle.hub.specs.Entry.{QueueCalled, EachMeets, no-more, one-more, QueueDemands}
 use Rattle.hub.proofs.Numbers.{number-demands}
 use Rattle.hub.proofs.Checks.{Small, small-first, tells}

@@ -4,21 +4,15 @@
 // `include/amphorust.h` says the same to a C programmer. The contracts cite `specs/Entry.antt`.
 ghost use mathlib.Core.List.{[]};
 ghost use mathlib.Core.Path.{_≡_};
-ghost use Rattle.sheet.specs.Refusals.{outcomeOf};
 ghost use Rattle.sheetcheck.specs.LastWord.{checkOutcome};
 ghost use Rattle.meaning.specs.Rules.{whole, cut};
 ghost use Rattle.meaning.specs.Answer.{numberForC};
 ghost use Rattle.number.specs.Called.{Called, outcomeAnswer};
-ghost use Rattle.queue.specs.Queue.{queuedOutcome};
-ghost use Rattle.laying.specs.Laying.{outcomeOf as readOutcome};
 ghost use Rattle.hub.specs.Entry.{QueueCalled, ReadCalled};
-use laying::Answer;
 use number::number_of;
-use number::number_of_count;
-use number::number_of_refusal;
-use queue::Queued;
-use sheet::refusal::Checked;
-use sheetcheck::ByKind;
+use outcomes::number_of_kind;
+use outcomes::number_of_queued;
+use outcomes::number_of_read;
 
 // Reads JSON into a record sheet and its text, whatever the bytes and the areas. The number's lowest
 // byte is 0 for a text that is read, and 10 more than the refusal's number for refused; what stands
@@ -38,10 +32,8 @@ pub extern "C" fn amphorust_read(json: &[u8], words: &mut [u32], text: &mut [u8]
 pub extern "C" fn amphorust_check(words: &[u32], text: &[u8]) -> u64
     ensures { λ r. ⌜ r ≡ numberForC (outcomeAnswer (checkOutcome (now (words .entry)) (now (text .entry)))) ⌝ }
 {
-    match sheetcheck::check(words, text) {
-        ByKind::Known(checked) => number_of_checked(checked),
-        ByKind::Unknown => number_of_refusal(sheetcheck::UNKNOWN_KIND, 0),
-    }
+    let found = sheetcheck::check(words, text);
+    number_of_kind(found)
 }
 
 // Judges a record by rules, whatever the words, texts and areas. The number's lowest byte is 0 for
@@ -106,36 +98,4 @@ pub extern "C" fn amphorust_judge_queue<'a>(
         answers,
     );
     number_of_queued(queued)
-}
-
-// The number of what reading gives.
-fn number_of_read(answer: Answer) -> u64
-    ensures { λ r. ⌜ r ≡ numberForC (outcomeAnswer (readOutcome answer)) ⌝ }
-{
-    match answer {
-        Answer::Made(rows) => number_of_count(rows),
-        Answer::Refused(number, place) => number_of_refusal(number, place),
-    }
-}
-
-// The number of what the check of a known kind gives.
-fn number_of_checked(checked: Checked) -> u64
-    ensures { λ r. ⌜ r ≡ numberForC (outcomeAnswer (outcomeOf checked)) ⌝ }
-{
-    match checked {
-        Checked::Accepted(rows) => number_of_count(rows),
-        Checked::Refused(refusal, place) => number_of_refusal(refusal.number(), place),
-    }
-}
-
-// The number of what a queue gives.
-fn number_of_queued(queued: Queued) -> u64
-    ensures { λ r. ⌜ r ≡ numberForC (outcomeAnswer (queuedOutcome queued)) ⌝ }
-{
-    match queued {
-        Queued::Answered(many) => number_of_count(many),
-        Queued::BadListing => number_of_refusal(30, 0),
-        Queued::Outside(place) => number_of_refusal(31, place),
-        Queued::FewAnswers(many) => number_of_refusal(32, many),
-    }
 }

@@ -1,5 +1,4 @@
 -- What the proof of the whole call asks besides.
---     size-small                      the product of both numbers of rows fits a word
 --     sheets-read                     accepted sheets are laid out as their readers ask
 --     call-roomy                      areas that are long enough
 --     call-valid, call-invalid        the call's answer, by the run's verdict
@@ -30,9 +29,8 @@ use Rattle.run.specs.declared.Verdict.{Verdict}
 use Rattle.lent.specs.Lent.{Sheets, caseOf}
 use Rattle.run.specs.Whole.{Roomy, leftBy, judgedOf}
 use Rattle.meaning.proofs.Verdicts.{cut-list}
-use Rattle.judge.specs.declared.answer.Answer.{Answer}
-use Rattle.judge.specs.Call.{answerOf, leaves, verdictLeaves}
-use Rattle.lent.proofs.Reading.{pairs-few}
+use Rattle.answer.specs.declared.Answer.{Answer}
+use Rattle.answer.specs.Call.{answerOf, leaves, verdictLeaves}
 
 module _ (ws ts rs us : List ℕ) (n m : ℕ) (good : recordOutcome ws ts ≡ accepted n) (fine : rulesOutcome rs us ≡ accepted m) where
   rows : rowsWord ws ≡ n
@@ -40,11 +38,6 @@ module _ (ws ts rs us : List ℕ) (n m : ℕ) (good : recordOutcome ws ts ≡ ac
 
   schemas : schemasWord rs ≡ m
   schemas = schemas-are whole ws ts rs us [] [] n good m fine
-
-  pub size-small : n * m < 4294967296
-  size-small =
-      let f = fits whole ws ts rs us [] [] n good m fine in
-      omega (arith, pairs-few n m (f .rows .few) (f .few))
 
   good′ : recordOutcome ws ts ≡ accepted (rowsWord ws)
   good′ = good ∙ ap accepted (sym rows)

@@ -17,9 +17,9 @@ use Rattle.meaning.specs.Answer.{Left, uncounted}
 use Rattle.meaning.specs.Demands.{Demands}
 use Rattle.meaning.proofs.Verdicts.{verdict-same}
 use Rattle.meaning.proofs.Demands.{demands}
-use Rattle.judge.specs.declared.answer.Answer.{Answer}
-use Rattle.judge.specs.declared.answer.Answer.the-variants.{Valid, Invalid, Refused}
-use Rattle.judge.specs.Call.{answerOf, leaves, callLeaves, verdictLeaves}
+use Rattle.answer.specs.declared.Answer.{Answer}
+use Rattle.answer.specs.declared.Answer.the-variants.{Valid, Invalid, Refused}
+use Rattle.answer.specs.Call.{answerOf, leaves, callLeaves, verdictLeaves}
 
 pub answer-one : (a b : Answer) → answerOf a ≡ answerOf b → a ≡ b
 answer-one (Valid c k) (Valid d j) e = let x : c ≡ d = cc in let y : k ≡ j = cc in rw (x, y)

@@ -1,15 +1,14 @@
 // The judge: a record sheet and a rule sheet with their texts, and two lent areas, cells and list.
 //
 // Both calls are checks (`sheet`, `rules`), areas, clearing and judging (crate `run`): `judge` judges
-// in whole, and `verdict`, which has no list, cut. Their contracts cite `specs/Call.antt`.
-pub mod answer;
-
+// in whole, and `verdict`, which has no list, cut. Their contracts cite `specs/Call.antt` of crate
+// `answer`.
 ghost use mathlib.Core.Path.{_≡_};
-ghost use Rattle.sheet.specs.Refusals.{accepted};
+ghost use Rattle.sheet.specs.Refusals.{accepted, outcomeOf};
 ghost use Rattle.sheet.specs.Faults.{recordOutcome};
 ghost use Rattle.rules.specs.Check.{rulesOutcome};
 ghost use Rattle.lent.specs.Lent.{wayBy};
-ghost use Rattle.judge.specs.Call.{leaves, callLeaves, verdictLeaves};
+ghost use Rattle.answer.specs.Call.{leaves, callLeaves, verdictLeaves};
 use answer::Answer;
 use recordcheck::check_record;
 use rules::check_rules;
@@ -65,13 +64,16 @@ fn judge_by_record<'a>(
     ensures { λ r. ⌜ leaves (wayBy cut) (now («record» .entry)) (now (text .entry)) (now (rules .entry)) (now («rule_text» .entry)) (now (cells .entry)) (now (list .entry)) r (now (cells .exit)) (now (list .exit)) ⌝ }
 {
     match check_record(record, text) {
-        Checked::Accepted(n) => judge_by_rules(record, text, rules, rule_text, cells, list, cut, n),
+        Checked::Accepted(n) => {
+            let checked = check_rules(rules, rule_text);
+            judge_checked(record, text, rules, rule_text, cells, list, cut, n, checked)
+        }
         Checked::Refused(refusal, place) => Answer::Refused(refusal, place),
     }
 }
 
-// The record is in order, with n rows.
-fn judge_by_rules<'a>(
+// The record is in order, with n rows, and `checked` is what the check of the rules gave.
+pub fn judge_checked<'a>(
     record: &'a [u32],
     text: &'a [u8],
     rules: &'a [u32],
@@ -80,11 +82,13 @@ fn judge_by_rules<'a>(
     list: &mut [u32],
     cut: bool,
     n: u32,
+    checked: Checked,
 ) -> Answer
     requires { ⌜ recordOutcome (now «record») (now text) ≡ accepted n ⌝ }
+    requires { ⌜ outcomeOf checked ≡ rulesOutcome (now rules) (now «rule_text») ⌝ }
     ensures { λ r. ⌜ leaves (wayBy cut) (now («record» .entry)) (now (text .entry)) (now (rules .entry)) (now («rule_text» .entry)) (now (cells .entry)) (now (list .entry)) r (now (cells .exit)) (now (list .exit)) ⌝ }
 {
-    match check_rules(rules, rule_text) {
+    match checked {
         Checked::Accepted(m) => judge_in_areas(
             record,
             text,
@@ -100,8 +104,8 @@ fn judge_by_rules<'a>(
     }
 }
 
-// The rules are in order too, with m schemas: for a caller that has checked both sheets.
-pub fn judge_in_areas<'a>(
+// The rules are in order too, with m schemas.
+fn judge_in_areas<'a>(
     record: &'a [u32],
     text: &'a [u8],
     rules: &'a [u32],

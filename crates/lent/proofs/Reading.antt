@@ -5,7 +5,6 @@ use mathlib.Core.Bool.{cond}
 use mathlib.Core.Logic.{⊎-elim}
 use mathlib.Core.Path.{_≡_, refl, sym, _∙_}
 use Prim.Native.Nat.{ℕ, zero, suc, _+_, _-_, _*_, _≤_, _<_}
-use native.Mathlib.Nat.{mul-le-mul-right, mul-comm}
 use native.Mathlib.Omega.{arith}
 use denote.Ref.{RefT}
 use lib.Dec.{eqb}
@@ -26,6 +25,7 @@ use Rattle.rulesheet.specs.Read.{RulesFormed}
 use Rattle.rulesheet.proofs.Trailers.{facts, form-m, form-c, form-e}
 use Rattle.rulesheet.proofs.Items.{clauses-long}
 use Rattle.meaning.specs.Rules.{Pair, Way, whole, cut}
+use Rattle.meaning.proofs.Answers.{pairs-few}
 use Rattle.lent.specs.Lent.{Case, Sheets, caseOf, lent, wayWord, formsOf, recordFormIn, ruleFormIn, wayLent, FormsFit, Lent, lentCase, Fits, InCase, firstKid, kidCount, clausesOf, clauseAt, Reads, ReadsClause}
 
 module _ {ws ts rs us : List ℕ} {form : RecordForm} {rform : RuleForm} (S : Sheets ws ts rs us form rform) where
@@ -141,14 +141,6 @@ pub le-by : {i n k : ℕ} → n ≡ i → n ≤ k → i ≤ k
 le-by e h = omega arith
 
 -- ---- the size of the areas
-
--- how many pairs there are at most
-pub pairs-few : (n m : ℕ) → n ≤ 1024 → m ≤ 1024 → n * m ≤ 1048576
-pairs-few n m a b =
-    let x : n * m ≤ 1024 * m = mul-le-mul-right m a in
-    let y : m * 1024 ≤ 1024 * 1024 = mul-le-mul-right 1024 b in
-    let z : m * 1024 ≡ 1024 * m = mul-comm m 1024 in
-    omega arith
 
 module _ {ws ts rs us : List ℕ} {form : RecordForm} {rform : RuleForm} (S : Sheets ws ts rs us form rform) where
   pub size-is : {a b : ℕ} → a ≡ form .rows → b ≡ rform .m → a * b ≡ rowsWord ws * schemasWord rs

@@ -25,7 +25,7 @@ use Rattle.steps.specs.Turns.{Turned}
 use Rattle.line.specs.Lines.{InLine}
 use Rattle.steps.proofs.Turns.{at, goes-on, skipped-none}
 use Rattle.lent.specs.Lent.{Case, clausesOf, clauseAt, beforeOf, firstKid, kidCount, PassesFirst, HandsOn, givenOn, nextAt}
-use Rattle.lent.proofs.Reading.{pairs-few}
+use Rattle.meaning.proofs.Answers.{pairs-few}
 use Rattle.progress.specs.State.{Ready, Judged}
 use Rattle.progress.specs.Steps.{Standing}
 use Rattle.progress.proofs.Going.{Aim}

@@ -2,14 +2,17 @@
 -- A call is refused, before anything is judged, by the first of three lines: 30, a listing whose length four does not divide, or of more than 512 records (place 0); 31, a
 -- range that does not lie in its slice (place: the lowest such record); 32, fewer answers than records (place: the records given).
 -- Assumes nothing.
-use Prim.Native.Nat.{ℕ, _+_, _*_, _/_, _%_}
-use mathlib.Core.Bool.{Bool, not, _||_}
+use Prim.Native.Nat.{ℕ, _+_, _*_, _/_, _%_, _≤_, _<_}
+use mathlib.Core.Bool.{Bool, false, not, _||_}
 use mathlib.Core.List.{List, [], _∷_}
+use mathlib.Core.Path.{_≡_}
 use lib.Dec.{eqb, ltb}
 use lib.ListN.{length, getD}
 use Rattle.text.specs.declared.Range.{Range}
 use Rattle.text.specs.Part.{fits}
-use Rattle.sheet.specs.Refusals.{Outcome, Line, lowestLine, firstLine}
+use Rattle.sheet.specs.Refusals.{Outcome, accepted, refused, Line, lowestLine, firstLine}
+use Rattle.listing.specs.declared.Queued.{Queued}
+use Rattle.listing.specs.declared.Queued.the-variants.{Answered, BadListing, Outside, FewAnswers}
 
 abbrev pub most-records : ℕ
 most-records = 512
@@ -41,3 +44,15 @@ queueLines words bytes answers listing =
 -- what the call gives: how many records were answered, or a refusal
 unfoldable pub queueOutcome : (words bytes answers : ℕ) → List ℕ → Outcome
 queueOutcome words bytes answers listing = firstLine (queueLines words bytes answers listing) (recordsIn listing)
+
+-- an answer of the call, in 02's numbers
+abbrev pub queuedOutcome : Queued → Outcome
+queuedOutcome (Answered many) = accepted many
+queuedOutcome BadListing = refused 30 0
+queuedOutcome (Outside place) = refused 31 place
+queuedOutcome (FewAnswers place) = refused 32 place
+
+-- every record lies in the slices, and there is an answer for each
+pub record Tested (words bytes answers : ℕ) (listing : List ℕ) : Type 0 where
+  pub all-within : (i : ℕ) → i < recordsIn listing → outside words bytes listing i ≡ false
+  pub answers-enough : recordsIn listing ≤ answers

@@ -2,12 +2,14 @@
 --     record-refused, rules-refused, cells-short, list-short     the refusals
 --     call-judged                                                a call that is not refused
 --     fits                                                       what the checks give to the judge
+--     pairs-few, size-small                                      how many pairs there are at most
 -- Assumes nothing.
 use mathlib.Core.Bool.{Bool, true, false, cond}
 use mathlib.Core.List.{List, [], _∷_, _++_}
 use mathlib.Core.Logic.{⊎-elim}
 use mathlib.Core.Path.{_≡_, refl, sym, ap, _∙_}
 use Prim.Native.Nat.{ℕ, _*_, _≤_, _<_}
+use native.Mathlib.Nat.{mul-le-mul-right, mul-comm}
 use native.Mathlib.Omega.{arith}
 use lib.Dec.{ltb}
 use lib.ListN.{length}
@@ -26,7 +28,7 @@ use Rattle.rulesheet.proofs.Naming.{named-inside}
 use Rattle.rules.specs.Check.{ruleLines, rulesOutcome}
 use Rattle.rules.specs.Accepted.{AcceptedRules}
 use Rattle.rules.proofs.Acceptance.{accepted-facts}
-use Rattle.meaning.specs.Rules.{Way}
+use Rattle.meaning.specs.Rules.{Way, whole}
 use Rattle.meaning.specs.Answer.{refuses, Left, listRoom, areaLines, table, judged, unless, judge}
 use Rattle.meaning.specs.Fit.{Fit}
 
@@ -154,3 +156,18 @@ module _ (w : Way) (ws ts rs us cs ls : List ℕ) where
             inside = λ s c t i k. omega (arith, named-inside rs us form (f .rules-laid) s c t i k, schemas-are);
             grounds = f .grounds;
           }
+
+-- ---- how many pairs there are
+
+pub pairs-few : (n m : ℕ) → n ≤ 1024 → m ≤ 1024 → n * m ≤ 1048576
+pairs-few n m a b =
+    let x : n * m ≤ 1024 * m = mul-le-mul-right m a in
+    let y : m * 1024 ≤ 1024 * 1024 = mul-le-mul-right 1024 b in
+    let z : m * 1024 ≡ 1024 * m = mul-comm m 1024 in
+    omega arith
+
+-- their number fits a word
+pub size-small : (ws ts rs us : List ℕ) (n m : ℕ) → recordOutcome ws ts ≡ accepted n → rulesOutcome rs us ≡ accepted m → n * m < 4294967296
+size-small ws ts rs us n m good fine =
+    let f = fits whole ws ts rs us [] [] n good m fine in
+    omega (arith, pairs-few n m (f .rows .few) (f .few))

@@ -18,11 +18,10 @@ use Rattle.rulesheet.specs.Sheet.{rulesOf}
 use Rattle.rules.specs.Check.{rulesOutcome}
 use Rattle.meaning.specs.Rules.{Way}
 use Rattle.meaning.specs.Answer.{Left, verdict, listRoom, numberForC, judged, judge}
-use Rattle.meaning.proofs.Answers.{record-refused, rules-refused, cells-short, list-short, call-judged, fits}
+use Rattle.meaning.proofs.Answers.{record-refused, rules-refused, cells-short, list-short, call-judged, fits, size-small}
 use Rattle.meaning.proofs.Settled.{all-few}
-use Rattle.judge.proofs.Calls.{size-small}
-use Rattle.judge.specs.declared.answer.Answer as J
-use Rattle.judge.specs.Call.{answerOf, leaves}
+use Rattle.answer.specs.declared.Answer as J
+use Rattle.answer.specs.Call.{answerOf, leaves}
 use Rattle.number.specs.Called.{counted, Called}
 
 counts : (ok : Bool) (count marks : ℕ) → counted (verdict ok count marks) ≡ count

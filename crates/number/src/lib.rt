@@ -5,9 +5,9 @@
 ghost use mathlib.Core.Path.{_≡_};
 ghost use Prim.Native.Nat.{_<_, _^_};
 ghost use Rattle.meaning.specs.Answer.{valid, refuses, numberForC};
-ghost use Rattle.judge.specs.Call.{answerOf};
+ghost use Rattle.answer.specs.Call.{answerOf};
 ghost use Rattle.number.specs.Called.{counted};
-use judge::answer::Answer;
+use answer::Answer;
 
 // The number of an answer whose count fits a word, as that of every call does.
 pub fn number_of(answer: Answer) -> u64

@@ -31,7 +31,7 @@ use Rattle.steps.specs.Turns.{Skipped}
 use Rattle.plan.proofs.Folds.{or-no, tally-few, done-picked}
 use Rattle.plan.proofs.Plans.{Aimed, applied-is, holds-is, marks-is, go-is, go-same, aimed}
 use Rattle.lent.specs.Lent.{Case, Fits, InCase, Kid, firstKid, kidCount, clausesOf, clauseAt, beforeOf, handedOn, HandsOn, givenOn}
-use Rattle.lent.proofs.Reading.{pairs-few}
+use Rattle.meaning.proofs.Answers.{pairs-few}
 use Rattle.progress.specs.Steps.{Going, aims, stopped, fresh, carries, goes, keeps, many, Stepped}
 use Rattle.progress.specs.declared.Done.{Done}
 use Rattle.progress.specs.State.{rankOf, truthOf, settleOf, bitsOf, overlay, Areas, Quiet, Ready, WhereDone, Judged, ClauseJudged}

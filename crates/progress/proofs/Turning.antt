@@ -28,7 +28,7 @@ use Rattle.plan.specs.Plan.{countsHits, branches, moved, stepsOf, finishOf, way
 use Rattle.told.specs.Read.{Started}
 use Rattle.steps.specs.Turns.{Skipped, Turned}
 use Rattle.lent.specs.Lent.{Case, Fits, InCase, firstKid, kidCount, clausesOf, clauseAt, beforeOf, Turns, TurnsTo, nextAt, HandsOn, givenOn}
-use Rattle.lent.proofs.Reading.{pairs-few}
+use Rattle.meaning.proofs.Answers.{pairs-few}
 use Rattle.progress.specs.Steps.{many, aims, stopped, fresh, goes, Stepped, Standing}
 use Rattle.progress.specs.declared.Done.{Done}
 use Rattle.progress.specs.State.{Named, rankOf, bitsOf, Areas, Ready, WhereDone, Judged, ClauseJudged}

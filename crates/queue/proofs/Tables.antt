@@ -1,72 +1,59 @@
--- What the table of a call gives, line by line.
---     bad-listing, outside-first, answers-short    a refused call
---     tested, all-answered                         a call that is not refused
+-- What the call leaves, by what its listing is answered.
+--     refused-left         a refused call leaves all as it was
+--     tested, all-left     a call that is not refused: its records lie in the slices, and what judging all of them leaves
 -- Assumes nothing.
-use mathlib.Core.Bool.{Bool, true, false}
-use mathlib.Core.List.{List, [], _∷_}
+use mathlib.Core.List.{List, [], _∷_, _++_}
 use mathlib.Core.Path.{_≡_, sym, ap, _∙_}
-use Prim.Native.Nat.{ℕ, _≤_, _<_}
-use native.Mathlib.Nat.{zero-add}
-use native.Mathlib.Omega.{arith}
-use lib.Dec.{ltb}
-use lib.ListN.{length}
-use borrow.Author.Tests.{lt-ltb, le-ltb}
-use Rattle.laws.specs.Lowest.{lowest}
-use Rattle.sheet.specs.Refusals.{Outcome, accepted, refused, Line, firstLine}
-use Rattle.sheet.proofs.Tables.{test-passed, test-given, line-passed, line-given}
+use Prim.Native.Nat.{ℕ}
+use lib.ListN.{length, drop}
+use types.Run.{OneOf, miss}
+use denote.Enum.Declared.{tagOf}
+use Rattle.sheet.specs.Refusals.{Outcome, accepted, refused}
 use Rattle.meaning.specs.Lists.{range}
-use Rattle.listing.specs.Listing.{recordsIn, outside, badListing, queueOutcome}
-use Rattle.listing.proofs.Inside.{none-outside}
-use Rattle.queue.specs.Queue.{Judged, oneByOne, Left, unless, judgeQueue}
-use Rattle.queue.specs.Parts.{Tested, AllJudged}
+use Rattle.listing.specs.declared.Queued.{Queued}
+use Rattle.listing.specs.declared.Queued.the-variants.{Answered, BadListing, Outside, FewAnswers}
+use Rattle.listing.specs.Listing.{recordsIn, queueOutcome, queuedOutcome, Tested}
+use Rattle.listing.proofs.Queued.{the-type}
+use Rattle.listing.proofs.Tables.{answered}
+use Rattle.queue.specs.Queue.{Judged, oneByOne, unless, judgeQueue, queueLeaves}
+use Rattle.queue.specs.Parts.{AllJudged}
+
+-- the variants of an answer, and of a refusal
+abbrev answers : List ℕ
+answers = 0 ∷ []
+
+abbrev refusals : List ℕ
+refusals = 1 ∷ 2 ∷ 3 ∷ []
 
 module _ (ws bs listing rs us cs ls ns : List ℕ) where
-  abbrev many : ℕ
-  many = recordsIn listing
-
-  abbrev away : ℕ → Bool
-  away = outside (length ws) (length bs) listing
-
   abbrev all : Judged
-  all = oneByOne ws bs listing rs us (range 0 many) cs ls
+  all = oneByOne ws bs listing rs us (range 0 (recordsIn listing)) cs ls
 
   abbrev outcome : Outcome
   outcome = queueOutcome (length ws) (length bs) (length ns) listing
 
-  abbrev same : ℕ → ℕ → Left
-  same number place = record { outcome = refused number place; cells = cs; list = ls; answers = ns }
-
-  abbrev short : Line
-  short = record { number = 32; applies = ltb (length ns) many; place = many }
-
-  by-outcome : (o : Outcome) → outcome ≡ o → judgeQueue ws bs listing rs us cs ls ns ≡ unless o cs ls ns all
+  by-outcome : (o : Outcome) → o ≡ outcome → unless o cs ls ns all ≡ judgeQueue ws bs listing rs us cs ls ns
   unfolding judgeQueue
   by-outcome o e = ap (λ x. unless x cs ls ns all) e
 
-  pub bad-listing : badListing listing ≡ true → same 30 0 ≡ judgeQueue ws bs listing rs us cs ls ns
-  unfolding queueOutcome
-  bad-listing t = sym (by-outcome (refused 30 0) (test-given _ _ many t))
+  pub refused-left : (q : Queued) → OneOf refusals (tagOf the-type q) → queuedOutcome q ≡ outcome → queueLeaves ws bs listing rs us cs ls ns q cs ls ns
+  refused-left (Answered k) t e = absurd (miss refusals 0 tt t)
+  refused-left BadListing t e = by-outcome (refused 30 0) e
+  refused-left (Outside place) t e = by-outcome (refused 31 place) e
+  refused-left (FewAnswers place) t e = by-outcome (refused 32 place) e
 
-  module _ (good : badListing listing ≡ false) (place : ℕ) (found : place ≡ lowest away many) where
-    pub outside-first : place < many → same 31 place ≡ judgeQueue ws bs listing rs us cs ls ns
-    unfolding queueOutcome
-    outside-first h =
-        sym (by-outcome (refused 31 place) (test-passed _ _ many good ∙ line-given 31 0 many away _ many place found h ∙ ap (refused 31) (zero-add place)))
+  pub tested : (q : Queued) → OneOf answers (tagOf the-type q) → queuedOutcome q ≡ outcome → Tested (length ws) (length bs) (length ns) listing
+  tested (Answered k) t e = answered (length ws) (length bs) (length ns) listing k (sym e) .tested
+  tested BadListing t e = absurd (miss answers 1 tt t)
+  tested (Outside place) t e = absurd (miss answers 2 tt t)
+  tested (FewAnswers place) t e = absurd (miss answers 3 tt t)
 
-    module _ (none : many ≤ place) where
-      past-listing : outcome ≡ firstLine (short ∷ []) many
-      unfolding queueOutcome
-      past-listing = test-passed _ _ many good ∙ line-passed 31 0 many away _ many (omega arith)
-
-      pub answers-short : length ns < many → same 32 many ≡ judgeQueue ws bs listing rs us cs ls ns
-      answers-short h = sym (by-outcome (refused 32 many) (past-listing ∙ test-given short [] many (lt-ltb (length ns) many h)))
-
-      pub tested : many ≤ length ns → Tested (length ws) (length bs) (length ns) listing
-      tested h = record { all-within = none-outside (length ws) (length bs) listing place found none; answers-enough = h }
-
-      pub all-answered : {cells list answers : List ℕ} → many ≤ length ns → AllJudged ws bs listing rs us cs ls ns cells list answers
-          → _≡_ {A = Left} (record { outcome = accepted many; cells = cells; list = list; answers = answers }) (judgeQueue ws bs listing rs us cs ls ns)
-      unfolding firstLine
-      all-answered h a =
-          (λ i. record { outcome = accepted many; cells = a .cells-are i; list = a .list-is i; answers = a .answers-are i })
-          ∙ sym (by-outcome (accepted many) (past-listing ∙ test-passed short [] many (le-ltb (length ns) many h)))
+  pub all-left : {cells list numbers : List ℕ} (q : Queued) → OneOf answers (tagOf the-type q) → queuedOutcome q ≡ outcome
+      → AllJudged ws bs listing rs us cs ls ns cells list numbers → queueLeaves ws bs listing rs us cs ls ns q cells list numbers
+  all-left {numbers = numbers} (Answered k) t e a =
+      let many : k ≡ recordsIn listing = answered (length ws) (length bs) (length ns) listing k (sym e) .count-is in
+      let behind : numbers ≡ all .numbers ++ drop k ns = a .answers-are ∙ ap (λ (x : ℕ). all .numbers ++ drop x ns) (sym many) in
+      (λ i. record { outcome = accepted k; cells = a .cells-are i; list = a .list-is i; answers = behind i }) ∙ by-outcome (accepted k) e
+  all-left BadListing t e a = absurd (miss answers 1 tt t)
+  all-left (Outside place) t e a = absurd (miss answers 2 tt t)
+  all-left (FewAnswers place) t e a = absurd (miss answers 3 tt t)

@@ -1,18 +1,12 @@
--- What the parts of the call ask of each other.
+-- What the parts of the call give each other.
 -- Assumes nothing.
-use Prim.Native.Nat.{ℕ, _<_, _≤_}
-use mathlib.Core.Bool.{false}
+use Prim.Native.Nat.{ℕ}
 use mathlib.Core.List.{List, _++_}
 use mathlib.Core.Path.{_≡_}
 use lib.ListN.{drop}
 use Rattle.meaning.specs.Lists.{range}
-use Rattle.listing.specs.Listing.{recordsIn, outside}
+use Rattle.listing.specs.Listing.{recordsIn}
 use Rattle.queue.specs.Queue.{oneByOne}
-
--- every record lies in the slices, and there is an answer for each
-pub record Tested (words bytes answers : ℕ) (listing : List ℕ) : Type 0 where
-  pub all-within : (i : ℕ) → i < recordsIn listing → outside words bytes listing i ≡ false
-  pub answers-enough : recordsIn listing ≤ answers
 
 -- all records were judged: their numbers stand first in the answers, and what stands behind them stayed
 pub record AllJudged (ws bs listing rs us cells₀ list₀ answers₀ cells list answers : List ℕ) : Type 0 where

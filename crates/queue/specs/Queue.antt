@@ -11,9 +11,8 @@ use Rattle.sheet.specs.Refusals.{Outcome, accepted, refused}
 use Rattle.meaning.specs.Lists.{range}
 use Rattle.meaning.specs.Rules.{whole}
 use Rattle.meaning.specs.Answer.{numberForC, judge}
-use Rattle.listing.specs.Listing.{recordsIn, wordsAt, textAt, queueOutcome}
-use Rattle.queue.specs.declared.Queued.{Queued}
-use Rattle.queue.specs.declared.Queued.the-variants.{Answered, BadListing, Outside, FewAnswers}
+use Rattle.listing.specs.declared.Queued.{Queued}
+use Rattle.listing.specs.Listing.{recordsIn, wordsAt, textAt, queueOutcome, queuedOutcome}
 
 -- the answers' numbers, and the areas, once some records were judged
 pub record Judged : Type 0 where
@@ -44,13 +43,6 @@ unfoldable pub judgeQueue : (words bytes listing rules ruleText cells list answe
 judgeQueue ws bs listing rs us cs ls ns =
     let all = oneByOne ws bs listing rs us (range 0 (recordsIn listing)) cs ls in
     unless (queueOutcome (length ws) (length bs) (length ns) listing) cs ls ns all
-
--- an answer of the call, in 02's numbers
-abbrev pub queuedOutcome : Queued → Outcome
-queuedOutcome (Answered many) = accepted many
-queuedOutcome BadListing = refused 30 0
-queuedOutcome (Outside place) = refused 31 place
-queuedOutcome (FewAnswers place) = refused 32 place
 
 -- the promise of the call, for every input
 abbrev pub queueLeaves : (words bytes listing rules ruleText cells₀ list₀ answers₀ : List ℕ) → Queued → (cells list answers : List ℕ) → Type 0

@@ -6,26 +6,16 @@
 // of `judge_queue` cites `specs/Queue.antt`.
 ghost use mathlib.Core.Path.{_≡_};
 ghost use lib.ListN.{length};
+ghost use Rattle.listing.specs.Listing.{Tested};
 ghost use Rattle.recordcall.specs.Asked.{RulesChecked};
 ghost use Rattle.queue.specs.Queue.{queueLeaves};
-ghost use Rattle.queue.specs.Parts.{Tested, AllJudged};
-use listing::first_outside;
+ghost use Rattle.queue.specs.Parts.{AllJudged};
+use listing::Queued;
 use listing::records_in;
+use listing::test_listing;
 use recordcall::judge_listed;
 use rules::check_rules;
 use sheet::refusal::Checked;
-
-// Four words for each of 512 records.
-const MOST_WORDS: usize = 2048;
-
-// What the call answers: how many records were answered; or why it was refused, with the place: the
-// lowest record outside the slices, or the records given. A listing that is none has place 0.
-pub enum Queued {
-    Answered(u32),
-    BadListing,
-    Outside(u32),
-    FewAnswers(u32),
-}
 
 // Judges the listed records by the rules, whatever the words, texts, listing and areas. A refused call
 // leaves the areas and the answers as they were. Otherwise the answer of record k is its number, and the
@@ -42,18 +32,10 @@ pub fn judge_queue<'a>(
 ) -> Queued
     ensures { λ r. ⌜ queueLeaves (now (words .entry)) (now (bytes .entry)) (now (listing .entry)) (now (rules .entry)) (now («rule_text» .entry)) (now (cells .entry)) (now (list .entry)) (now (answers .entry)) r (now (cells .exit)) (now (list .exit)) (now (answers .exit)) ⌝ }
 {
-    let size = listing.len();
-    if (size % 4 != 0) | (size > MOST_WORDS) {
-        return Queued::BadListing;
-    }
-    let many = records_in(listing);
-    let place = first_outside(words.len(), bytes.len(), listing);
-    if place < many {
-        return Queued::Outside(place as u32);
-    }
-    if answers.len() < many {
-        return Queued::FewAnswers(many as u32);
-    }
+    let queued = test_listing(words.len(), bytes.len(), listing, answers.len());
+    let Queued::Answered(_) = queued else {
+        return queued;
+    };
     let checked = check_rules(rules, rule_text);
     judge_all(
         words,
@@ -66,7 +48,7 @@ pub fn judge_queue<'a>(
         answers,
         checked,
     );
-    Queued::Answered(many as u32)
+    queued
 }
 
 // Judges the records of a listing that was tested, by rules of which `checked` is what their check gave.

@@ -1,18 +1,16 @@
 // One record of a queue: the call of `judge` with rules that were checked before. The contracts cite
-// `callLeaves` of crate `judge`, `Called` of crate `number`, and `specs/Asked.antt`.
+// `callLeaves` of crate `answer`, `Called` of crate `number`, and `specs/Asked.antt`.
 ghost use mathlib.Core.Path.{_≡_};
 ghost use mathlib.Core.Bool.{true};
 ghost use lib.ListN.{length};
 ghost use Rattle.text.specs.Part.{fits, part};
-ghost use Rattle.sheet.specs.Refusals.{accepted};
-ghost use Rattle.sheet.specs.Faults.{recordOutcome};
 ghost use Rattle.meaning.specs.Rules.{whole};
-ghost use Rattle.judge.specs.Call.{callLeaves};
+ghost use Rattle.answer.specs.Call.{callLeaves};
 ghost use Rattle.number.specs.Called.{Called};
 ghost use Rattle.listing.specs.Listing.{wordsAt, textAt};
 ghost use Rattle.recordcall.specs.Asked.{RulesChecked, Inside};
-use judge::answer::Answer;
-use judge::judge_in_areas;
+use answer::Answer;
+use judge::judge_checked;
 use listing::text_at;
 use listing::words_at;
 use number::number_of;
@@ -74,39 +72,9 @@ fn judge_record<'a>(
             rule_text,
             cells,
             list,
-            n,
-            checked,
-        ),
-        Checked::Refused(refusal, place) => Answer::Refused(refusal, place),
-    }
-}
-
-// The record is in order, with n rows.
-fn judge_checked<'a>(
-    record: &'a [u32],
-    text: &'a [u8],
-    rules: &'a [u32],
-    rule_text: &'a [u8],
-    cells: &mut [u8],
-    list: &mut [u32],
-    n: u32,
-    checked: Checked,
-) -> Answer
-    requires { ⌜ recordOutcome (now «record») (now text) ≡ accepted n ⌝ }
-    requires { ⌜ RulesChecked (now rules) (now «rule_text») checked ⌝ }
-    ensures { λ r. ⌜ callLeaves (now («record» .entry)) (now (text .entry)) (now (rules .entry)) (now («rule_text» .entry)) (now (cells .entry)) (now (list .entry)) r (now (cells .exit)) (now (list .exit)) ⌝ }
-{
-    match checked {
-        Checked::Accepted(m) => judge_in_areas(
-            record,
-            text,
-            rules,
-            rule_text,
-            cells,
-            list,
             false,
             n,
-            m,
+            checked,
         ),
         Checked::Refused(refusal, place) => Answer::Refused(refusal, place),
     }

@@ -4,7 +4,7 @@ use Rattle.hub.proofs.amphorust_judge_queue.Statement.{statement}
 use Rattle.hub.proofs.amphorust_judge_queue.Tie as tie
 use Rattle.hub.proofs.amphorust_judge_queue.Reads as reads
 use Rattle.hub.proofs.amphorust_judge_queue.Lts as lts
-use Rattle.hub.proofs.number_of_queued.Reads as number-of-queued-reads
+use Rattle.outcomes.proofs.number_of_queued.Reads as number-of-queued-reads
 use Rattle.queue.proofs.judge_queue.Reads as judge-queue-reads
 
 judge-queue-requires : tie.Need-judge-queue-requires

@@ -8,8 +8,9 @@ use Rattle.judge.proofs.judge_by_record.Statement.{statement}
 use Rattle.judge.proofs.judge_by_record.Tie as tie
 use Rattle.judge.proofs.judge_by_record.Reads as reads
 use Rattle.judge.proofs.judge_by_record.Lts as lts
-use Rattle.judge.proofs.judge_by_rules.Reads as judge-by-rules-reads
+use Rattle.judge.proofs.judge_checked.Reads as judge-checked-reads
 use Rattle.recordcheck.proofs.check_record.Reads as check-record-reads
+use Rattle.rules.proofs.check_rules.Reads as check-rules-reads
 
 check-record-requires : tie.Need-check-record-requires
 check-record-requires c κs = search needs
@@ -17,9 +18,12 @@ check-record-requires c κs = search needs
 enum-known-n : tie.Need-enum-known-n
 enum-known-n c = search needs
 
-judge-by-rules-requires : tie.Need-judge-by-rules-requires
-judge-by-rules-requires c κs =
-    sym (c .before .before .before .before .before .check-record .ensures) ∙ ap outcomeOf (c .before .before .before .n .given .1)
+check-rules-requires : tie.Need-check-rules-requires
+check-rules-requires c κs = search needs
+
+judge-checked-requires : tie.Need-judge-checked-requires
+judge-checked-requires c κs =
+    (sym (c .before .before .before .before .before .before .check-record .ensures) ∙ ap outcomeOf (c .before .before .before .before .n .given .1), c .before .before .check-rules .ensures)
 
 enum-known-refusal : tie.Need-enum-known-refusal
 enum-known-refusal c = search needs
@@ -43,7 +47,8 @@ judge-by-record-spec =
     (tie.spec
     check-record-requires
     enum-known-n
-    judge-by-rules-requires
+    check-rules-requires
+    judge-checked-requires
     enum-known-refusal
     same-length
     same-length-2

@@ -7,7 +7,7 @@ use Rattle.recordcall.proofs.judge_record.Statement.{statement}
 use Rattle.recordcall.proofs.judge_record.Tie as tie
 use Rattle.recordcall.proofs.judge_record.Reads as reads
 use Rattle.recordcall.proofs.judge_record.Lts as lts
-use Rattle.recordcall.proofs.judge_checked.Reads as judge-checked-reads
+use Rattle.judge.proofs.judge_checked.Reads as judge-checked-reads
 use Rattle.recordcheck.proofs.check_record.Reads as check-record-reads
 
 check-record-requires : tie.Need-check-record-requires

@@ -1,13 +1,13 @@
+-- `judge_checked` meets its contract. Assumes nothing.
 use mathlib.Core.Path.{_≡_, sym, ap, _∙_}
 use Rattle.sheet.specs.Refusals.{outcomeOf}
-use Rattle.meaning.specs.Rules.{whole}
 use Rattle.meaning.proofs.Answers.{rules-refused}
 use borrow.Author.Needs.{needs}
-use Rattle.recordcall.proofs.judge_checked.Statement.{statement}
-use Rattle.recordcall.proofs.judge_checked.Tie as tie
-use Rattle.recordcall.proofs.judge_checked.Reads as reads
-use Rattle.recordcall.proofs.judge_checked.Lts as lts
+use Rattle.judge.proofs.judge_checked.Statement.{statement}
+use Rattle.judge.proofs.judge_checked.Tie as tie
+use Rattle.judge.proofs.judge_checked.Reads as reads
+use Rattle.judge.proofs.judge_checked.Lts as lts
 use Rattle.judge.proofs.judge_in_areas.Reads as judge-in-areas-reads
 
 enum-known-checked : tie.Need-enum-known-checked
 enum-known-checked c = search needs
@@ -30,7 +30,7 @@ returns c = search needs
 
 returns-2 : tie.Need-returns-2
 returns-2 c =
-    sym (rules-refused whole _ _ _ _ _ _ _ (c .before .before .before .before .before .before .before .before .before .pre .0) _ _ (sym (c .before .before .before .before .before .before .before .before .before .pre .1) ∙ ap outcomeOf (c .before .checked2 .given .1)))
+    sym (rules-refused _ _ _ _ _ _ _ _ (c .before .before .before .before .before .before .before .before .before .pre .0) _ _ (sym (c .before .before .before .before .before .before .before .before .before .pre .1) ∙ ap outcomeOf (c .before .checked2 .given .1)))
 
 pub judge-checked-spec : {M : Type 1} → statement M
 judge-checked-spec =

@@ -7,8 +7,8 @@ use Rattle.sheet.specs.Refusals.{refusalNumber}
 use Rattle.meaning.specs.Rules.{Way, whole, cut}
 use Rattle.meaning.specs.Answer as A
 use Rattle.meaning.specs.Answer.{valid, invalid, refuses, Left, judge}
-use Rattle.judge.specs.declared.answer.Answer.{Answer}
-use Rattle.judge.specs.declared.answer.Answer.the-variants.{Valid, Invalid, Refused}
+use Rattle.answer.specs.declared.Answer.{Answer}
+use Rattle.answer.specs.declared.Answer.the-variants.{Valid, Invalid, Refused}
 
 -- 01's numbers for each case of the answer
 abbrev pub answerOf : Answer → A.Answer
