@@ -9,7 +9,7 @@ ghost use Rattle.json.specs.Automaton.{Bracket, asName};
 ghost use Rattle.naming.specs.Gathering.{textMore, escapeMore, escaped};
 ghost use Rattle.gathering.specs.Held.{Small, Sound, Does, OnText, Within, Gathers};
 use strings::short_of;
-use survey::strings::high;
+use watching::strings::high;
 
 mod holding;
 mod units;

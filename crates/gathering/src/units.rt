@@ -6,8 +6,8 @@ ghost use Rattle.json.specs.Value.{joined};
 ghost use Rattle.naming.specs.Gathering.{digitOf, lowAhead};
 ghost use Rattle.gathering.specs.Held.{unitFrom};
 use figures::byte_at;
-use survey::strings::hex_worth;
-use survey::strings::low;
+use watching::strings::hex_worth;
+use watching::strings::low;
 
 // The number with a hexadecimal digit more.
 pub(crate) fn digit_more(unit: u32, byte: u8) -> u32

@@ -16,7 +16,7 @@ use names::Names;
 use names::first_repeated;
 use scan::first_pass;
 use survey::Watch;
-use survey::numbers::number_ends;
+use watching::numbers::number_ends;
 
 // A fault's number, or 0 where there is none, and how many bytes are left from its start on.
 struct Amiss {

@@ -1,5 +1,5 @@
 // The whole check of a rule sheet, over its layout and names (`rulelayout`, `ruleclauses`,
-// `ruleentries`), the text of its entries (`ruletexts`), the unguarded steps (`unguarded`) and the pass
+// `ruleentries`), the text of its entries (`ruletexts`), the unguarded steps (`loops`) and the pass
 // that tells most sheets that are in order (`rulepass`).
 //
 // Its contract cites `specs/Check.antt`.
@@ -34,7 +34,7 @@ fn check_rest(words: &[u32], text: &[u8], form: RuleForm, short: bool) -> Checke
     if short {
         return Checked::Accepted(m);
     }
-    let found = unguarded::check_unguarded(words, form);
+    let found = loops::check_unguarded(words, form);
     let looped = found.looped;
     if looped < m {
         return Checked::Refused(Refusal::UnguardedLoop, looped);

@@ -20,9 +20,9 @@ use gathering::gather_byte;
 use grammar::step;
 use survey::Escapes;
 use survey::Watch;
-use survey::move_on;
 use tally::Units;
 use tally::count;
+use watching::move_on;
 
 // The place in the grammar, 63 where no text goes on so; the open brackets; what is kept of faults;
 // the escape under way, for the counters; the numbers of the gathered names.

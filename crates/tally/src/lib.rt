@@ -8,9 +8,9 @@ ghost use Rattle.grammar.specs.Codes.{placeAt};
 ghost use Rattle.tally.specs.Tallying.{addAt, unitSize, tallyOf, counting};
 ghost use Rattle.tally.specs.Bounds.{UpTo, most};
 use escapes::size_of;
-use survey::strings::hex_worth;
-use survey::strings::high;
-use survey::strings::low;
+use watching::strings::hex_worth;
+use watching::strings::high;
+use watching::strings::low;
 
 // The digits of the escape under way, and whether a high surrogate's escape stands directly before.
 pub struct Units {
