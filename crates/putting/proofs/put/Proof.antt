@@ -1,11 +1,11 @@
--- `strings::put` meets its contract.
+-- `putting::put` meets its contract.
 -- Assumes nothing.
 use mathlib.Core.Path.{sym}
 use native.Mathlib.Omega.{arith}
 use lib.Seq.{set-out}
 use borrow.Author.Needs.{needs}
-use Rattle.strings.proofs.put.Statement.{statement}
-use Rattle.strings.proofs.put.Tie as tie
+use Rattle.putting.proofs.put.Statement.{statement}
+use Rattle.putting.proofs.put.Tie as tie
 
 slice-write-area : tie.Need-slice-write-area
 slice-write-area c = search needs

@@ -1,9 +1,9 @@
--- `strings::short_of` meets its contract.
+-- `putting::short_of` meets its contract.
 -- Assumes nothing.
 use borrow.Author.Tests.{eq-eqb, ne-eqb}
-use Rattle.strings.specs.Atoms.{shortAt}
-use Rattle.strings.proofs.short_of.Statement.{statement}
-use Rattle.strings.proofs.short_of.Tie as tie
+use Rattle.putting.specs.Letters.{shortAt}
+use Rattle.putting.proofs.short_of.Statement.{statement}
+use Rattle.putting.proofs.short_of.Tie as tie
 
 returns : tie.Need-returns
 unfolding shortAt

@@ -1,10 +1,10 @@
--- `strings::append` meets its contract, by how many bytes the character takes.
+-- `characters::append` meets its contract, by how many bytes the character takes.
 -- Assumes nothing.
 use native.Mathlib.Omega.{arith}
-use Rattle.strings.proofs.Appended.{appended-1, appended-2, appended-3, appended-4}
+use Rattle.characters.proofs.Appended.{appended-1, appended-2, appended-3, appended-4}
 use borrow.Author.Needs.{needs}
-use Rattle.strings.proofs.append.Statement.{statement}
-use Rattle.strings.proofs.append.Tie as tie
+use Rattle.characters.proofs.append.Statement.{statement}
+use Rattle.characters.proofs.append.Tie as tie
 
 cast-put : tie.Need-cast-put
 cast-put c = search needs
