@@ -1,8 +1,8 @@
 -- `lengths_at` reads two words of the trailer. Assumes nothing.
 use mathlib.Core.Path.{_∙_}
 use borrow.Author.Needs.{needs}
-use Rattle.bundle.proofs.parts.lengths_at.Statement.{statement}
-use Rattle.bundle.proofs.parts.lengths_at.Tie as tie
+use Rattle.parts.proofs.lengths_at.Statement.{statement}
+use Rattle.parts.proofs.lengths_at.Tie as tie
 
 word-at-requires : tie.Need-word-at-requires
 word-at-requires c κs = search needs

@@ -2,9 +2,9 @@
 use native.Mathlib.Omega.{arith}
 use lib.ListN.{length}
 use borrow.Author.Needs.{needs}
-use Rattle.bundle.proofs.Bundles.{size-enough, size-bad, lengths-bad, lengths-good}
-use Rattle.bundle.proofs.parts.parts_of.Statement.{statement}
-use Rattle.bundle.proofs.parts.parts_of.Tie as tie
+use Rattle.parts.proofs.Bundles.{size-enough, size-bad, lengths-bad, lengths-good}
+use Rattle.parts.proofs.parts_of.Statement.{statement}
+use Rattle.parts.proofs.parts_of.Tie as tie
 
 returns : tie.Need-returns
 returns c = size-bad _ (c .if1 .taken)

@@ -12,7 +12,7 @@ use lib.ListN.{length, getD, set, take, drop, length-map, length-append}
 use lib.Seq.{drop-cons, set-at, take-at}
 use Rattle.meaning.specs.Lists.{range}
 use Rattle.meaning.proofs.Members.{range-length}
-use Rattle.bundle.specs.Bundle.{word-bytes, wordAt, wordsOf, Reads}
+use Rattle.parts.specs.Bundle.{word-bytes, wordAt, wordsOf, Reads}
 
 -- one more of a range, at its end
 range-last : (f : ℕ → ℕ) (a k : ℕ) → map f (range a (suc k)) ≡ map f (range a k) ++ f (a + k) ∷ []

@@ -3,7 +3,6 @@
 --     size-bad, lengths-bad       bad by its size, or by the lengths that it says
 --     lengths-good                good
 --     sizes, record-short, rules-short     how long a good bundle is, and that there is room for its words
---     parts-told                  its parts, as they are taken
 -- Assumes nothing.
 use mathlib.Core.Bool.{Bool, true, false, not, _||_}
 use mathlib.Core.List.{List}
@@ -16,10 +15,9 @@ use lib.Dec.{eqb, ltb}
 use lib.ListN.{length, take, drop, length-take, length-drop}
 use borrow.Author.Tests.{ltb-false, eqb-true, not-false}
 use Rattle.laws.proofs.Tests.{decide}
-use Rattle.bundle.specs.declared.parts.Lengths.{Lengths}
-use Rattle.bundle.specs.declared.parts.Bundle.the-variants.{Bad, Good}
-use Rattle.bundle.specs.Bundle.{bundle-max, trailer-bytes, word-bytes, wordsOf, lengthsAt, recordLengths, ruleLengths, missized, misfit, bad, partsOf}
-use Rattle.bundle.specs.Printed.{toldSheets, toldParts, toldOf}
+use Rattle.parts.specs.declared.Lengths.{Lengths}
+use Rattle.parts.specs.declared.Bundle.the-variants.{Bad, Good}
+use Rattle.parts.specs.Bundle.{bundle-max, trailer-bytes, word-bytes, lengthsAt, recordLengths, ruleLengths, missized, misfit, bad, partsOf}
 
 pub neither : (a b : Bool) → (a || b) ≡ false → (a ≡ false) × (b ≡ false)
 neither false b e = (refl, e)
@@ -100,14 +98,3 @@ module _ (bs : List ℕ) (a b : Lengths) (good : partsOf bs ≡ Good a b) where
 
   pub rules-short : length (take (rule-text - rules) (drop rules bs)) ≤ bundle-max
   rules-short = part-short (rule-text - rules) rules
-
-  -- the parts as they are taken, one after the other
-  pub parts-told : (cs ls : List ℕ)
-      → toldSheets (wordsOf (take text bs)) (take (rules - text) (drop text bs)) (wordsOf (take (rule-text - rules) (drop rules bs))) (take (end - rule-text) (drop rule-text bs)) cs ls
-      ≡ toldOf bs cs ls
-  unfolding toldParts
-  parts-told cs ls =
-      let x : rules - text ≡ a .text = omega arith in
-      let y : rule-text - rules ≡ b .words = omega arith in
-      let z : end - rule-text ≡ b .text = omega arith in
-      rw (x, y, z, good)

@@ -9,9 +9,9 @@ use Prim.Native.Nat.{ℕ, _+_, _-_, _*_, _/_, _%_, _^_, _<_}
 use lib.Dec.{eqb, ltb}
 use lib.ListN.{length, getD, drop}
 use Rattle.meaning.specs.Lists.{range}
-use Rattle.bundle.specs.declared.parts.Lengths.{Lengths}
-use Rattle.bundle.specs.declared.parts.Bundle.{Bundle}
-use Rattle.bundle.specs.declared.parts.Bundle.the-variants.{Bad, Good}
+use Rattle.parts.specs.declared.Lengths.{Lengths}
+use Rattle.parts.specs.declared.Bundle.{Bundle}
+use Rattle.parts.specs.declared.Bundle.the-variants.{Bad, Good}
 
 abbrev pub bundle-max : ℕ
 bundle-max = 65_536

@@ -9,9 +9,9 @@ use mathlib.Core.Path.{_≡_, refl}
 use Prim.Native.Nat.{ℕ}
 use lib.ListN.{replicate}
 use Rattle.meaning.specs.Lists.{lists-computes}
-use Rattle.bundle.specs.declared.parts.Lengths.{Lengths}
-use Rattle.bundle.specs.declared.parts.Bundle.the-variants.{Bad, Good}
-use Rattle.bundle.specs.Bundle.{wordsOf, partsOf, bundle-computes}
+use Rattle.parts.specs.declared.Lengths.{Lengths}
+use Rattle.parts.specs.declared.Bundle.the-variants.{Bad, Good}
+use Rattle.parts.specs.Bundle.{wordsOf, partsOf, bundle-computes}
 
 words-read : wordsOf (1 ∷ 2 ∷ 0 ∷ 0 ∷ 3 ∷ 0 ∷ 0 ∷ 4 ∷ []) ≡ 513 ∷ 67_108_867 ∷ []
 unfolding lists-computes bundle-computes

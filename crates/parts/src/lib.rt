@@ -1,11 +1,11 @@
 // The parts of a bundle: record words, record text, rule words and rule text, and then the four
-// lengths in bytes.
+// lengths in bytes. Which bundle is bad, how long the parts of a good one are, and its words.
 //
 // Its contracts cite `specs/Bundle.antt`.
 ghost use mathlib.Core.Path.{_≡_};
 ghost use Prim.Native.Nat.{_+_, _/_, _≤_, _<_};
 ghost use lib.ListN.{length};
-ghost use Rattle.bundle.specs.Bundle.{word-bytes, wordAt, Reads, LengthsRead, partsOf};
+ghost use Rattle.parts.specs.Bundle.{word-bytes, wordAt, Reads, LengthsRead, partsOf};
 use sheet::record::wide;
 
 pub const BUNDLE_MAX: usize = 65_536;
@@ -28,7 +28,7 @@ pub enum Bundle {
 }
 
 // Whether a bundle is good, and how long its parts then are.
-pub(crate) fn parts_of(bundle: &[u8]) -> Bundle
+pub fn parts_of(bundle: &[u8]) -> Bundle
     ensures { λ r. ⌜ r ≡ partsOf (now (bundle .entry)) ⌝ }
 {
     let size = bundle.len();
@@ -57,7 +57,7 @@ fn lengths_at(bundle: &[u8], at: usize) -> Lengths
 }
 
 // Puts the words of the bytes at the start of `words`, and answers how many there are.
-pub(crate) fn read_words(bytes: &[u8], words: &mut [u32]) -> usize
+pub fn read_words(bytes: &[u8], words: &mut [u32]) -> usize
     requires { ⌜ length (now bytes) / word-bytes ≤ length (now words) ⌝ }
     ensures { λ r. ⌜ Reads (now (bytes .entry)) (now (words .entry)) r (now (words .exit)) ⌝ }
 {

@@ -3,9 +3,9 @@ use mathlib.Core.Path.{_≡_, refl}
 use Prim.Native.Nat.{_-_, _≤_}
 use native.Mathlib.Omega.{arith}
 use lib.ListN.{length, length-set}
-use Rattle.bundle.proofs.Words.{Put, put-none, put-more, put-all}
-use Rattle.bundle.proofs.parts.read_words.Statement.{statement}
-use Rattle.bundle.proofs.parts.read_words.Tie as tie
+use Rattle.parts.proofs.Words.{Put, put-none, put-more, put-all}
+use Rattle.parts.proofs.read_words.Statement.{statement}
+use Rattle.parts.proofs.read_words.Tie as tie
 
 abbrev Inv-loop : tie.InvT-loop
 Inv-loop bytes words₀ count i₀ words i = (length words ≡ length words₀) × (i ≤ count) × Put bytes words₀ words i

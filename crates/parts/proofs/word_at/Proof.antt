@@ -1,8 +1,8 @@
 -- `word_at` reads the specification's word. Assumes nothing.
 use borrow.Author.Needs.{needs}
-use Rattle.bundle.specs.Bundle.{wordAt}
-use Rattle.bundle.proofs.parts.word_at.Statement.{statement}
-use Rattle.bundle.proofs.parts.word_at.Tie as tie
+use Rattle.parts.specs.Bundle.{wordAt}
+use Rattle.parts.proofs.word_at.Statement.{statement}
+use Rattle.parts.proofs.word_at.Tie as tie
 
 shared-slice-read-byte : tie.Need-shared-slice-read-byte
 shared-slice-read-byte c = search needs
