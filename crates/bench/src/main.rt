@@ -7,9 +7,9 @@ use bundle::AREA;
 use bundle::Judgement;
 use bundle::Line;
 use bundle::Reply;
-use bundle::parts::BUNDLE_MAX;
 use libc::STDIN_FILENO;
 use libc::STDOUT_FILENO;
+use parts::BUNDLE_MAX;
 use sheet::refusal::Refusal;
 
 // One byte more than a bundle may have tells one that is too long.

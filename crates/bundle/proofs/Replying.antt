@@ -1,15 +1,16 @@
 -- The reply, by what the checks and the judge answer.
+--     parts-told                                     the parts of a good bundle, as they are taken
 --     bad-replied, record-refused, rules-refused, sides-large     what is printed where nothing is judged
 --     judged-replies, never-refused                  what the judge's answer is, and what it is not
 -- Assumes nothing.
 use mathlib.Core.Bool.{Bool, true, false, _||_}
 use mathlib.Core.List.{List, _++_}
 use mathlib.Core.Path.{_≡_, refl, sym, ap, _∙_}
-use Prim.Native.Nat.{ℕ, _*_, _≤_, _<_}
+use Prim.Native.Nat.{ℕ, _+_, _-_, _*_, _≤_, _<_}
 use native.Mathlib.Nat.{mul-le-mul-right, mul-comm}
 use native.Mathlib.Omega.{arith}
 use lib.Dec.{ltb}
-use lib.ListN.{length, drop}
+use lib.ListN.{length, take, drop}
 use borrow.Author.Tests.{ltb-false}
 use Rattle.sheet.specs.declared.refusal.Refusal.{Refusal}
 use Rattle.sheet.specs.Refusals.{refusalNumber, accepted, refused}
@@ -28,11 +29,12 @@ use Rattle.meaning.proofs.Trees.{once}
 use Rattle.answer.specs.declared.Answer as J
 use Rattle.answer.specs.declared.Answer.the-variants.{Refused as Refuses}
 use Rattle.answer.specs.Call.{answerOf, callLeaves}
-use Rattle.bundle.specs.declared.parts.Bundle.the-variants.{Bad}
+use Rattle.parts.specs.declared.Lengths.{Lengths}
+use Rattle.parts.specs.declared.Bundle.the-variants.{Bad, Good}
 use Rattle.bundle.specs.declared.Reply.the-variants.{BadBundle, Refused, TooLarge, Judged}
-use Rattle.bundle.specs.Bundle.{partsOf}
+use Rattle.parts.specs.Bundle.{wordsOf, partsOf}
 use Rattle.bundle.specs.Printed.{side-max, tooLarge, toldJudged, toldSheets, toldParts, toldOf, Roomy, InOrder, Replies}
-use Rattle.bundle.proofs.Bundles.{neither}
+use Rattle.parts.proofs.Bundles.{neither}
 use Rattle.bundle.proofs.Lines.{listed-below, lines-shown}
 
 same-verdict : (b b′ : Bool) (c c′ k k′ : ℕ) → verdict b c k ≡ verdict b′ c′ k′ → (b ≡ b′) × (c ≡ c′) × (k ≡ k′)
@@ -48,6 +50,30 @@ refuses-none false number place c k e = let z : _≡_ {A = ℕ} 0 1 = cc in omeg
 pub bad-replied : (bs : List ℕ) {cells list : List ℕ} → partsOf bs ≡ Bad → Replies (toldOf bs cells list) BadBundle cells list
 unfolding toldParts
 bad-replied bs e = record { tells = rw e; readable = tt }
+
+-- the parts of a good bundle as they are taken, one after the other
+module _ (bs : List ℕ) (a b : Lengths) (good : partsOf bs ≡ Good a b) where
+  abbrev text : ℕ
+  text = a .words
+
+  abbrev rules : ℕ
+  rules = text + a .text
+
+  abbrev rule-text : ℕ
+  rule-text = rules + b .words
+
+  abbrev end : ℕ
+  end = rule-text + b .text
+
+  pub parts-told : (cs ls : List ℕ)
+      → toldSheets (wordsOf (take text bs)) (take (rules - text) (drop text bs)) (wordsOf (take (rule-text - rules) (drop rules bs))) (take (end - rule-text) (drop rule-text bs)) cs ls
+      ≡ toldOf bs cs ls
+  unfolding toldParts
+  parts-told cs ls =
+      let x : rules - text ≡ a .text = omega arith in
+      let y : rule-text - rules ≡ b .words = omega arith in
+      let z : end - rule-text ≡ b .text = omega arith in
+      rw (x, y, z, good)
 
 module _ (ws ts rs us : List ℕ) where
   pub record-refused : (f : Refusal) (place : ℕ) {cells list : List ℕ} → recordOutcome ws ts ≡ refused (refusalNumber f) place → Replies (toldSheets ws ts rs us cells list) (Refused f place) cells list

@@ -1,2 +1,1 @@
-pub mod Bundle
 pub mod Printed

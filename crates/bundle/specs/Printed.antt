@@ -21,12 +21,12 @@ use Rattle.meaning.specs.Rules.{Pair, whole, truth}
 use Rattle.meaning.specs.Settling.{root, settled, marked}
 use Rattle.meaning.specs.Answer as A
 use Rattle.areas.specs.Cells.{verd}
-use Rattle.bundle.specs.declared.parts.Bundle.{Bundle}
-use Rattle.bundle.specs.declared.parts.Bundle.the-variants.{Bad, Good}
+use Rattle.parts.specs.declared.Bundle.{Bundle}
+use Rattle.parts.specs.declared.Bundle.the-variants.{Bad, Good}
 use Rattle.bundle.specs.declared.Line.{Line}
 use Rattle.bundle.specs.declared.Reply.{Reply}
 use Rattle.bundle.specs.declared.Reply.the-variants.{BadBundle, Refused, TooLarge, Judged}
-use Rattle.bundle.specs.Bundle.{wordsOf, partsOf}
+use Rattle.parts.specs.Bundle.{wordsOf, partsOf}
 
 -- the most rows and the most schemas that are judged
 abbrev pub side-max : ℕ

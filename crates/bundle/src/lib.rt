@@ -1,17 +1,15 @@
-// Bundles: which is bad, the parts and words of one that is good (`parts`), and the reply to it, all
-// that the bench program prints. Nothing here reads or writes a file.
+// The reply to a bundle, all that the bench program prints; crate `parts` takes it apart. Nothing here
+// reads or writes a file.
 //
-// Its contracts cite specs/, in reading order: `Bundle`, `Printed`.
-pub mod parts;
-
+// Its contracts cite `specs/Printed.antt`.
 ghost use mathlib.Core.Path.{_≡_};
 ghost use Rattle.bundle.specs.Printed.{tooLarge, toldSheets, toldOf, lineAt, Roomy, InOrder, LineIn, Replies};
-use crate::parts::BUNDLE_MAX;
-use crate::parts::Bundle;
-use crate::parts::WORD;
-use crate::parts::parts_of;
-use crate::parts::read_words;
 use answer::Answer;
+use parts::BUNDLE_MAX;
+use parts::Bundle;
+use parts::WORD;
+use parts::parts_of;
+use parts::read_words;
 use sheet::record::wide;
 use sheet::refusal::Checked;
 use sheet::refusal::Refusal;

@@ -9,8 +9,8 @@ ghost use mathlib.Core.Bool.{true};
 ghost use Rattle.naming.specs.Gathering.{says, unitIs, waitsFor, opensName, shutsName, starts};
 ghost use Rattle.gathering.specs.Held.{Small, OnNumbers, OnText, OnWords, OnObjects, sized, rested, oneMore};
 use crate::Gathered;
-use strings::append;
-use strings::put;
+use characters::append;
+use putting::put;
 
 // A word at a place of the area, if it has that place.
 pub(crate) fn put_word(area: &mut [u32], at: usize, word: u32)

@@ -8,7 +8,7 @@ ghost use lib.ListN.{length, drop};
 ghost use Rattle.json.specs.Automaton.{Bracket, asName};
 ghost use Rattle.naming.specs.Gathering.{textMore, escapeMore, escaped};
 ghost use Rattle.gathering.specs.Held.{Small, Sound, Does, OnText, Within, Gathers};
-use strings::short_of;
+use putting::short_of;
 use watching::strings::high;
 
 mod holding;

@@ -1,13 +1,12 @@
 -- A clause that was passed, and the steps that it has.
 --     counted-so                    what is told of its steps, in other words
---     counted, uncounted            the same by the flag that was read
 --     listed-within                 a list that passed its tests ends within the entries
 --     passed-list, passed-other     it is in order, by the shape that was read
 -- Assumes nothing.
 use mathlib.Core.Bool.{Bool, true, false, _&&_, false≢true}
 use mathlib.Core.List.{List, map, List·Memᴰ as In, List·Memᴰ·not-nil as in-none, List·Memᴰ·cases-cons as in-cons, List·Memᴰ·eq-of-singleton as in-one}
 use mathlib.Core.Logic.{⊎-elim}
-use mathlib.Core.Path.{_≡_, refl, sym, ap, _∙_}
+use mathlib.Core.Path.{_≡_, sym, ap}
 use Prim.Native.Nat.{ℕ, zero, suc, _+_, _≤_, _<_}
 use native.Mathlib.Omega.{arith}
 use lib.Dec.{eqb, leb}
@@ -29,19 +28,14 @@ use Rattle.rulesheet.proofs.Trailers.{form-m, form-e}
 use Rattle.rulesheet.proofs.Reaching.{namedBy, made-at}
 use Rattle.rulesheet.proofs.Sizes.{counts-of}
 use Rattle.ruleclauses.proofs.Passes.{list-fields}
+use Rattle.rulelists.specs.Lists.{ListFine}
+use Rattle.rulesteps.specs.Later as Later
+use Rattle.rulesteps.specs.Later.{schemaIn, AllLater}
 use Rattle.rulepass.specs.declared.Pass.{Pass}
-use Rattle.rulepass.specs.Pass as Pass
-use Rattle.rulepass.specs.Pass.{ListFine, listedBy, schemaIn, AllLater, schemasBy, LeadsOn, ClausePassed}
+use Rattle.rulepass.specs.Pass.{listedBy, schemasBy, LeadsOn, ClausePassed}
 
-pub counted-so : {u : Bool} {A B : Type 0} {steps r : ℕ} → (A → B) → Pass.Counted u A steps r → Pass.Counted u B steps r
+pub counted-so : {u : Bool} {A B : Type 0} {steps r : ℕ} → (A → B) → Later.Counted u A steps r → Later.Counted u B steps r
 counted-so f c = record { count = c .count; leads = λ l t. f (c .leads l t) }
-
-pub counted : (u : Bool) {A B : Type 0} {steps r : ℕ} → u ≡ true → (A → B) → Pass.Counted true A steps r → Pass.Counted u B steps r
-counted u {A} {B} {steps} {r} some f c = record { count = λ l. rw some (c .count l); leads = λ l t. f (c .leads l refl) }
-
-pub uncounted : (u : Bool) {A : Type 0} {steps : ℕ} → u ≡ false → Pass.Counted u A steps steps
-uncounted u {A} {steps} none =
-    record { count = λ l. rw none (omega arith); leads = λ l (t : u ≡ true). absurd (false≢true (sym none ∙ t)) }
 
 -- a list that passed its tests ends within the entries
 pub listed-within : (e : ℕ) (shape : Shape) (start : ℕ) (clause : ClauseRow) → listedBy e shape start clause ≡ true → clause .first + clause .count ≤ e
@@ -129,7 +123,7 @@ module _ (ws ts : List ℕ) (form : RuleForm) (formed : RulesFormed ws form) (s 
       → listedBy (form .e) shape start clause ≡ true
       → ListFine ws ts (shape .fields) (clause .first) (clause .count)
       → r .start ≡ clause .first + clause .count
-      → Pass.Counted (shape .unguarded) (AllLater ws (isNamed (shape .fields)) s (clause .first) (clause .first + clause .count)) steps (r .steps)
+      → Later.Counted (shape .unguarded) (AllLater ws (isNamed (shape .fields)) s (clause .first) (clause .first + clause .count)) steps (r .steps)
       → ClausePassed ws ts s clause start steps r
   unfolding listOk
   passed-list list tests entries next counted =
@@ -153,7 +147,7 @@ module _ (ws ts : List ℕ) (form : RuleForm) (formed : RulesFormed ws form) (s 
   pub passed-other : isList (shape .fields) ≡ false
       → fieldsOk (shape .fields) (form .m) (clause .first) (clause .count) ≡ true
       → r .start ≡ start
-      → Pass.Counted (shape .unguarded) (s < clause .first) steps (r .steps)
+      → Later.Counted (shape .unguarded) (s < clause .first) steps (r .steps)
       → ClausePassed ws ts s clause start steps r
   unfolding listOk
   passed-other other fine next counted =

@@ -26,7 +26,9 @@ use Rattle.unguarded.proofs.Lists.{any-out}
 use Rattle.unguarded.proofs.Targets.{target-inside}
 use Rattle.unguarded.proofs.Steps.{next-is, next-none, joined-in}
 use Rattle.unguarded.proofs.Takers.{starts-later}
-use Rattle.rulepass.specs.Pass.{Laid, Told, unit, stepsBefore, ListFine, ClauseFine, Come}
+use Rattle.rulelists.specs.Lists.{ListFine}
+use Rattle.rulesteps.specs.Later.{unit}
+use Rattle.rulepass.specs.Pass.{Laid, Told, stepsBefore, ClauseFine, Come}
 use Rattle.rulepass.proofs.Going.{steps-so, steps-after}
 
 module _ (ws ts : List ℕ) (form : RuleForm) (formed : RulesFormed ws form) (start steps : ℕ)

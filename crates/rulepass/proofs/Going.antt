@@ -21,8 +21,9 @@ use Rattle.rulesheet.proofs.Taking.{next-list}
 use Rattle.rulesheet.proofs.Reaching.{targets-are}
 use Rattle.ruleclauses.proofs.Passes.{code-rises}
 use Rattle.unguarded.specs.Graph.{chain-steps}
+use Rattle.rulesteps.specs.Later.{unit}
 use Rattle.rulepass.specs.declared.Pass.{Pass}
-use Rattle.rulepass.specs.Pass.{unit, stepsBefore, schemasBy, ClausePassed, ClauseFine, PassedTo, SchemaPassed, Come}
+use Rattle.rulepass.specs.Pass.{stepsBefore, schemasBy, ClausePassed, ClauseFine, PassedTo, SchemaPassed, Come}
 
 -- what a clause leads to, by its words
 module _ (ws : List ℕ) (k t : ℕ) (i : In t (targetsOf ws k)) where

@@ -1,4 +1,3 @@
-mod Entries
 mod Clauses
 mod Going
 mod Ending

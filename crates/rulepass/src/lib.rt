@@ -12,23 +12,20 @@ ghost use Rattle.rulesheet.specs.Codes.{shapeOf};
 ghost use Rattle.rulesheet.specs.Faults.{isList, isNamed, listStart};
 ghost use Rattle.rulesheet.specs.Read.{RulesFormed};
 ghost use Rattle.rulepass.specs.Pass.{listedBy, ClausePassed, SchemaPassed, Told};
-use crate::later::MANY;
-use crate::later::after_list;
-use crate::later::after_one;
-use crate::lists::entries_fine;
-use crate::lists::named_fine;
 use ruleclauses::fields_ok;
 use rulecodes::shape_of;
+use rulelists::entries_fine;
+use rulelists::named_fine;
 use rulesheet::code::Shape;
 use rulesheet::form::ClauseRow;
 use rulesheet::form::RuleForm;
 use rulesheet::form::clause_at;
 use rulesheet::form::schema_at;
+use rulesteps::MANY;
+use rulesteps::after_list;
+use rulesteps::after_one;
 use sheet::record::RuleRow;
 use sheet::record::wide;
-
-pub mod later;
-pub mod lists;
 
 // How far a pass has come: whether all was in order, where the next list starts, and how many
 // clauses had steps.

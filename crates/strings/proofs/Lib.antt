@@ -1,4 +1,3 @@
 pub mod Atoms
 pub mod Steps
 pub mod Units
-pub mod Appended

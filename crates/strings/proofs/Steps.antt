@@ -19,7 +19,8 @@ use Rattle.json.specs.Value.{shortCode, hexWorth, unitCode, isHigh, joined}
 use Rattle.json.proofs.Strings.{encode-1, encode-2, encode-3, encode-4}
 use Rattle.escapes.specs.Escapes.{HexByte, hexAt}
 use Rattle.escapes.proofs.Escaped.{hex-read, hex-byte}
-use Rattle.strings.specs.Atoms.{Atom, raw, esc, uni, spelled, shortAt, read, waits, Finds, Paired, Inside, Onward, Copied}
+use Rattle.putting.specs.Letters.{shortAt}
+use Rattle.strings.specs.Atoms.{Atom, raw, esc, uni, spelled, read, waits, Finds, Paired, Inside, Onward, Copied}
 
 -- ---- lists
 

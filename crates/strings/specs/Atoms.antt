@@ -6,7 +6,6 @@ use mathlib.Core.List.{List, [], _∷_}
 use mathlib.Core.Logic.{_≢_}
 use mathlib.Core.Path.{_≡_}
 use Prim.Native.Nat.{ℕ, _+_, _*_, _≤_, _<_}
-use lib.Dec.{eqb}
 use lib.ListN.{length, getD, drop}
 use lib.Seq.{sets}
 use Rattle.json.specs.Utf8.{encode}
@@ -28,15 +27,6 @@ atom (uni h i j k) rest = 0x5C ∷ 0x75 ∷ hex h ∷ hex i ∷ hex j ∷ hex k 
 unfoldable pub spelled : List Atom → List ℕ → List ℕ
 spelled [] rest = rest
 spelled (a ∷ as′) rest = atom a (spelled as′ rest)
-
--- the character of the byte after a backslash
-unfoldable pub shortAt : ℕ → ℕ
-shortAt b =
-    cond (eqb b 0x62) 0x08
-    (cond (eqb b 0x66) 0x0C
-    (cond (eqb b 0x6E) 0x0A
-    (cond (eqb b 0x72) 0x0D
-    (cond (eqb b 0x74) 0x09 b))))
 
 -- the number whose four digits stand at these places
 abbrev pub codeAt : List ℕ → ℕ → ℕ

@@ -1,18 +1,18 @@
 // A string of a JSON text, read from the text and written, decoded, into an area: byte by byte as it
 // stands, escapes as the characters they are of (`specs/Atoms.antt`, which contracts cite).
 ghost use mathlib.Core.Bool.{true, false};
-ghost use mathlib.Core.List.{[]};
 ghost use mathlib.Core.Logic.{_≢_};
 ghost use mathlib.Core.Path.{_≡_};
 ghost use Prim.Native.Nat.{_+_, _≤_, _<_};
-ghost use lib.ListN.{length, getD, set};
-ghost use lib.Seq.{sets};
-ghost use Rattle.json.specs.Utf8.{encode};
+ghost use lib.ListN.{length, getD};
 ghost use Rattle.json.specs.Value.{isHigh};
-ghost use Rattle.strings.specs.Atoms.{shortAt, codeAt, HexAt, Inside, Onward, Copied};
+ghost use Rattle.strings.specs.Atoms.{codeAt, HexAt, Inside, Onward, Copied};
+use characters::append;
 use escapes::character_of;
 use escapes::hex_of;
 use escapes::unit_of;
+use putting::put;
+use putting::short_of;
 
 // How far a string was read and written, and the high surrogate that waits for its low one, or 0.
 struct Spot {
@@ -25,64 +25,6 @@ struct Spot {
 pub struct Ended {
     pub to: usize,
     pub at: usize,
-}
-
-// A byte at a place of the area, if it has that place.
-pub fn put(area: &mut [u8], at: usize, byte: u8)
-    ensures { λ _. ⌜ now (area .exit) ≡ set (now (area .entry)) at byte ⌝ }
-{
-    if at < area.len() {
-        area[at] = byte;
-    }
-}
-
-// A character's bytes in UTF-8 from a place on; the place behind them.
-pub fn append(area: &mut [u8], at: usize, code: u32) -> usize
-    requires { ⌜ (code < 0x200000) × (at < 1_000_000_000_000) ⌝ }
-    ensures { λ r. ⌜ (r ≡ at + length (encode code [])) × (now (area .exit) ≡ sets (now (area .entry)) at (encode code [])) ⌝ }
-{
-    if code < 0x80 {
-        put(area, at, code as u8);
-        return at + 1;
-    }
-    if code < 0x800 {
-        put(area, at, (0xC0 + code / 0x40) as u8);
-        put(area, at + 1, (0x80 + code % 0x40) as u8);
-        return at + 2;
-    }
-    if code < 0x10000 {
-        put(area, at, (0xE0 + code / 0x1000) as u8);
-        put(area, at + 1, (0x80 + code / 0x40 % 0x40) as u8);
-        put(area, at + 2, (0x80 + code % 0x40) as u8);
-        return at + 3;
-    }
-    put(area, at, (0xF0 + code / 0x40000) as u8);
-    put(area, at + 1, (0x80 + code / 0x1000 % 0x40) as u8);
-    put(area, at + 2, (0x80 + code / 0x40 % 0x40) as u8);
-    put(area, at + 3, (0x80 + code % 0x40) as u8);
-    at + 4
-}
-
-// The character of the byte after a backslash.
-pub fn short_of(byte: u8) -> u8
-    ensures { λ r. ⌜ r ≡ shortAt byte ⌝ }
-{
-    if byte == 0x62 {
-        return 0x08;
-    }
-    if byte == 0x66 {
-        return 0x0C;
-    }
-    if byte == 0x6E {
-        return 0x0A;
-    }
-    if byte == 0x72 {
-        return 0x0D;
-    }
-    if byte == 0x74 {
-        return 0x09;
-    }
-    byte
 }
 
 // Whether a number is a high surrogate's.

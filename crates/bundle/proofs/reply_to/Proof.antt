@@ -3,9 +3,9 @@ use mathlib.Core.Path.{sym, _∙_}
 use native.Mathlib.Omega.{arith}
 use lib.Seq.{length-take-le}
 use borrow.Author.Needs.{needs}
-use Rattle.bundle.proofs.Words.{words-within, words-taken}
-use Rattle.bundle.proofs.Bundles.{sizes, record-short, rules-short, parts-told}
-use Rattle.bundle.proofs.Replying.{bad-replied}
+use Rattle.parts.proofs.Words.{words-within, words-taken}
+use Rattle.parts.proofs.Bundles.{sizes, record-short, rules-short}
+use Rattle.bundle.proofs.Replying.{bad-replied, parts-told}
 use Rattle.bundle.proofs.reply_to.Statement.{statement}
 use Rattle.bundle.proofs.reply_to.Tie as tie
 

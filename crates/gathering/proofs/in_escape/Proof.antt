@@ -1,7 +1,7 @@
 -- `gathering::in_escape` meets its contract. Assumes nothing.
 use mathlib.Core.Path.{_≡_, sym}
 use borrow.Author.Tests.{eq-eqb, ne-eqb}
-use Rattle.strings.specs.Atoms as strings
+use Rattle.putting.specs.Letters as putting
 use Rattle.naming.specs.Gathering.{shortAt}
 use borrow.Author.Needs.{needs}
 use Rattle.gathering.proofs.in_escape.Statement.{statement}
@@ -25,7 +25,7 @@ same-length : tie.Need-same-length
 same-length c = search needs
 
 returns-2 : tie.Need-returns-2
-unfolding shortAt strings.shortAt
+unfolding shortAt putting.shortAt
 returns-2 c =
     let a = c .before .before .before .before .before .before .before .args in
     let same : shortAt (a .byte) ≡ c .before .before .before .before .short-of .result = sym (c .before .before .before .before .short-of .ensures) in

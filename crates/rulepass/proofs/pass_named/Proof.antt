@@ -4,7 +4,8 @@ use mathlib.Core.Bool.{false≢true}
 use mathlib.Core.Path.{refl, sym, _∙_}
 use borrow.Author.Tests.{not-false}
 use Rattle.rulesheet.proofs.Trailers.{facts, form-e}
-use Rattle.rulepass.proofs.Clauses.{uncounted, listed-within, passed-list}
+use Rattle.rulesteps.proofs.Counting.{uncounted}
+use Rattle.rulepass.proofs.Clauses.{listed-within, passed-list}
 use borrow.Author.Needs.{needs}
 use Rattle.rulepass.proofs.pass_named.Statement.{statement}
 use Rattle.rulepass.proofs.pass_named.Tie as tie
