@@ -14,14 +14,22 @@ PROVES = 'amphorust: proves and builds the judge first, once, by %s: 3 crates, s
 
 # A prover that takes its time: the crates that it says to be proved, each after a while, and then the archive.
 SLOW_PROVER = '''#!/bin/sh
-test "$*" = "staticlib hub" || exit 9
-echo "rt: laws proved (unchanged since it was last proved)"
-sleep 1.2
-echo "fn judge::judge: proved"
-echo "rt: judge proved (50 s)"
-sleep 1.2
-mkdir -p target/staticlib
-cp %s target/staticlib
+test -d "$TMPDIR" || exit 8
+case "$*" in
+"check laws judge")
+    echo "rt: laws proved (unchanged since it was last proved)"
+    sleep 1.2
+    echo "fn judge::judge: proved"
+    echo "rt: judge proved (50 s)"
+    ;;
+"staticlib hub")
+    echo "rt: judge proved (unchanged since it was last proved)"
+    sleep 1.2
+    mkdir -p target/staticlib
+    cp %s target/staticlib
+    ;;
+*) exit 9 ;;
+esac
 '''
 
 
@@ -124,8 +132,8 @@ class Exits:
                                     'not there: put the bin folder of the Rattle kit on the PATH\n', 2))
         judges.write_program(rt, '#!/bin/sh\necho "refused: $*"\nexit 1\n')
         everywhere = '%s:%s' % (tools, os.environ['PATH'])
-        self.equal('rt fails', run(everywhere), ('', PROVES % rt + 'target/lib/libamphorust.so: not built: rt staticlib '
-                                                 'hub ended with 1: refused: staticlib hub\n', 2))
+        self.equal('rt fails', run(everywhere), ('', PROVES % rt + 'target/lib/libamphorust.so: not built: rt check '
+                                                 'ended with 1: refused: check laws judge\n', 2))
         judges.write_program(rt, SLOW_PROVER % judges.ARCHIVE)
         out, err, status = run(everywhere)
         self.equal('built', (out, err[:err.index('built in')], status), (

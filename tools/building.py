@@ -12,6 +12,7 @@ import shutil
 import subprocess
 import time
 
+from tools import scratch
 from tools.fault import CannotJudge
 
 ROOT = os.path.dirname(os.path.dirname(os.path.abspath(__file__)))
@@ -136,11 +137,21 @@ def date(made, made_from):
 
 
 def prove(rt, at_once):
-    """Runs the prover, and tells how far it is; of what it prints only the end, if it fails."""
-    progress, printed, told = Progress(crates()), [], None
+    """Has all that the library stands on proved, as many crates at a time as there are processors, and then the library
+    itself, which is proved as it is built; tells how far it is."""
+    progress = Progress(crates())
+    run(rt, ['check', *crates()[:-1]], progress, at_once)
+    run(rt, ['staticlib', CRATE], progress, at_once)
+    if not os.path.exists(ARCHIVE):
+        raise CannotJudge('not built: rt staticlib %s wrote no %s' % (CRATE, named(ARCHIVE)), file=named(LIBRARY))
+
+
+def run(rt, words, progress, at_once):
+    """Runs the prover; of what it prints only the end is told, if it fails."""
+    printed, told = [], None
     try:
-        running = subprocess.Popen([rt, 'staticlib', CRATE], cwd=ROOT, stdin=subprocess.DEVNULL,
-                                   stdout=subprocess.PIPE, stderr=subprocess.STDOUT)
+        running = subprocess.Popen([rt, *words], cwd=ROOT, env=dict(os.environ, TMPDIR=scratch.folder()),
+                                   stdin=subprocess.DEVNULL, stdout=subprocess.PIPE, stderr=subprocess.STDOUT)
     except OSError as fault:
         raise CannotJudge('does not run: %s' % fault.strerror.lower(), file=rt)
     for line in lines_in(running.stdout):
@@ -150,9 +161,9 @@ def prove(rt, at_once):
         elif progress.done != told:
             told = progress.done
             at_once(progress.words())
-    if running.wait() != 0 or not os.path.exists(ARCHIVE):
-        raise CannotJudge('not built: rt staticlib %s ended with %d: %s' % (CRATE, running.returncode,
-                                                                          ' / '.join(printed)), file=named(LIBRARY))
+    if running.wait() != 0:
+        raise CannotJudge('not built: rt %s ended with %d: %s' % (words[0], running.returncode, ' / '.join(printed)),
+                          file=named(LIBRARY))
 
 
 def lines_in(pipe):
@@ -173,25 +184,29 @@ class Progress:
     """How far the prover is, by the size of the crates: what is left takes as long for its size as what is done."""
 
     def __init__(self, names):
-        self.names, self.done, self.size_proved, self.start = names, 0, 0, time.monotonic()
         self.sizes = {name: sum(map(os.path.getsize, sources([name]))) for name in names}
+        self.left, self.size_proved, self.start = set(names), 0, time.monotonic()
+
+    @property
+    def done(self):
+        return len(self.sizes) - len(self.left)
 
     def takes(self, line):
         """Takes in a line that says that a crate is proved; of one that was before it tells nothing of the time."""
         found = PROVED.fullmatch(line)
-        if not found or found[1] not in self.names:
+        if not found or found[1] not in self.left:
             return
-        self.done = max(self.done, self.names.index(found[1]) + 1)
+        self.left.remove(found[1])
         if found[2].endswith(' s'):
             self.size_proved += self.sizes[found[1]]
         elif not self.size_proved:
             self.start = time.monotonic()
 
     def words(self):
-        left = sum(self.sizes[name] for name in self.names[self.done:])
+        left = sum(self.sizes[name] for name in self.left)
         spent = time.monotonic() - self.start
         about = ', about %s left' % duration(spent * left / self.size_proved) if self.size_proved else ''
-        return 'crate %d of %d%s' % (min(self.done + 1, len(self.names)), len(self.names), about)
+        return 'crate %d of %d%s' % (min(self.done + 1, len(self.sizes)), len(self.sizes), about)
 
 
 def duration(seconds):
