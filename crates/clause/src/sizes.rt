@@ -25,10 +25,11 @@ pub(crate) fn min_length(
     requires { ⌜ RecordRead (now «record») (now text) form × (row .0 < form .rows) ⌝ }
     ensures { λ r. ⌜ r ≡ atLeast lengthOf k (bytes? (docOf (now («record» .entry)) (now (text .entry)) .value (row .0))) ⌝ }
 {
+    let found = string_in(record, form, row);
     if k <= FEW {
-        return few_characters(text, string_in(record, form, row), k);
+        return few_characters(text, found, k);
     }
-    at_least(length_of(record, text, form, row), k)
+    at_least(length_of(text, found), k)
 }
 
 // Whether the row, if it is a string, has at most k characters. A short one is not counted.
@@ -42,8 +43,9 @@ pub(crate) fn max_length(
     requires { ⌜ RecordRead (now «record») (now text) form × (row .0 < form .rows) ⌝ }
     ensures { λ r. ⌜ r ≡ atMost lengthOf k (bytes? (docOf (now («record» .entry)) (now (text .entry)) .value (row .0))) ⌝ }
 {
-    if few_bytes(string_in(record, form, row), k) {
+    let found = string_in(record, form, row);
+    if few_bytes(found, k) {
         return true;
     }
-    at_most(length_of(record, text, form, row), k)
+    at_most(length_of(text, found), k)
 }

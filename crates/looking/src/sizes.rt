@@ -4,10 +4,11 @@ ghost use mathlib.Core.List.{List};
 ghost use mathlib.Core.Path.{_≡_};
 ghost use Prim.Native.Nat.{ℕ, _<_};
 ghost use lib.ListN.{length};
+ghost use Rattle.sheet.specs.Doc.{Value};
 ghost use Rattle.sheet.specs.Record.{textWord, docOf};
 ghost use Rattle.sheet.specs.Accepted.{Laid};
 ghost use Rattle.meaning.specs.Tests.{bytes?, elements?, members?, lengthOf};
-ghost use Rattle.looking.specs.Read.{RecordRead, sizeIn, sizeBy, sizeOf, StringFound};
+ghost use Rattle.looking.specs.Read.{FitsIn, sizeIn, sizeBy, sizeOf, StringFound};
 use crate::numbers::is_kind;
 use sheet::kind::RowKind;
 use sheet::record::RecordForm;
@@ -39,15 +40,15 @@ pub fn string_in(record: &[u32], form: RecordForm, row: RecordRow) -> Spelled
     Spelled::Bytes(string_of(record, form, row))
 }
 
-// The length of a string, in characters.
-pub fn length_of(record: &[u32], text: &[u8], form: RecordForm, row: RecordRow) -> Measured
-    requires { ⌜ RecordRead (now «record») (now text) form × (row .0 < form .rows) ⌝ }
-    ensures { λ r. ⌜ sizeIn r ≡ sizeBy lengthOf (bytes? (docOf (now («record» .entry)) (now (text .entry)) .value (row .0))) ⌝ }
+// How many characters a string has that was found.
+pub fn length_of(text: &[u8], found: Spelled) -> Measured
+    requires { ⌜ FitsIn (length (now text)) found ⌝ }
+    ensures { λ r. ⌜ ((v : Value) → StringFound (now (text .entry)) v found → sizeIn r ≡ sizeBy lengthOf (bytes? v)) ⌝ }
 {
-    if !is_kind(record, form, row, RowKind::STRING) {
-        return Measured::Other;
+    match found {
+        Spelled::Bytes(bytes) => Measured::Size(counting::characters(text, bytes)),
+        Spelled::Other => Measured::Other,
     }
-    Measured::Size(counting::characters(text, string_of(record, form, row)))
 }
 
 // How many elements an array has.

@@ -1,5 +1,4 @@
 -- Sizes, as they are limited.
---     string-inside                      the bytes that were read are within the text
 --     characters-hold, no-characters     a string of at least k characters, and what is none
 --     bytes-hold, no-bytes-hold          a string of at most k bytes, and what is none, has at most k characters
 --     size-holds, other-holds            what is asked of a size, by the size that was found
@@ -14,7 +13,7 @@ use lib.Dec.{leb}
 use lib.ListN.{length}
 use borrow.Author.Tests.{le-leb}
 use Rattle.text.specs.declared.Range.{Range}
-use Rattle.text.specs.Part.{fits, part}
+use Rattle.text.specs.Part.{part}
 use Rattle.text.proofs.Ranges.{part-length}
 use Rattle.counting.specs.Counting.{leadLength, countAfter, count}
 use Rattle.sheet.specs.Doc.{Value}
@@ -24,7 +23,7 @@ use Rattle.looking.specs.declared.sizes.Measured.the-variants.{Size, Other}
 use Rattle.looking.specs.declared.sizes.Spelled.{Spelled}
 use Rattle.looking.specs.declared.sizes.Spelled.the-variants as O
 use Rattle.looking.specs.declared.sizes.Spelled.the-variants.{Bytes}
-use Rattle.looking.specs.Read.{FitsIn, StringFound, sizeIn, sizeBy}
+use Rattle.looking.specs.Read.{StringFound, sizeIn, sizeBy}
 
 -- a string has not more characters than bytes
 few-after : (skip : ℕ) (bs : List ℕ) → countAfter skip bs ≤ length bs
@@ -37,9 +36,6 @@ few-after (suc skip) (b ∷ bs) = omega (arith, few-after skip bs)
 few : (bs : List ℕ) → lengthOf bs ≤ length bs
 unfolding count
 few bs = few-after 0 bs
-
-pub string-inside : (n : ℕ) (s : Spelled) (r : Range) → s ≡ Bytes r → FitsIn n s → fits n r ≡ true
-string-inside n s r e inside = rw e at inside
 
 module _ {ts : List ℕ} {v : Value} {s : Spelled} (found : StringFound ts v s) where
   pub characters-hold : (k : ℕ) (r : Range) → s ≡ Bytes r → leb k (lengthOf (part ts r)) ≡ atLeast lengthOf k (bytes? v)

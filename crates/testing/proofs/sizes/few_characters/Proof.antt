@@ -1,6 +1,7 @@
 -- `few_characters` meets its contract, for a string and for none. Assumes nothing.
 use mathlib.Core.Path.{_∙_}
-use Rattle.testing.proofs.Limits.{string-inside, characters-hold, no-characters}
+use Rattle.looking.proofs.Measures.{string-inside}
+use Rattle.testing.proofs.Limits.{characters-hold, no-characters}
 use borrow.Author.Needs.{needs}
 use Rattle.testing.proofs.sizes.few_characters.Statement.{statement}
 use Rattle.testing.proofs.sizes.few_characters.Tie as tie
