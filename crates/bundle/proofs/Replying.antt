@@ -34,7 +34,7 @@ use Rattle.parts.specs.declared.Bundle.the-variants.{Bad, Good}
 use Rattle.bundle.specs.declared.Reply.the-variants.{BadBundle, Refused, TooLarge, Judged}
 use Rattle.parts.specs.Bundle.{wordsOf, partsOf}
 use Rattle.bundle.specs.Printed.{side-max, tooLarge, toldJudged, toldSheets, toldParts, toldOf, Roomy, InOrder, Replies}
-use Rattle.parts.proofs.Bundles.{neither}
+use Rattle.laws.proofs.Tests.{neither}
 use Rattle.bundle.proofs.Lines.{listed-below, lines-shown}
 
 same-verdict : (b b′ : Bool) (c c′ k k′ : ℕ) → verdict b c k ≡ verdict b′ c′ k′ → (b ≡ b′) × (c ≡ c′) × (k ≡ k′)

@@ -3,7 +3,7 @@
 --     list-few                                                  how many entries there are
 --     entry-found, entry-nowhere, entries-all, entry-missed     by the entries
 -- Assumes nothing.
-use mathlib.Core.Bool.{Bool, true, false, _&&_, _||_}
+use mathlib.Core.Bool.{Bool, true, false, _&&_, _||_, or-true, and-false}
 use mathlib.Core.List.{List, map, map-map}
 use mathlib.Core.Logic.{⊎-elim}
 use mathlib.Core.Path.{_≡_, refl, sym, ap, _∙_}
@@ -26,14 +26,6 @@ pub range-run : (a k : ℕ) → range a k ≡ run k a
 unfolding range run
 range-run a zero = refl
 range-run a (suc k) = rw (range-run (suc a) k, add-one)
-
-or-true : (b : Bool) → (b || true) ≡ true
-or-true true = refl
-or-true false = refl
-
-and-false : (b : Bool) → (b && false) ≡ false
-and-false true = refl
-and-false false = refl
 
 nothing : (a x : ℕ) → a ≤ x → x < a + 0 → ⊥
 nothing a x low high = omega arith

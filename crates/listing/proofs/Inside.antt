@@ -14,11 +14,8 @@ use borrow.Author.Tests.{ltb-false, not-false}
 use Rattle.text.specs.Part.{fits}
 use Rattle.laws.specs.Lowest.{lowest}
 use Rattle.laws.proofs.Searches.{clear-below}
+use Rattle.laws.proofs.Tests.{neither}
 use Rattle.listing.specs.Listing.{recordsIn, wordsAt, textAt, outside, badListing}
-
-neither : (a b : Bool) → (a || b) ≡ false → (a ≡ false) × (b ≡ false)
-neither true b e = (e, cc)
-neither false b e = (refl, e)
 
 -- a listing that is not refused 30 has few records
 pub few-records : (listing : List ℕ) → badListing listing ≡ false → recordsIn listing ≤ 512

@@ -14,14 +14,10 @@ use native.Mathlib.Omega.{arith}
 use lib.Dec.{eqb, ltb}
 use lib.ListN.{length, take, drop, length-take, length-drop}
 use borrow.Author.Tests.{ltb-false, eqb-true, not-false}
-use Rattle.laws.proofs.Tests.{decide}
+use Rattle.laws.proofs.Tests.{decide, neither}
 use Rattle.parts.specs.declared.Lengths.{Lengths}
 use Rattle.parts.specs.declared.Bundle.the-variants.{Bad, Good}
 use Rattle.parts.specs.Bundle.{bundle-max, trailer-bytes, word-bytes, lengthsAt, recordLengths, ruleLengths, missized, misfit, bad, partsOf}
-
-pub neither : (a b : Bool) → (a || b) ≡ false → (a ≡ false) × (b ≡ false)
-neither false b e = (refl, e)
-neither true b e = let z : true ≡ false = e in (z, cc)
 
 pub size-enough : (size : ℕ) → missized size ≡ false → trailer-bytes ≤ size
 size-enough size e = ltb-false size trailer-bytes (neither (ltb bundle-max size) (ltb size trailer-bytes) e .1)

@@ -21,14 +21,6 @@ pub line-none : (code : ℕ) → lineIn [] code ≡ unknown
 unfolding lineIn
 line-none code = refl
 
--- a disjunction that fails
-pub neither : (p q : Bool) → (p || q) ≡ false → (p ≡ false) × (q ≡ false)
-neither true q e = absurd (no e)
-  where
-    no : true ≡ false → ⊥
-    no t = let z : _≡_ {A = ℕ} 0 1 = cc in omega arith
-neither false q e = (refl, e)
-
 -- a fact of each of `many` numbers from `low` on
 unfoldable pub Each : (ℕ → Type 0) → ℕ → ℕ → Type 0
 Each P low zero = Unit {0}

@@ -1,6 +1,5 @@
 -- Tests, and membership in lists.
 --     is-false, not-both         a test that does not hold fails, and none does both
---     neither-left, neither-right     a disjunction that fails has no part that holds
 --     at-in                      the number at a place of a list is in it
 --     take-more                  the first i + 1 numbers
 --     empty-none                 nothing is in a list without length
@@ -26,14 +25,6 @@ is-false false h = refl
 
 pub not-both : (b : Bool) → b ≡ true → b ≡ false → ⊥
 not-both b p q = true≢false (sym p ∙ q)
-
-pub neither-left : (a b : Bool) → (a || b) ≡ false → a ≡ false
-neither-left true b e = e
-neither-left false b e = refl
-
-pub neither-right : (a b : Bool) → (a || b) ≡ false → b ≡ false
-neither-right true b e = absurd (true≢false e)
-neither-right false b e = e
 
 -- ---- places in a list
 

@@ -16,7 +16,7 @@ use lib.Dec.{eqb}
 use lib.ListN.{length, getD, set, length-set}
 use lib.Seq.{getD-set-same, getD-set-other}
 use borrow.Author.Tests.{eqb-true, not-false}
-use Rattle.laws.proofs.Tests.{le-or-lt}
+use Rattle.laws.proofs.Tests.{le-or-lt, neither}
 use Rattle.laws.proofs.Searches.{lowest-is}
 use Rattle.rulesheet.specs.declared.form.RuleForm.{RuleForm}
 use Rattle.rulesheet.specs.Sheet.{schemasWord, clausesWord, schemaAt, targetsOf, nextOf}
@@ -25,7 +25,7 @@ use Rattle.unguarded.specs.Graph.{chain-steps, chain}
 use Rattle.unguarded.specs.Places.{chainPlace}
 use Rattle.unguarded.specs.Worklist.{Marked}
 use Rattle.unguarded.specs.Lengths.{Quiet, Takes, StartAfter, Raised, Noted, Told, Passed}
-use Rattle.unguarded.proofs.Lists.{is-false, neither-left, neither-right, empty-none, any-out}
+use Rattle.unguarded.proofs.Lists.{is-false, empty-none, any-out}
 use Rattle.unguarded.proofs.Steps.{clause-inside}
 use Rattle.unguarded.proofs.Takers.{start-after, takers-rise, taken-step, step-taken}
 use Rattle.unguarded.proofs.Lengths.{raised-chain}
@@ -188,7 +188,7 @@ module _ (ws : List ℕ) (form : RuleForm) (laid : RulesLaid ws form) where
         clause-done s p one v f n (set table s long) (again || not (eqb (getD late' s 0) 0)) (simp length-set)
         (getD-set-same table s long 0 (omega (arith, v .inside, p .told .room)))
         (λ u e. getD-set-other table s u long 0 e)
-        (λ e. (neither-left again _ e, inl (λ (h : Marked late' s). omega (arith, eqb-true (getD late' s 0) 0 (not-false _ (neither-right again _ e))))))
+        (λ e. (neither again _ e .0, inl (λ (h : Marked late' s). omega (arith, eqb-true (getD late' s 0) 0 (not-false _ (neither again _ e .1))))))
 
     pub clause-kept : long ≤ getD table s 0 → Passing ws table₀ table late' again s k
     clause-kept h =

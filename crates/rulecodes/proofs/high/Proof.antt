@@ -8,7 +8,8 @@ use borrow.Author.Tests.{eqb-true, eqb-false}
 use Rattle.laws.proofs.Tests.{le-or-lt, either}
 use Rattle.rulesheet.specs.declared.code.Fields.the-variants.{Schema}
 use Rattle.rulesheet.specs.Codes.{CodeLine, lineIn, shapeOf, guardedShape}
-use Rattle.rulesheet.proofs.Lines.{neither, past-thirty-four, past-sixty-one}
+use Rattle.laws.proofs.Tests.{neither}
+use Rattle.rulesheet.proofs.Lines.{past-thirty-four, past-sixty-one}
 use borrow.Author.Needs.{needs}
 use Rattle.rulecodes.proofs.high.Statement.{statement}
 use Rattle.rulecodes.proofs.high.Tie as tie

@@ -6,7 +6,7 @@ use Prim.Native.Nat.{_+_}
 use lib.Dec.{eqb}
 use lib.ListN.{length}
 use borrow.Author.Tests.{eqb-false}
-use Rattle.rulesheet.proofs.Lines.{neither}
+use Rattle.laws.proofs.Tests.{neither}
 use Rattle.rulelists.proofs.Entries.{name-fits, two-differ, three-differ, four-differ}
 use borrow.Author.Needs.{needs}
 use Rattle.rulelists.proofs.keys_differ.Statement.{statement}
