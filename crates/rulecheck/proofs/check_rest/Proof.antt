@@ -3,9 +3,10 @@ use native.Mathlib.Omega.{arith}
 use mathlib.Core.Path.{sym, ap, _∙_}
 use Rattle.sheet.specs.Refusals.{accepted, refused}
 use Rattle.rulesheet.proofs.Trailers.{facts, form-m, form-c, form-e}
-use Rattle.rules.proofs.Checks.{trailer-formed, text-length, text-short, rest-text, rest-loop, rest-chain, rest-none, rest-short}
-use Rattle.rules.proofs.check_rest.Statement.{statement}
-use Rattle.rules.proofs.check_rest.Tie as tie
+use Rattle.rules.proofs.Checks.{text-length, text-short}
+use Rattle.rulecheck.proofs.Rest.{trailer-formed, rest-text, rest-loop, rest-chain, rest-none, rest-short}
+use Rattle.rulecheck.proofs.check_rest.Statement.{statement}
+use Rattle.rulecheck.proofs.check_rest.Tie as tie
 
 first-not-utf8-requires : tie.Need-first-not-utf8-requires
 first-not-utf8-requires c κs = (c .before .before .pre .0 .1 .rules-laid, text-length (c .before .before .args .words .now) (c .before .before .args .text .now) (c .before .before .pre .0 .0 .good), omega (arith, text-short (c .before .before .args .words .now) (c .before .before .args .text .now) (c .before .before .pre .0 .0 .good)))

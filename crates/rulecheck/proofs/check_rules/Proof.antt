@@ -5,11 +5,12 @@ use native.Mathlib.Omega.{arith}
 use borrow.Author.Tests.{not-true, not-false}
 use Rattle.sheet.specs.Refusals.{accepted}
 use Rattle.rulesheet.proofs.Trailers.{form-m}
 use Rattle.rules.specs.Accepted.{TrailerFine}
-use Rattle.rules.proofs.Checks.{at-trailer, words-in-order, text-length, text-short, trailer-formed, rest-plain}
+use Rattle.rules.proofs.Checks.{at-trailer, words-in-order, text-length, text-short}
+use Rattle.rulecheck.proofs.Rest.{trailer-formed, rest-plain}
 use borrow.Author.Needs.{needs}
-use Rattle.rules.proofs.check_rules.Statement.{statement}
-use Rattle.rules.proofs.check_rules.Tie as tie
+use Rattle.rulecheck.proofs.check_rules.Statement.{statement}
+use Rattle.rulecheck.proofs.check_rules.Tie as tie
 
 trailer-ok-requires : tie.Need-trailer-ok-requires
 trailer-ok-requires c κs = search needs

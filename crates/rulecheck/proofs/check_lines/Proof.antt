@@ -7,10 +7,11 @@ use Rattle.sheet.specs.Refusals.{refused}
 use Rattle.rulesheet.specs.Sheet.{entriesWord}
 use Rattle.rulesheet.specs.Faults.{repeated}
 use Rattle.rulesheet.proofs.Trailers.{facts, form-m, form-c, form-e}
-use Rattle.rules.proofs.Checks.{nowhere, trailer-formed, schemas-laid, clauses-laid, rules-laid, text-length, at-schema, at-clause, at-entry, at-name}
+use Rattle.rules.proofs.Checks.{nowhere, schemas-laid, clauses-laid, rules-laid, text-length, at-schema, at-clause, at-entry, at-name}
+use Rattle.rulecheck.proofs.Rest.{trailer-formed}
 use borrow.Author.Needs.{needs}
-use Rattle.rules.proofs.check_lines.Statement.{statement}
-use Rattle.rules.proofs.check_lines.Tie as tie
+use Rattle.rulecheck.proofs.check_lines.Statement.{statement}
+use Rattle.rulecheck.proofs.check_lines.Tie as tie
 
 first-bad-schema-requires : tie.Need-first-bad-schema-requires
 first-bad-schema-requires c κs = trailer-formed (c .before .before .args .words .now) (c .before .before .args .text .now) (c .before .before .args .form) (c .before .before .pre)
