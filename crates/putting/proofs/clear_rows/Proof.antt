@@ -6,10 +6,10 @@ use Prim.Native.Nat.{ℕ, _*_, _≤_, _-_}
 use native.Mathlib.Omega.{arith}
 use borrow.Author.Needs.{needs}
 use lib.ListN.{length, drop, set, replicate, length-set}
 use Rattle.placing.specs.Desk.{cleared}
-use Rattle.placing.proofs.Cells.{clear-more}
-use Rattle.placing.proofs.clear_rows.Statement.{statement}
-use Rattle.placing.proofs.clear_rows.Tie as tie
+use Rattle.putting.proofs.Cells.{clear-more}
+use Rattle.putting.proofs.clear_rows.Statement.{statement}
+use Rattle.putting.proofs.clear_rows.Tie as tie
 
 abbrev Inv-loop : tie.InvT-loop
 Inv-loop words₀ n end i₀ words i = (words ≡ replicate i 0 ++ drop i words₀) × (length words ≡ length words₀) × (i ≤ end)

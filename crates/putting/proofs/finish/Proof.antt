@@ -1,11 +1,11 @@
 -- `placing::finish` meets its contract.
 -- Assumes nothing.
-use Rattle.placing.proofs.Cells.{trailer-put}
+use Rattle.putting.proofs.Cells.{trailer-put}
 use native.Mathlib.Omega.{arith}
 use lib.ListN.{length-set}
 use borrow.Author.Needs.{needs}
-use Rattle.placing.proofs.finish.Statement.{statement}
-use Rattle.placing.proofs.finish.Tie as tie
+use Rattle.putting.proofs.finish.Statement.{statement}
+use Rattle.putting.proofs.finish.Tie as tie
 
 mul-back : tie.Need-mul-back
 mul-back c = search needs
