@@ -5,8 +5,8 @@ use Rattle.unguarded.specs.Lengths.{Quiet}
 use Rattle.unguarded.proofs.Steps.{clause-count}
 use Rattle.unguarded.proofs.Takers.{quiet-none, quiet-more}
 use borrow.Author.Needs.{needs}
-use Rattle.chains.proofs.last_step.Statement.{statement}
-use Rattle.chains.proofs.last_step.Tie as tie
+use Rattle.links.proofs.last_step.Statement.{statement}
+use Rattle.links.proofs.last_step.Tie as tie
 
 abbrev Inv-loop : tie.InvT-loop
 Inv-loop words form to k₀ k =

@@ -8,8 +8,8 @@ use Rattle.unguarded.specs.Lengths.{StartAfter}
 use Rattle.unguarded.proofs.Steps.{schema-count}
 use Rattle.unguarded.proofs.Takers.{taker-here, first-low, after-more}
 use borrow.Author.Needs.{needs}
-use Rattle.chains.proofs.taker.Statement.{statement}
-use Rattle.chains.proofs.taker.Tie as tie
+use Rattle.links.proofs.taker.Statement.{statement}
+use Rattle.links.proofs.taker.Tie as tie
 
 abbrev Inv-loop : tie.InvT-loop
 Inv-loop words form k s₀ s =

@@ -3,8 +3,8 @@ use native.Mathlib.Omega.{arith}
 use mathlib.Core.Logic.{inl, inr}
 use mathlib.Core.Path.{refl}
 use borrow.Author.Needs.{needs}
-use Rattle.chains.proofs.longer.Statement.{statement}
-use Rattle.chains.proofs.longer.Tie as tie
+use Rattle.links.proofs.longer.Statement.{statement}
+use Rattle.links.proofs.longer.Tie as tie
 
 returns : tie.Need-returns
 returns c =
