@@ -1,12 +1,12 @@
 -- `placing::put_row` meets its contract.
 -- Assumes nothing.
 use mathlib.Core.List.{[], _∷_}
-use Rattle.putting.proofs.Cells.{put-out, put-done}
+use Rattle.setting.proofs.Cells.{put-out, put-done}
 use native.Mathlib.Omega.{arith}
 use lib.ListN.{length-set}
 use borrow.Author.Needs.{needs}
-use Rattle.putting.proofs.put_row.Statement.{statement}
-use Rattle.putting.proofs.put_row.Tie as tie
+use Rattle.setting.proofs.put_row.Statement.{statement}
+use Rattle.setting.proofs.put_row.Tie as tie
 
 returns : tie.Need-returns
 returns c = let a = c .before .args in put-out (a .words .now) (a .n) (a .r) (omega arith) (a .row .kind ∷ a .row .first ∷ a .row .count ∷ a .row .owner ∷ a .label .start ∷ a .label .length ∷ [])

@@ -1,10 +1,10 @@
 -- `placing::owner_at` meets its contract.
 -- Assumes nothing.
 use native.Mathlib.Omega.{arith}
-use Rattle.putting.proofs.Cells.{owner-root, owner-above}
+use Rattle.setting.proofs.Cells.{owner-root, owner-above}
 use borrow.Author.Needs.{needs}
-use Rattle.putting.proofs.owner_at.Statement.{statement}
-use Rattle.putting.proofs.owner_at.Tie as tie
+use Rattle.setting.proofs.owner_at.Statement.{statement}
+use Rattle.setting.proofs.owner_at.Tie as tie
 
 returns : tie.Need-returns
 returns c = let a = c .before .args in owner-root (a .k) (a .rows .now) (omega arith)

@@ -7,9 +7,9 @@ use native.Mathlib.Omega.{arith}
 use borrow.Author.Needs.{needs}
 use lib.ListN.{length, drop, set, replicate, length-set}
 use Rattle.placing.specs.Desk.{cleared}
-use Rattle.putting.proofs.Cells.{clear-more}
-use Rattle.putting.proofs.clear_rows.Statement.{statement}
-use Rattle.putting.proofs.clear_rows.Tie as tie
+use Rattle.setting.proofs.Cells.{clear-more}
+use Rattle.setting.proofs.clear_rows.Statement.{statement}
+use Rattle.setting.proofs.clear_rows.Tie as tie
 
 abbrev Inv-loop : tie.InvT-loop
 Inv-loop words₀ n end i₀ words i = (words ≡ replicate i 0 ++ drop i words₀) × (length words ≡ length words₀) × (i ≤ end)

@@ -1,11 +1,11 @@
 -- `placing::shut_row` meets its contract.
 -- Assumes nothing.
-use Rattle.putting.proofs.Cells.{shut-out, shut-scalar, shut-none, shut-some}
+use Rattle.setting.proofs.Cells.{shut-out, shut-scalar, shut-none, shut-some}
 use native.Mathlib.Omega.{arith}
 use lib.ListN.{length-set}
 use borrow.Author.Needs.{needs}
-use Rattle.putting.proofs.shut_row.Statement.{statement}
-use Rattle.putting.proofs.shut_row.Tie as tie
+use Rattle.setting.proofs.shut_row.Statement.{statement}
+use Rattle.setting.proofs.shut_row.Tie as tie
 
 returns : tie.Need-returns
 returns c = let a = c .before .args in shut-out (a .words .now) (a .n) (a .r) (omega arith) (a .next)
