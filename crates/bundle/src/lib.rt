@@ -85,7 +85,7 @@ fn reply_to_sheets<'a>(
 {
     match recordcheck::check_record(record, text) {
         Checked::Refused(refusal, place) => Reply::Refused(refusal, place),
-        Checked::Accepted(n) => match rules::check_rules(rules, rule_text) {
+        Checked::Accepted(n) => match rulecheck::check_rules(rules, rule_text) {
             Checked::Refused(refusal, place) => Reply::Refused(refusal, place),
             Checked::Accepted(m) => {
                 if too_large(n, m) {

@@ -9,63 +9,19 @@ ghost use Rattle.rulesheet.specs.Sheet.{schemasWord, clausesWord, targetsOf, ne
 ghost use Rattle.rulesheet.specs.Read.{RulesLaid};
 ghost use Rattle.unguarded.specs.Graph.{chain-steps};
 ghost use Rattle.unguarded.specs.Places.{chainPlace};
-ghost use Rattle.unguarded.specs.Lengths.{Quiet, StartAfter, Takes, Longer, Noted, Raised, Passed, Lengths, Ready};
+ghost use Rattle.unguarded.specs.Lengths.{Noted, Raised, Passed, Lengths, Ready};
+use links::CHAIN_STEPS;
+use links::last_step;
+use links::longer;
+use links::taker;
 use rulereader::steps::step_at;
 use rulereader::steps::steps_of;
 use rulesheet::form::RuleForm;
-use rulesheet::form::schema_at;
 use sheet::record::RuleRow;
 use sheet::record::wide;
 
-// The steps of a chain that is refused; it has one schema more.
-const CHAIN_STEPS: u8 = 32;
-
 // So many schemas, or fewer, have smaller tables, which are blanked sooner.
 const FEW: usize = 64;
-
-// One past the last of the first `to` clauses that has a step; 0 if none has.
-fn last_step(words: &[u32], form: RuleForm, to: u32) -> u32
-    requires { ⌜ RulesLaid (now words) form × (to ≤ clausesWord (now words)) ⌝ }
-    ensures { λ r. ⌜ Quiet (now (words .entry)) r to ⌝ }
-{
-    let mut k = to;
-    while 0 < k {
-        if steps_of(words, form, k - 1) != 0 {
-            return k;
-        }
-        k -= 1;
-    }
-    k
-}
-
-// The schema that takes clause k, if those after `last` start after it.
-fn taker(words: &[u32], form: RuleForm, last: RuleRow, k: u32) -> RuleRow
-    requires { ⌜ RulesLaid (now words) form × (last .0 < schemasWord (now words)) × (k < clausesWord (now words)) × StartAfter (now words) (last .0) k ⌝ }
-    ensures { λ r. ⌜ Takes (now (words .entry)) (r .0) k ⌝ }
-{
-    let mut s = last.0;
-    while 0 < s {
-        if schema_at(words, form, RuleRow(s)).first <= k {
-            return RuleRow(s);
-        }
-        s -= 1;
-    }
-    RuleRow(s)
-}
-
-// The longer of `most` and a chain with one step more than `length`, as far as lengths are told.
-fn longer(most: u8, length: u8) -> u8
-    requires { ⌜ most ≤ chain-steps ⌝ }
-    ensures { λ r. ⌜ Longer most length r ⌝ }
-{
-    if length < most {
-        return most;
-    }
-    if length < CHAIN_STEPS {
-        return length + 1;
-    }
-    CHAIN_STEPS
-}
 
 // Marks schema t if a step from s to it does not lead to a later schema.
 fn mark_late(late: &mut [u8], s: RuleRow, t: RuleRow)

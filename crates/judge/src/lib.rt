@@ -11,7 +11,7 @@ ghost use Rattle.lent.specs.Lent.{wayBy};
 ghost use Rattle.answer.specs.Call.{leaves, callLeaves, verdictLeaves};
 use answer::Answer;
 use recordcheck::check_record;
-use rules::check_rules;
+use rulecheck::check_rules;
 use rulesheet::form::RuleForm;
 use run::list_room;
 use sheet::record::RecordForm;

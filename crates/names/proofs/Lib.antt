@@ -1,5 +1,2 @@
 pub mod Repeats
-pub mod Chains
 pub mod Signs
-pub mod Ways
-pub mod Growing

@@ -1,4 +1,4 @@
--- The first name of a text that is amiss is the lowest of its tagged names that an earlier one repeats, as crate `names` finds it.
+-- The first name of a text that is amiss is the lowest of its tagged names that an earlier one repeats, as crate `namesakes` finds it.
 --     amiss-first    the theorem
 -- Assumes nothing.
 use mathlib.Core.Bool.{Bool, true, false, cond, _&&_, _||_}

@@ -1,4 +1,3 @@
-pub mod Cells
 pub mod Words
 pub mod Steps
 pub mod Passing

@@ -14,7 +14,7 @@ use listing::Queued;
 use listing::records_in;
 use listing::test_listing;
 use recordcall::judge_listed;
-use rules::check_rules;
+use rulecheck::check_rules;
 use sheet::refusal::Checked;
 
 // Judges the listed records by the rules, whatever the words, texts, listing and areas. A refused call

@@ -85,7 +85,7 @@ fn apart(words: &[u32], text: &[u8], form: RecordForm, first: u32, count: u32) -
         stride: RecordForm::ROW_WORDS,
         count: all,
     };
-    all <= names::first_repeated(words, text, lying)
+    all <= namesakes::first_repeated(words, text, lying)
 }
 
 // The same as `children_ok` of an object, and that no two of them share a name.

@@ -31,7 +31,7 @@ fn lowest_under(words: &[u32], text: &[u8], form: RecordForm, o: u32, least: u32
         stride: RecordForm::ROW_WORDS,
         count: count,
     };
-    let at = names::first_repeated(words, text, lying);
+    let at = namesakes::first_repeated(words, text, lying);
     if count <= at {
         return least;
     }

@@ -13,7 +13,7 @@ use brackets::Open;
 use follow::End;
 use follow::follow;
 use names::Names;
-use names::first_repeated;
+use namesakes::first_repeated;
 use scan::first_pass;
 use survey::Watch;
 use watching::numbers::number_ends;

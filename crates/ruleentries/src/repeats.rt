@@ -27,7 +27,7 @@ fn first_repeated_in(words: &[u32], text: &[u8], form: RuleForm, k: u32) -> u32
         stride: RuleForm::ENTRY_WORDS,
         count: wide(clause.count),
     };
-    clause.first + narrow(names::first_repeated(words, text, lying))
+    clause.first + narrow(namesakes::first_repeated(words, text, lying))
 }
 
 // A number of entries as a word.

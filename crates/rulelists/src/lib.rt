@@ -134,7 +134,7 @@ fn names_differ(words: &[u32], text: &[u8], form: RuleForm, first: u32, count: u
         stride: RuleForm::ENTRY_WORDS,
         count: wide(count),
     };
-    names::first_repeated(words, text, lying) == wide(count)
+    namesakes::first_repeated(words, text, lying) == wide(count)
 }
 
 // The same; most lists have few names, whose keys tell.

@@ -4,7 +4,7 @@
 ghost use mathlib.Core.Path.{_≡_};
 ghost use Rattle.sheetcheck.specs.LastWord.{outcomeByKind, checkOutcome};
 use recordcheck::check_record;
-use rules::check_rules;
+use rulecheck::check_rules;
 use rulesheet::form::RuleForm;
 use sheet::record::RecordForm;
 use sheet::refusal::Checked;

@@ -10,12 +10,12 @@ ghost use Rattle.placing.specs.Desk.{rowPut, rowShut, ownerAt};
 ghost use Rattle.writing.specs.Reading.{isBlank, blanksOf, Reading, Going, Ready, deskOf, Writable, Stands};
 use figures::byte_at;
 use figures::read_number;
-use placing::Content;
-use placing::clear_rows;
-use placing::finish;
-use placing::owner_at;
-use placing::put_row;
-use placing::shut_row;
+use setting::Content;
+use setting::clear_rows;
+use setting::finish;
+use setting::owner_at;
+use setting::put_row;
+use setting::shut_row;
 use strings::copy_string;
 use text::Range;
 

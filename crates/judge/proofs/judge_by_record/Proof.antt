@@ -10,7 +10,7 @@ use Rattle.judge.proofs.judge_by_record.Reads as reads
 use Rattle.judge.proofs.judge_by_record.Lts as lts
 use Rattle.judge.proofs.judge_checked.Reads as judge-checked-reads
 use Rattle.recordcheck.proofs.check_record.Reads as check-record-reads
-use Rattle.rules.proofs.check_rules.Reads as check-rules-reads
+use Rattle.rulecheck.proofs.check_rules.Reads as check-rules-reads
 
 check-record-requires : tie.Need-check-record-requires
 check-record-requires c κs = search needs

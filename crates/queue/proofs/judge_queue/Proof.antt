@@ -6,7 +6,7 @@ use Rattle.queue.proofs.judge_queue.Reads as reads
 use Rattle.queue.proofs.judge_queue.Lts as lts
 use Rattle.listing.proofs.test_listing.Reads as test-listing-reads
 use Rattle.queue.proofs.judge_all.Reads as judge-all-reads
-use Rattle.rules.proofs.check_rules.Reads as check-rules-reads
+use Rattle.rulecheck.proofs.check_rules.Reads as check-rules-reads
 
 test-listing-requires : tie.Need-test-listing-requires
 test-listing-requires c κs = search needs

@@ -4,7 +4,7 @@ use mathlib.Core.Path.{_≡_, refl, sym, _∙_}
 use Prim.Native.Nat.{_-_}
 use native.Mathlib.Omega.{arith}
 use lib.ListN.{getD}
-use Rattle.placing.proofs.Cells.{owner-above}
+use Rattle.setting.proofs.Cells.{owner-above}
 use borrow.Author.Needs.{needs}
 use Rattle.writing.proofs.close_row.Statement.{statement}
 use Rattle.writing.proofs.close_row.Tie as tie

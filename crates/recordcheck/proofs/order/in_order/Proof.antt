@@ -1,7 +1,7 @@
 -- `in_order` meets its contract: either table is clear, and has room for the rows. Assumes nothing.
 use native.Mathlib.Omega.{arith}
 use borrow.Author.Needs.{needs}
-use Rattle.names.proofs.Growing.{clear}
+use Rattle.nametables.proofs.Growing.{clear}
 use Rattle.sheet.proofs.Trailers.{form-few}
 use Rattle.recordcheck.proofs.order.in_order.Statement.{statement}
 use Rattle.recordcheck.proofs.order.in_order.Tie as tie
