@@ -185,15 +185,15 @@ class Inputs:
     def progress(self):
         """Of many records standard error tells how many are judged, if it is a terminal and standard output is none."""
         self.write('s.json', {'type': 'null'})
-        self.write('q.jsonl', 'null\n' * 4000 + '1\n')
-        for count, told in ((4001, True), (3, False)):
-            self.write('few.jsonl', 'null\n' * 3)
+        for count, told in ((1001, True), (3, False)):
             controller, terminal = pty.openpty()
-            running = subprocess.Popen([self.runs.command, 'check', 's.json', 'q.jsonl' if told else 'few.jsonl'],
-                                       cwd=self.runs.files, stdout=subprocess.PIPE, stderr=terminal)
+            running = subprocess.Popen([self.runs.command, 'check', 's.json', '--lines', '-'], cwd=self.runs.files,
+                                       stdin=subprocess.PIPE, stdout=subprocess.PIPE, stderr=terminal)
             os.close(terminal)
-            out = running.stdout.read()
-            running.wait()
+            running.stdin.write(b'null\n' * (count - 1))
+            running.stdin.flush()
+            time.sleep(1)               # however fast it is, what is told of the last record comes later than the first
+            out = running.communicate(b'1\n')[0]
             shown = b''
             while select.select([controller], [], [], 0)[0]:
                 try:
