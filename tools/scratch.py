@@ -1,5 +1,5 @@
 """The folder for the prover's temporary files: for each crate it writes there thousands of small files, all that was
-proved below it, and a disk takes a quarter of the whole time for that."""
+proved below it, which on a disk takes a fifth of a check's time."""
 import os
 import tempfile
 
