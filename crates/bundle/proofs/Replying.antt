@@ -33,6 +33,7 @@ use Rattle.parts.specs.declared.Lengths.{Lengths}
 use Rattle.parts.specs.declared.Bundle.the-variants.{Bad, Good}
 use Rattle.bundle.specs.declared.Reply.the-variants.{BadBundle, Refused, TooLarge, Judged}
 use Rattle.parts.specs.Bundle.{wordsOf, partsOf}
+use Rattle.parts.proofs.Bundles.{text, rules, rule-text, end}
 use Rattle.bundle.specs.Printed.{side-max, tooLarge, toldJudged, toldSheets, toldParts, toldOf, Roomy, InOrder, Replies}
 use Rattle.laws.proofs.Tests.{neither}
 use Rattle.bundle.proofs.Lines.{listed-below, lines-shown}
@@ -53,26 +54,14 @@ bad-replied bs e = record { tells = rw e; readable = tt }
 
 -- the parts of a good bundle as they are taken, one after the other
 module _ (bs : List ℕ) (a b : Lengths) (good : partsOf bs ≡ Good a b) where
-  abbrev text : ℕ
-  text = a .words
-
-  abbrev rules : ℕ
-  rules = text + a .text
-
-  abbrev rule-text : ℕ
-  rule-text = rules + b .words
-
-  abbrev end : ℕ
-  end = rule-text + b .text
-
   pub parts-told : (cs ls : List ℕ)
-      → toldSheets (wordsOf (take text bs)) (take (rules - text) (drop text bs)) (wordsOf (take (rule-text - rules) (drop rules bs))) (take (end - rule-text) (drop rule-text bs)) cs ls
+      → toldSheets (wordsOf (take (text a) bs)) (take (rules a - text a) (drop (text a) bs)) (wordsOf (take (rule-text a b - rules a) (drop (rules a) bs))) (take (end a b - rule-text a b) (drop (rule-text a b) bs)) cs ls
       ≡ toldOf bs cs ls
   unfolding toldParts
   parts-told cs ls =
-      let x : rules - text ≡ a .text = omega arith in
-      let y : rule-text - rules ≡ b .words = omega arith in
-      let z : end - rule-text ≡ b .text = omega arith in
+      let x : rules a - text a ≡ a .text = omega arith in
+      let y : rule-text a b - rules a ≡ b .words = omega arith in
+      let z : end a b - rule-text a b ≡ b .text = omega arith in
       rw (x, y, z, good)
 
 module _ (ws ts rs us : List ℕ) where

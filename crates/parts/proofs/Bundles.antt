@@ -47,20 +47,20 @@ module _ (bs : List ℕ) where
 
 -- ---- a good bundle
 
+-- where its parts start after the first, and where the last ends
+abbrev pub text : Lengths → ℕ
+text a = a .words
+
+abbrev pub rules : Lengths → ℕ
+rules a = text a + a .text
+
+abbrev pub rule-text : Lengths → Lengths → ℕ
+rule-text a b = rules a + b .words
+
+abbrev pub end : Lengths → Lengths → ℕ
+end a b = rule-text a b + b .text
+
 module _ (bs : List ℕ) (a b : Lengths) (good : partsOf bs ≡ Good a b) where
-  -- where the parts start after the first, and where the last ends
-  abbrev text : ℕ
-  text = a .words
-
-  abbrev rules : ℕ
-  rules = text + a .text
-
-  abbrev rule-text : ℕ
-  rule-text = rules + b .words
-
-  abbrev end : ℕ
-  end = rule-text + b .text
-
   not-bad : bad bs ≡ false
   unfolding partsOf
   not-bad = ⊎-elim (λ (t : bad bs ≡ true). let z : Bad ≡ Good a b = rw t at good in cc) (λ t. t) (decide (bad bs))
@@ -73,24 +73,24 @@ module _ (bs : List ℕ) (a b : Lengths) (good : partsOf bs ≡ Good a b) where
   unfolding bad
   both = neither (missized (length bs)) (misfit (length bs) (recordLengths bs) (ruleLengths bs)) not-bad
 
-  whole : end + trailer-bytes ≡ length bs
+  whole : end a b + trailer-bytes ≡ length bs
   whole =
       let e : recordLengths bs ≡ a = (let z = lengths-are in cc) in
       let f : ruleLengths bs ≡ b = (let z = lengths-are in cc) in
       let t : misfit (length bs) a b ≡ false = rw (e, f) at (both .1) in
-      let sum = eqb (end + trailer-bytes) (length bs) in
+      let sum = eqb (end a b + trailer-bytes) (length bs) in
       let four = eqb (a .words % word-bytes) 0 in
       let u = neither (not sum || not four) (not (eqb (b .words % word-bytes) 0)) t .0 in
       eqb-true _ _ (not-false sum (neither (not sum) (not four) u .0))
 
-  pub sizes : (end + trailer-bytes ≡ length bs) × (length bs ≤ bundle-max)
+  pub sizes : (end a b + trailer-bytes ≡ length bs) × (length bs ≤ bundle-max)
   sizes = (whole, ltb-false bundle-max (length bs) (neither (ltb bundle-max (length bs)) (ltb (length bs) trailer-bytes) (both .0) .0))
 
   part-short : (long start : ℕ) → length (take long (drop start bs)) ≤ bundle-max
   part-short long start = rw (length-take long (drop start bs), length-drop start bs) (omega (arith, sizes .1, min-le-right long (length bs - start)))
 
-  pub record-short : length (take text bs) ≤ bundle-max
-  record-short = part-short text 0
+  pub record-short : length (take (text a) bs) ≤ bundle-max
+  record-short = part-short (text a) 0
 
-  pub rules-short : length (take (rule-text - rules) (drop rules bs)) ≤ bundle-max
-  rules-short = part-short (rule-text - rules) rules
+  pub rules-short : length (take (rule-text a b - rules a) (drop (rules a) bs)) ≤ bundle-max
+  rules-short = part-short (rule-text a b - rules a) (rules a)
