@@ -5,7 +5,7 @@ use sheet::refusal::Refusal;
 
 // Valid or invalid, each with the number of settled pairs and that of marked children of the root;
 // or refused, with the refusal and its place.
-#[derive(Drop)]
+#[derive(Clone, Copy)]
 pub enum Answer {
     Valid(usize, usize),
     Invalid(usize, usize),

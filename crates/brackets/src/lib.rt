@@ -6,7 +6,7 @@ ghost use Rattle.std.specs.Prelude.{◌<◌, ◌+◌};
 ghost use Rattle.brackets.specs.Brackets.{Around, Fits, Turned};
 
 // The brackets that are open, the innermost lowest, and how many there are.
-#[derive(Drop)]
+#[derive(Clone, Copy)]
 pub struct Open {
     pub bits: u64,
     pub depth: u32,

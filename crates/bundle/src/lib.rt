@@ -20,7 +20,7 @@ pub const AREA: usize = (SIDE_MAX * SIDE_MAX) as usize;
 
 // The verdict, and how many schemas there are, how many pairs were settled and how many children of
 // the root are marked.
-#[derive(Drop)]
+#[derive(Clone, Copy)]
 pub struct Judgement {
     pub valid: bool,
     pub schemas: usize,
@@ -29,7 +29,7 @@ pub struct Judgement {
 }
 
 // All that is printed but for the lines of the settled pairs, which `line_at` gives.
-#[derive(Drop)]
+#[derive(Clone, Copy)]
 pub enum Reply {
     BadBundle,
     Refused(Refusal, u32),
@@ -38,7 +38,7 @@ pub enum Reply {
 }
 
 // A settled pair, and whether it held.
-#[derive(Drop)]
+#[derive(Clone, Copy)]
 pub struct Line {
     pub row: usize,
     pub schema: usize,

@@ -10,7 +10,7 @@ ghost use Rattle.std.specs.Int.Signed.{le_z, lt_z};
 ghost use Rattle.decimal.specs.Value.{scale_max, digits_max, value, Plain, equal_z, is_whole, is_multiple, OfWord};
 
 // digits / 10^scale, below zero if `below` says so. Zero may have either sign.
-#[derive(Drop)]
+#[derive(Clone, Copy)]
 pub struct Decimal {
     pub below: bool,
     pub digits: u64,

@@ -10,7 +10,7 @@ use numeral::{Kept, Written, digit_more, power_more, write_down};
 
 // The digits up to the last that is not 0 and how many zeros follow it, how many digits stand
 // behind the point, whether the exponent has a minus, and the exponent.
-#[derive(Drop)]
+#[derive(Clone, Copy)]
 pub struct Figure {
     pub kept: u64,
     pub zeros: u32,

@@ -9,14 +9,14 @@ ghost use Rattle.figures.specs.Figures.{is_digit, is_letter, Sound, DigitsAt, Di
 use numeral::{Kept, digit_more, power_more, word_of, write_down};
 
 // What is kept of digits up to a place of the text.
-#[derive(Drop)]
+#[derive(Clone, Copy)]
 struct Run {
     to: usize,
     kept: Kept,
 }
 
 // The same of a number's whole part and its fraction, and how many digits the fraction has.
-#[derive(Drop)]
+#[derive(Clone, Copy)]
 struct Part {
     to: usize,
     places: u32,
@@ -24,14 +24,14 @@ struct Part {
 }
 
 // An exponent up to a place of the text.
-#[derive(Drop)]
+#[derive(Clone, Copy)]
 struct Power {
     to: usize,
     value: u64,
 }
 
 // By how much an exponent moves the point to the right, and to the left.
-#[derive(Drop)]
+#[derive(Clone, Copy)]
 struct Shift {
     to: usize,
     up: u32,
@@ -39,7 +39,7 @@ struct Shift {
 }
 
 // Where a number ends in the text, the word of its digits, and its scale.
-#[derive(Drop)]
+#[derive(Clone, Copy)]
 pub struct Figure {
     pub to: usize,
     pub word: u32,

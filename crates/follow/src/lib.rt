@@ -12,14 +12,14 @@ use brackets::{Open, around, changed_by, popped};
 use grammar::step;
 
 // How far a text goes, and whether it is one to its end.
-#[derive(Drop)]
+#[derive(Clone, Copy)]
 pub struct End {
     pub at: usize,
     pub whole: bool,
 }
 
 // Open brackets, and how many more of them stand in a table.
-#[derive(Drop)]
+#[derive(Clone, Copy)]
 struct Stack {
     opened: Open,
     more: usize,

@@ -21,7 +21,7 @@ use crate::units::{character, digit_more, low_ahead};
 // How many bytes and words are gathered; how many values have started; whether a name is being
 // gathered, where it begins and how many bytes of text are left from its quote on; the number of an
 // escape so far, and the high surrogate that waits for its low one, or 0.
-#[derive(Drop)]
+#[derive(Clone, Copy)]
 pub struct Gathered {
     pub size: usize,
     pub filled: usize,

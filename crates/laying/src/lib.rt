@@ -8,7 +8,7 @@ ghost use Rattle.laying.specs.Laying.{start_at, Started, Countable, Laid};
 use writing::write_sheet;
 
 // What the call that reads JSON answers: the number of rows, or a refusal's number and place.
-#[derive(Drop)]
+#[derive(Clone, Copy)]
 pub enum Answer {
     Made(u32),
     Refused(u32, u32),

@@ -23,7 +23,7 @@ use rulesheet::form::ClauseRow;
 use sheet::record::{Pair, RecordForm, RecordRow, RuleRow, children_of};
 
 // The first `count` steps of a clause: step x applies schema `rule` to row `first + x`.
-#[derive(Drop)]
+#[derive(Clone, Copy)]
 pub struct Line {
     pub first: u32,
     pub count: u32,

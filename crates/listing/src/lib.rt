@@ -14,7 +14,7 @@ const MOST_WORDS: usize = 2048;
 
 // What a queue is answered: how many records are answered; or why it is refused, with the place: the
 // lowest record outside the slices, or the records given. A listing that is none has place 0.
-#[derive(Drop)]
+#[derive(Clone, Copy)]
 pub enum Queued {
     Answered(u32),
     BadListing,

@@ -11,7 +11,7 @@ use sheet::kind::RowKind;
 use sheet::record::{RecordForm, RecordRow, kind_of, number_of};
 
 // A row's number, or that the row is none.
-#[derive(Drop)]
+#[derive(Clone, Copy)]
 pub enum Numbered {
     Number(Decimal),
     Other,

@@ -13,14 +13,14 @@ use sheet::record::{RecordForm, RecordRow, children_of, string_of};
 use text::Range;
 
 // A row's size, or that it has none of the sort that is asked for.
-#[derive(Drop)]
+#[derive(Clone, Copy)]
 pub enum Measured {
     Size(u32),
     Other,
 }
 
 // A string's bytes, as a range of the text, or that a row is no string.
-#[derive(Drop)]
+#[derive(Clone, Copy)]
 pub enum Spelled {
     Bytes(Range),
     Other,

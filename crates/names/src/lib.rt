@@ -12,7 +12,7 @@ use text::Range;
 
 // `count` names, each a start and a length in two neighbouring words: the first name's stand at
 // `base`, and each later one's `stride` words further on.
-#[derive(Drop)]
+#[derive(Clone, Copy)]
 pub struct Names {
     pub base: usize,
     pub stride: usize,

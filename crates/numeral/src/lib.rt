@@ -11,14 +11,14 @@ use decimal::{Decimal, power};
 use sheet::kind::RowKind;
 
 // Digits up to the last that is not 0, as a number, and how many zeros follow it.
-#[derive(Drop)]
+#[derive(Clone, Copy)]
 pub struct Kept {
     pub kept: u64,
     pub zeros: u32,
 }
 
 // The digits and the scale of a number, or that no row can hold it.
-#[derive(Drop)]
+#[derive(Clone, Copy)]
 pub struct Written {
     pub wide: bool,
     pub digits: u64,

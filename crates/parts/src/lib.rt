@@ -17,14 +17,14 @@ const TRAILER: usize = 16;
 pub const WORD: usize = 4;
 
 // How many bytes of a bundle are a sheet's words, and how many its text.
-#[derive(Drop)]
+#[derive(Clone, Copy)]
 pub struct Lengths {
     pub words: usize,
     pub text: usize,
 }
 
 // A good bundle's lengths: the record's, and the rules'.
-#[derive(Drop)]
+#[derive(Clone, Copy)]
 pub enum Bundle {
     Bad,
     Good(Lengths, Lengths),

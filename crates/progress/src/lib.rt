@@ -4,7 +4,7 @@
 #![tactic(auto)]
 
 // What judging a clause gives: whether it holds, and how many pairs are settled by then.
-#[derive(Drop)]
+#[derive(Clone, Copy)]
 pub struct Done {
     pub ok: bool,
     pub count: usize,

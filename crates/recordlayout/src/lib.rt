@@ -18,7 +18,7 @@ pub const LEVEL_REFUSED: u16 = 33;
 
 // What one pass over the rows finds: the lowest row at fault, and, where none is, the lowest row at
 // the first level that is refused. Each is the number of rows where there is none.
-#[derive(Drop)]
+#[derive(Clone, Copy)]
 pub struct Pass {
     pub fault: u32,
     pub deep: u32,

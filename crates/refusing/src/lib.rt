@@ -19,14 +19,14 @@ use survey::Watch;
 use watching::numbers::number_ends;
 
 // A fault's number, or 0 where there is none, and how many bytes are left from its start on.
-#[derive(Drop)]
+#[derive(Clone, Copy)]
 struct Amiss {
     number: u32,
     left: usize,
 }
 
 // A refusal's number, or 0 where there is none, and its place.
-#[derive(Drop)]
+#[derive(Clone, Copy)]
 pub struct Refusal {
     pub number: u32,
     pub place: u32,

@@ -19,14 +19,14 @@ use sheet::record::{RuleRow, wide};
 
 // What a pass over a schema's clauses finds: the lowest at fault, or where they end, and where the
 // next list starts.
-#[derive(Drop)]
+#[derive(Clone, Copy)]
 pub struct ClausePass {
     pub fault: u32,
     pub start: usize,
 }
 
 // What passing one clause finds: that it is at fault, or where the next list starts.
-#[derive(Drop)]
+#[derive(Clone, Copy)]
 pub enum Passed {
     Fault,
     Next(usize),

@@ -22,7 +22,7 @@ use sheet::record::{RuleRow, wide};
 
 // How far a pass has come: whether all was in order, where the next list starts, and how many
 // clauses had steps.
-#[derive(Drop)]
+#[derive(Clone, Copy)]
 pub struct Pass {
     pub fine: bool,
     pub start: u32,
@@ -30,7 +30,7 @@ pub struct Pass {
 }
 
 // What is told of a sheet. `laid`: none of 6 and 7 applies. `short`: none of 8 and 9.
-#[derive(Drop)]
+#[derive(Clone, Copy)]
 pub struct Order {
     pub laid: bool,
     pub short: bool,

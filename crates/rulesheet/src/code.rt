@@ -4,7 +4,7 @@ ghost use Rattle.std.specs.Prelude.{◌≡◌};
 ghost use Rattle.rulesheet.specs.Faults.{is_list, is_named};
 
 // What a clause's first and count are, or what the entries are that they name.
-#[derive(Drop)]
+#[derive(Clone, Copy)]
 pub enum Fields {
     Unknown,
     Bare,
@@ -23,7 +23,7 @@ pub enum Fields {
 
 // A code's fields, how many entries it has at least and at most, and whether it applies its schemas to
 // the row itself.
-#[derive(Drop)]
+#[derive(Clone, Copy)]
 pub struct Shape {
     pub fields: Fields,
     pub least: u32,

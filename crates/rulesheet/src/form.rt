@@ -7,7 +7,7 @@ ghost use Rattle.rulesheet.specs.Read.{RulesFormed};
 use sheet::record::{RuleRow, wide};
 
 // Where schemas, clauses and entries start among the words, and how many there are.
-#[derive(Drop)]
+#[derive(Clone, Copy)]
 pub struct RuleForm {
     pub schemas: usize,
     pub clauses: usize,
@@ -18,20 +18,20 @@ pub struct RuleForm {
 }
 
 // A schema's clauses: `count` of them from `first` on.
-#[derive(Drop)]
+#[derive(Clone, Copy)]
 pub struct SchemaRow {
     pub first: u32,
     pub count: u32,
 }
 
-#[derive(Drop)]
+#[derive(Clone, Copy)]
 pub struct ClauseRow {
     pub code: u32,
     pub first: u32,
     pub count: u32,
 }
 
-#[derive(Drop)]
+#[derive(Clone, Copy)]
 pub struct EntryRow {
     pub first: u32,
     pub second: u32,

@@ -21,7 +21,7 @@ use trying::plain;
 
 // What judging a record gives: whether it is valid, how many pairs are settled, and how many
 // children of the root are marked.
-#[derive(Drop)]
+#[derive(Clone, Copy)]
 pub struct Verdict {
     pub ok: bool,
     pub count: usize,

@@ -20,7 +20,7 @@ use watching::move_on;
 
 // The place in the grammar, 63 where no text goes on so; the open brackets; what is kept of faults;
 // the escape under way, for the counters; the numbers of the gathered names.
-#[derive(Drop)]
+#[derive(Clone, Copy)]
 pub struct Scan {
     pub place: u8,
     pub opened: Open,
@@ -82,7 +82,7 @@ fn next(
 }
 
 // Where the pass halts, and what it has come to there.
-#[derive(Drop)]
+#[derive(Clone, Copy)]
 pub struct Halt {
     pub at: usize,
     pub scan: Scan,

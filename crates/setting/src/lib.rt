@@ -11,7 +11,7 @@ ghost use Rattle.placing.specs.Desk.{row_put, row_shut, owner_at, cleared, finis
 use text::Range;
 
 // The words of a row but for its label.
-#[derive(Drop)]
+#[derive(Clone, Copy)]
 pub struct Content {
     pub kind: u32,
     pub first: u32,

@@ -5,7 +5,7 @@ ghost use Rattle.sheet.specs.Kinds.{kind_number, is_kind, kind_of, holds_childre
 
 use decimal::Decimal;
 
-#[derive(Drop)]
+#[derive(Clone, Copy)]
 pub enum RowKind {
     Null,
     False,

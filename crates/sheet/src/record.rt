@@ -11,29 +11,29 @@ use decimal::Decimal;
 use text::Range;
 
 // A row of the record: never a schema.
-#[derive(Drop)]
+#[derive(Clone, Copy)]
 pub struct RecordRow(pub u32);
 
 // A row of the rules, which is a schema: never a row of the record.
-#[derive(Drop)]
+#[derive(Clone, Copy)]
 pub struct RuleRow(pub u32);
 
 // A row and a schema that judges it.
-#[derive(Drop)]
+#[derive(Clone, Copy)]
 pub struct Pair {
     pub row: RecordRow,
     pub rule: RuleRow,
 }
 
 // Where row 0 stands among the words, and how many rows there are.
-#[derive(Drop)]
+#[derive(Clone, Copy)]
 pub struct RecordForm {
     pub start: usize,
     pub rows: u32,
 }
 
 // A row's six words, by name.
-#[derive(Drop)]
+#[derive(Clone, Copy)]
 pub struct Row {
     pub kind: u32,
     pub first: u32,
@@ -43,7 +43,7 @@ pub struct Row {
 }
 
 // The children of a row: `count` rows from `first` on; 0 and 0 where there are none.
-#[derive(Drop)]
+#[derive(Clone, Copy)]
 pub struct Children {
     pub first: u32,
     pub count: u32,

@@ -3,7 +3,7 @@ ghost use Rattle.std.specs.Prelude.{◌≡◌};
 ghost use Rattle.sheet.specs.Refusals.{refusal_number};
 
 // Why a sheet is refused or, of `FewCells` and `ShortList`, why areas are too small for judging.
-#[derive(Drop)]
+#[derive(Clone, Copy)]
 pub enum Refusal {
     RecordTrailer,
     RecordLayout,
@@ -20,7 +20,7 @@ pub enum Refusal {
 }
 
 // What a check gives: the number of rows (of rules, the schemas), or the refusal and its place.
-#[derive(Drop)]
+#[derive(Clone, Copy)]
 pub enum Checked {
     Accepted(u32),
     Refused(Refusal, u32),

@@ -17,7 +17,7 @@ pub const UNKNOWN_KIND: u32 = 12;
 
 // What the check answers: what the check of the sheet's kind gives, or that no kind is known. No
 // other call has the second case.
-#[derive(Drop)]
+#[derive(Clone, Copy)]
 pub enum ByKind {
     Known(Checked),
     Unknown,

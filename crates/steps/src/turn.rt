@@ -16,7 +16,7 @@ use sheet::record::{Pair, RecordForm, RecordRow, RuleRow, wide};
 
 // Where a clause stands: at a step that applies `pair`, or at its end. A clause counts the steps that
 // fail, or those that hold (`hits`), or it has a condition with branches (`branch`).
-#[derive(Drop)]
+#[derive(Clone, Copy)]
 pub struct Turn {
     pub go: bool,
     pub step: u32,

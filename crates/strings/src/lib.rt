@@ -11,7 +11,7 @@ use escapes::{character_of, hex_of, unit_of};
 use putting::{put, short_of};
 
 // How far a string was read and written, and the high surrogate that waits for its low one, or 0.
-#[derive(Drop)]
+#[derive(Clone, Copy)]
 struct Spot {
     to: usize,
     at: usize,
@@ -19,7 +19,7 @@ struct Spot {
 }
 
 // Where a string ends in the text, behind its quote, and in the area.
-#[derive(Drop)]
+#[derive(Clone, Copy)]
 pub struct Ended {
     pub to: usize,
     pub at: usize,

@@ -12,7 +12,7 @@ use escapes::size_of;
 use watching::strings::{hex_worth, high, low};
 
 // The digits of the escape under way, and whether a high surrogate's escape stands directly before.
-#[derive(Drop)]
+#[derive(Clone, Copy)]
 pub struct Units {
     pub code: u32,
     pub high: bool,

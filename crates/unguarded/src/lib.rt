@@ -4,7 +4,7 @@
 #![tactic(auto)]
 
 // The places of refusals 8 and 9; the number of schemas where there is none.
-#[derive(Drop)]
+#[derive(Clone, Copy)]
 pub struct Unguarded {
     pub looped: u32,
     pub long: u32,

@@ -15,7 +15,7 @@ use names::{Names, name_at};
 
 // Where the way of a name ends: under which node, with which mark; or that it is the same as an
 // earlier name.
-#[derive(Drop)]
+#[derive(Clone, Copy)]
 pub struct Spot {
     pub same: bool,
     pub node: usize,

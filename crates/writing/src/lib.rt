@@ -13,7 +13,7 @@ use strings::copy_string;
 use text::Range;
 
 // A place of the text, how many brackets are open there, and the label that waits for its value.
-#[derive(Drop)]
+#[derive(Clone, Copy)]
 struct Spot {
     at: usize,
     level: usize,
@@ -22,7 +22,7 @@ struct Spot {
 }
 
 // The first words of a row.
-#[derive(Drop)]
+#[derive(Clone, Copy)]
 struct Head {
     kind: u32,
     first: u32,
