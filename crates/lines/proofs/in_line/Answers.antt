@@ -35,7 +35,7 @@ settle_line-requires c =
     let found = c.plain_rows-n.ensures in
     let T = lent_case c.args.sheets.now c.args.texts.now c.args.forms.now in
     let p = pair_is c.args.p in
-    let L = line_fewer {D = T.doc} {p = p} {before = before_of T p c.args.i} {‹After-settle_line-arg2› = clause_at T p c.args.i} found.0 c.line-at.ensures.in_line in record {
+    let L = line_fewer {D = T.doc} {p = p} {before = before_of T p c.args.i} {c = clause_at T p c.args.i} found.0 c.line-at.ensures.in_line in record {
       lent = c.requires.lent;
       ready = c.requires.ready;
       unsettled = c.requires.unsettled;
