@@ -57,6 +57,7 @@ module _ (b : ℕ) (bs : List ℕ) where
       go (inl g) = after_blank g.0 g.1 g.2
       go (inr (inl g)) = after_more (omega arith) g.2
       go (inr (inr (inl g))) = let p : b ≡ 0x5D = omega arith in shut_square [] (cons p refl) g.2
+      go (inr (inr (inr x5))) = elim x5 [ ]
   after_back (curly ∷ ks) f = go (blank_or after (curly ∷ ks) (only 0x2C name ∷ shuts 0x7D ∷ []) f)
     where
       go : ((c : Blank) × (b ≡ blank c) × After (curly ∷ ks) bs) ⊎ Fit (curly ∷ ks) (only 0x2C name ∷ shuts 0x7D ∷ [])
@@ -67,6 +68,7 @@ module _ (b : ℕ) (bs : List ℕ) where
           let n = names_from ks bs g.2 in
           more_curly [] n.0 n.1 (cons p n.3) n.4
       go (inr (inr (inl g))) = let p : b ≡ 0x7D = omega arith in shut_curly [] (cons p refl) g.2
+      go (inr (inr (inr x5))) = elim x5 [ ]
 
   -- ---- within a number
 
@@ -90,12 +92,14 @@ module _ (b : ℕ) (bs : List ℕ) where
 
   sign_back : (ks : List Bracket) → Fit ks (moves sign (innermost ks)) → SignThen ks (b ∷ bs)
   sign_back ks (inl (l, h, (ds, rest, e, a))) = let d = digit_of b l h in (record { first = d.0; others = ds }, rest, cons d.1 e, a)
+  sign_back ks (inr x') = elim x' [ ]
 
   exponent_back : (ks : List Bracket) → Fit ks (moves letter (innermost ks)) → LetterThen ks (b ∷ bs)
   exponent_back ks (inl (l, h, (ds, rest, e, a))) = (plus, ds, rest, cons (omega arith) e, a)
   exponent_back ks (inr (inl (l, h, (ds, rest, e, a)))) = (T.minus, ds, rest, cons (omega arith) e, a)
   exponent_back ks (inr (inr (inl (l, h, (ds, rest, e, a))))) =
       let d = digit_of b l h in (unsigned, record { first = d.0; others = ds }, rest, cons d.1 e, a)
+  exponent_back ks (inr (inr (inr x3))) = elim x3 [ ]
 
   part_back : (ks : List Bracket) → Fit ks (moves part (innermost ks)) → PartThen ks (b ∷ bs)
   unfolding digits
@@ -104,6 +108,7 @@ module _ (b : ℕ) (bs : List ℕ) where
 
   point_back : (ks : List Bracket) → Fit ks (moves point (innermost ks)) → PointThen ks (b ∷ bs)
   point_back ks (inl (l, h, (ds, x, rest, e, a))) = let d = digit_of b l h in (record { first = d.0; others = ds }, x, rest, cons d.1 e, a)
+  point_back ks (inr x') = elim x' [ ]
 
   nought_back : (ks : List Bracket) → Fit ks (moves nought (innermost ks)) → NoughtThen ks (b ∷ bs)
   nought_back ks (inl (l, h, (ds, x, rest, e, a))) = (some ds, x, rest, cons (omega arith) e, a)
@@ -118,6 +123,7 @@ module _ (b : ℕ) (bs : List ℕ) where
   minus_back ks (inl (l, h, (f, x, rest, e, a))) = (T.nought, f, x, rest, cons (omega arith) e, a)
   minus_back ks (inr (inl (l, h, (ds, f, x, rest, e, a)))) =
       let d = first_digit_of b l h in (from d.0 d.1 ds, f, x, rest, cons d.2 e, a)
+  minus_back ks (inr (inr x'')) = elim x'' [ ]
 
   -- ---- within a string
 
@@ -129,11 +135,19 @@ module _ (b : ℕ) (bs : List ℕ) where
   char_back after_ed r ks (inl (l, h, i)) = (b, bs, refl, l, h, i)
   char_back after_f0 r ks (inl (l, h, i)) = (b, bs, refl, l, h, i)
   char_back after_f4 r ks (inl (l, h, i)) = (b, bs, refl, l, h, i)
+  char_back one r ks (inr x'') = elim x'' [ ]
+  char_back two r ks (inr x3) = elim x3 [ ]
+  char_back three r ks (inr x4) = elim x4 [ ]
+  char_back after_e0 r ks (inr x5) = elim x5 [ ]
+  char_back after_ed r ks (inr x6) = elim x6 [ ]
+  char_back after_f0 r ks (inr x7) = elim x7 [ ]
+  char_back after_f4 r ks (inr x8) = elim x8 [ ]
 
   hex_of : (s : Place) (ks : List Bracket) → Fit ks (range 0x30 0x39 s ∷ range 0x41 0x46 s ∷ range 0x61 0x66 s ∷ []) → HexOf b × Rest (at s ks) bs
   hex_of s ks (inl (l, h, i)) = (hex_digit b l h, i)
   hex_of s ks (inr (inl (l, h, i))) = (hex_capital b l h, i)
   hex_of s ks (inr (inr (inl (l, h, i)))) = (hex_small b l h, i)
+  hex_of s ks (inr (inr (inr x3))) = elim x3 [ ]
 
   unit_back : (l : Left) (r : Role) (ks : List Bracket) → Fit ks (moves (unit l r) (innermost ks)) → Unit4 l (Inside ks r) (b ∷ bs)
   unit_back hex1 r ks f = let g = hex_of (text r) ks f in (g.0.0, bs, cons g.0.1 refl, g.1)
@@ -155,6 +169,7 @@ module _ (b : ℕ) (bs : List ℕ) where
   escape_back r ks (inr (inr (inr (inr (inr (inr (inr (inl (l, h, i))))))))) = short_back r ks tabulator (omega arith) i
   escape_back r ks (inr (inr (inr (inr (inr (inr (inr (inr (inl (l, h, (p, t, e, (q, u, f, (m, v, g, (n, x, k, i)))))))))))))) =
       let z : b ≡ 0x75 = omega arith in (T.unit p q m n, x, cc, i)
+  escape_back r ks (inr (inr (inr (inr (inr (inr (inr (inr (inr x9))))))))) = elim x9 [ ]
 
   text_back : (r : Role) (ks : List Bracket) → Fit ks (characters r) → Inside ks r (b ∷ bs)
   text_back r ks (inl (l, h, i)) = char_more ks r (λ xs. b ∷ xs) (b ∷ bs) bs (char_1 b (omega arith) (omega arith) (λ e. omega arith) (λ e. omega arith)) refl i
@@ -178,6 +193,7 @@ module _ (b : ℕ) (bs : List ℕ) where
       char_more ks r (λ xs. b ∷ c ∷ d ∷ m ∷ xs) (b ∷ bs) v (char_4 b c d m (omega arith) (omega arith) cl ch dl dh ml mh (omega arith) (omega arith)) (cc) i
   text_back r ks (inr (inr (inr (inr (inr (inr (inr (inr (inr (inr (inl (l, h, (c, t, e, cl, ch, (d, u, f, dl, dh, (m, v, g, ml, mh, i))))))))))))))) =
       char_more ks r (λ xs. b ∷ c ∷ d ∷ m ∷ xs) (b ∷ bs) v (char_4 b c d m (omega arith) h cl (omega arith) dl dh ml mh (omega arith) (omega arith)) (cc) i
+  text_back r ks (inr (inr (inr (inr (inr (inr (inr (inr (inr (inr (inr x11))))))))))) = elim x11 [ ]
 
   inside_back : (r : Role) (ks : List Bracket) → Fit ks (moves (text r) (innermost ks)) → Inside ks r (b ∷ bs)
   unfolding pieces
@@ -206,6 +222,7 @@ module _ (b : ℕ) (bs : List ℕ) where
   starts_back ks (inr (inr (inr (inr (inr (inr (inl (l, h, (rest, e, a))))))))) = (null, rest, cons (omega arith) e, a)
   starts_back ks (inr (inr (inr (inr (inr (inr (inr (inl (l, h, (rest, e, a)))))))))) = (truth, rest, cons (omega arith) e, a)
   starts_back ks (inr (inr (inr (inr (inr (inr (inr (inr (inl (l, h, (rest, e, a))))))))))) = (falsity, rest, cons (omega arith) e, a)
+  starts_back ks (inr (inr (inr (inr (inr (inr (inr (inr (inr x9))))))))) = elim x9 [ ]
 
   ahead_back : (ks : List Bracket) → Fit ks (moves ahead (innermost ks)) → Ahead ks (b ∷ bs)
   unfolding spaces
@@ -238,6 +255,7 @@ module _ (b : ℕ) (bs : List ℕ) where
       go : ((c : Blank) × (b ≡ blank c) × Name ks bs) ⊎ Fit ks (only 0x22 (text as_name) ∷ []) → Name ks (b ∷ bs)
       go (inl (c, p, (w, s, rest, e, k))) = (c ∷ w, s, rest, cons p e, k)
       go (inr (inl (l, h, i))) = quoted ks (omega arith) i
+      go (inr (inr x'')) = elim x'' [ ]
 
   first_name_back : (ks : List Bracket) → Fit ks (moves first_name (innermost ks)) → FirstName ks (b ∷ bs)
   unfolding spaces
@@ -248,6 +266,7 @@ module _ (b : ℕ) (bs : List ℕ) where
       go (inl (c, p, inr (w, s, rest, e, k))) = inr (c ∷ w, s, rest, cons p e, k)
       go (inr (inl (l, h, a))) = let p : b ≡ 0x7D = omega arith in inl ([], bs, cons p refl, a)
       go (inr (inr (inl (l, h, i)))) = inr (quoted ks (omega arith) i)
+      go (inr (inr (inr x3))) = elim x3 [ ]
 
   colon_back : (ks : List Bracket) → Fit ks (moves colon (innermost ks)) → Colon ks (b ∷ bs)
   unfolding spaces
@@ -257,6 +276,7 @@ module _ (b : ℕ) (bs : List ℕ) where
       go (inl (c, p, (w, w', v, rest, e, a))) = (c ∷ w, w', v, rest, cons p e, a)
       go (inr (inl (l, h, (w, tl, e, (v, rest, g, a))))) =
           let p : b ≡ 0x3A = omega arith in ([], w, v, rest, cons p (e ∙ ap (spaces w) g), a)
+      go (inr (inr x'')) = elim x'' [ ]
 
   word_back : (w : Word) (ks : List Bracket) → Fit ks (moves (word w) (innermost ks)) → WordThen ks w (b ∷ bs)
   word_back n1 ks (inl (l, h, (rest, e, a))) = (rest, cons (omega arith) e, a)
@@ -269,6 +289,16 @@ module _ (b : ℕ) (bs : List ℕ) where
   word_back f2 ks (inl (l, h, (rest, e, a))) = (rest, cons (omega arith) e, a)
   word_back f3 ks (inl (l, h, (rest, e, a))) = (rest, cons (omega arith) e, a)
   word_back f4 ks (inl (l, h, a)) = (bs, cons (omega arith) refl, a)
+  word_back n1 ks (inr x'') = elim x'' [ ]
+  word_back n2 ks (inr x3) = elim x3 [ ]
+  word_back n3 ks (inr x4) = elim x4 [ ]
+  word_back t1 ks (inr x5) = elim x5 [ ]
+  word_back t2 ks (inr x6) = elim x6 [ ]
+  word_back t3 ks (inr x7) = elim x7 [ ]
+  word_back f1 ks (inr x8) = elim x8 [ ]
+  word_back f2 ks (inr x9) = elim x9 [ ]
+  word_back f3 ks (inr x10) = elim x10 [ ]
+  word_back f4 ks (inr x11) = elim x11 [ ]
 
   pub back : (p : Place) (ks : List Bracket) → Fit ks (moves p (innermost ks)) → Rest (at p ks) (b ∷ bs)
   back ahead ks f = ahead_back ks f

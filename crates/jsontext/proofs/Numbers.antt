@@ -40,6 +40,9 @@ ending (some curly) b (inr (inr (inl f))) = inl (omega arith)
 ending (some curly) b (inr (inr (inr (inl f)))) = inl (omega arith)
 ending (some curly) b (inr (inr (inr (inr (inl f))))) = inl (omega arith)
 ending (some curly) b (inr (inr (inr (inr (inr (inl f)))))) = inr (inr (omega arith))
+ending none b (inr (inr (inr (inr x5)))) = elim x5 [ ]
+ending (some square) b (inr (inr (inr (inr (inr (inr x10)))))) = elim x10 [ ]
+ending (some curly) b (inr (inr (inr (inr (inr (inr x11)))))) = elim x11 [ ]
 
 -- the place has the moves of the end of a value
 abbrev pub Continued : Place → List Bracket → Type 0
@@ -105,6 +108,21 @@ module _ (ks : List Bracket) where
       ∙ skip_letters (ends (innermost ks)) b e
   continued part at_part b e = skip_digit part (A.exponents (ends (innermost ks))) b e ∙ skip_letters (ends (innermost ks)) b e
   continued power at_power b e = skip_digit power (ends (innermost ks)) b e
+  continued A.ahead x'' b e = elim x'' [ ]
+  continued A.first_element x3 b e = elim x3 [ ]
+  continued after x4 b e = elim x4 [ ]
+  continued A.name x5 b e = elim x5 [ ]
+  continued A.first_name x6 b e = elim x6 [ ]
+  continued A.colon x7 b e = elim x7 [ ]
+  continued (A.word _) x9 b e = elim x9 [ ]
+  continued A.minus x9 b e = elim x9 [ ]
+  continued point x10 b e = elim x10 [ ]
+  continued letter x11 b e = elim x11 [ ]
+  continued sign x12 b e = elim x12 [ ]
+  continued (A.text _) x14 b e = elim x14 [ ]
+  continued (A.escape _) x15 b e = elim x15 [ ]
+  continued (A.unit _ _) x17 b e = elim x17 [ ]
+  continued (A.char _ _) x18 b e = elim x18 [ ]
 
   abbrev Passes : Place → Type 0
   Passes p = (bs : List ℕ) → Accepts (at after ks) bs → Through p ks bs

@@ -33,6 +33,9 @@ pub steps_named : (clause : Clause) (t : ℕ) → In t (unguarded clause) → In
 steps_named (in_place mode schemas) t i = i
 steps_named (if_then_else a b c) t i = i
 steps_named (dependent_schemas members) t i = i
+steps_named (Rattle.rulesheet.specs.Ruleset.asserts _) t i = elim i [ ]
+steps_named (Rattle.rulesheet.specs.Ruleset.contains _ _ _) t i = elim i [ ]
+steps_named (Rattle.rulesheet.specs.Ruleset.takes _) t i = elim i [ ]
 
 -- ---- by a code's fields
 

@@ -1,4 +1,5 @@
 -- `amphorust_verdict` meets its contract. Assumes nothing.
+use mathlib.Core.List.{[]}
 use Rattle.number.proofs.Calls.{count_fits, call_told}
 use Rattle.hub.proofs.amphorust_verdict.Goals as goal
 

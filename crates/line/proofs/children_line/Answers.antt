@@ -1,4 +1,5 @@
 -- `children_line` meets its contract: the children are rows of the sheet. Assumes nothing.
+use mathlib.Core.List.{[]}
 use mathlib.Core.Path.{refl}
 use native.Mathlib.Omega.{arith}
 use Prim.Native.Nat.{◌-◌}

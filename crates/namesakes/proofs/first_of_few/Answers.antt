@@ -6,6 +6,7 @@ use borrow.Author.Tests.{lt-ltb, le-ltb}
 use Rattle.laws.proofs.Passing.{begin, here, further, nowhere}
 use Rattle.names.proofs.Repeats.{repeats_is, repeats_not}
 use Rattle.names.proofs.Signs.{marked_none, marked_more, unseen}
+use Rattle.namesakes.proofs.first_of_few.Goals.{then-seen-sign+else-name-gt-LONG+else-first_same-i, else-seen-sign}
 use Rattle.namesakes.proofs.first_of_few.Goals as goal
 
 pub loop-i-init : goal.loop-i-init
@@ -42,10 +43,10 @@ loop-i-preserved c =
     let inv = c.loop-i.invariant in
     let sign = rw c.name_at-name.ensures at c.sign-sign.ensures.0 in (
       further inv.0 (omega arith)
-          (⊎_elim
-          (λ w. repeats_is _ _ ∙ le-ltb _ _ (rw w.2.ensures at w.3.left))
-          (λ w. repeats_not _ _ (unseen inv.1 sign w.left))
-          c.if-seen-sign.branch),
+          (elim c.if-seen-sign.branch [
+            then-seen-sign+else-name-gt-LONG+else-first_same-i w ↦ repeats_is _ _ ∙ le-ltb _ _ (rw w.first_same.ensures at w.if-first_same-i.false)
+          | else-seen-sign w ↦ repeats_not _ _ (unseen inv.1 sign w.if-seen-sign.false)
+          ]),
       marked_more inv.1 sign c.sign-sign.ensures.1,
       inv.2,
     )

@@ -1,4 +1,5 @@
 -- `plainly` meets its contract, keyword by keyword: a yes is the exact test's. Assumes nothing.
+use mathlib.Core.List.{[]}
 use mathlib.Core.Path.{refl, sym, ap, ◌∙◌}
 use lib.ListN.{length}
 use Rattle.sheet.specs.Record.{doc_of}

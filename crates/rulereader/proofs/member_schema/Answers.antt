@@ -1,5 +1,5 @@
 -- `member_schema` meets its contract. Assumes nothing.
-use mathlib.Core.List.{List}
+use mathlib.Core.List.{[], List}
 use mathlib.Core.Path.{ap}
 use Prim.Native.Nat.{ℕ}
 use Rattle.rulesheet.proofs.Items.{member_item}

@@ -1,6 +1,6 @@
 -- `placing::put_row` meets its contract.
 -- Assumes nothing.
-use mathlib.Core.List.{◌∷◌}
+use mathlib.Core.List.{[], ◌∷◌}
 use Rattle.setting.proofs.Cells.{put_out, put_done}
 use native.Mathlib.Omega.{arith}
 use lib.ListN.{length-set}

@@ -1,5 +1,5 @@
 -- `names_from` meets its contract: the clauses passed name nothing. Assumes nothing.
-use mathlib.Core.List.{List}
+use mathlib.Core.List.{[], List}
 use mathlib.Core.Path.{◌≡◌}
 use Prim.Native.Nat.{ℕ, ◌-◌, ◌≤◌}
 use borrow.Author.Rules.{rules}

@@ -1,4 +1,5 @@
 -- `passes_test` meets its contract, keyword by keyword. Assumes nothing.
+use mathlib.Core.List.{[]}
 use mathlib.Core.Path.{refl}
 use lib.ListN.{length}
 use Rattle.sheet.specs.Record.{doc_of}

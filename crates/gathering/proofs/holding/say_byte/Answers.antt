@@ -1,5 +1,5 @@
 -- `gathering::holding::say_byte` meets its contract. Assumes nothing.
-use mathlib.Core.List.{◌∷◌}
+use mathlib.Core.List.{[], ◌∷◌}
 use Rattle.gathering.proofs.Acts.{says_on, says_off}
 use Rattle.gathering.proofs.holding.say_byte.Goals as goal
 

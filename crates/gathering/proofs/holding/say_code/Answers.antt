@@ -1,4 +1,5 @@
 -- `gathering::holding::say_code` meets its contract. Assumes nothing.
+use mathlib.Core.List.{[]}
 use Rattle.jsontext.specs.Utf8.{encode}
 use Rattle.gathering.proofs.Acts.{says_on, says_off}
 use Rattle.gathering.proofs.holding.say_code.Goals as goal

@@ -1,7 +1,7 @@
 -- `grammar::values::name` meets its contract: each move is asked in its turn.
 -- Assumes nothing.
 use mathlib.Core.Bool.{Bool, true, false, cond}
-use mathlib.Core.List.{◌∷◌}
+use mathlib.Core.List.{[], ◌∷◌}
 use mathlib.Core.Path.{◌≡◌, sym, ap, ◌∙◌}
 use Prim.Native.Nat.{◌+◌}
 use Rattle.jsontext.specs.Automaton as Auto

@@ -1,5 +1,6 @@
 -- `grammar::values::outside` meets its contract: each move is asked in its turn.
 -- Assumes nothing.
+use mathlib.Core.List.{[]}
 use mathlib.Core.Bool.{Bool, true, false, cond}
 use mathlib.Core.Path.{◌≡◌, refl, sym, ap, ◌∙◌}
 use Prim.Native.Nat.{◌+◌}

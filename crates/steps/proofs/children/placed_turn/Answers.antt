@@ -1,4 +1,5 @@
 -- `placed_turn` meets its contract: an element is one of the rows. Assumes nothing.
+use mathlib.Core.List.{[]}
 use mathlib.Core.Path.{refl}
 use native.Mathlib.Omega.{arith}
 use Rattle.sheet.specs.Record.{doc_of}
