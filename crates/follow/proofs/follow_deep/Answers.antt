@@ -74,7 +74,7 @@ loop-at-preserved c =
     let turned = c.shifted-s.ensures in
     let leads = stepped_some l.p b r ks c.around_all.ensures n is alive ∙ ap (λ (x : List Bracket). some (at (place_at (n % 64)) x)) (sym turned.brackets_are) in (
       on a.json.now a.from (at (place_at a.place) (brackets a.opened)) l.at (at (place_at l.p) ks) l.invariant.0 (omega arith)
-          (at (place_at (n % 64)) (all_open c.shifted-s.new.0 c.shifted-s.result)) leads,
+          (at (place_at (n % 64)) (all_open c.shifted-s.new.table c.shifted-s.result)) leads,
       code_place n l.p b r is alive,
       turned.fits,
       omega (arith, turned.few, l.invariant.3),

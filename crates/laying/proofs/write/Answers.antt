@@ -63,7 +63,7 @@ write_sheet-requires c =
     let p = c.requires.countable in
     let few = rows_few a.json.now a.values.now a.texts.now p in
     let short = bytes_few a.json.now a.values.now a.texts.now p c.requires.json_len_bound in record {
-      writable = writable a.json.now a.values.now a.texts.now p n.result m.result n.new.1.0 m.new.1.0 a.words.now a.text.now
+      writable = writable a.json.now a.values.now a.texts.now p n.result m.result n.new.starts m.new.starts a.words.now a.text.now
           n.ensures.0 m.ensures.0 n.ensures.1 m.ensures.1 (search rules) (search rules) c.if-words-needed.false c.if-text-size.false;
       json_len_bound = (c.requires.json_len_bound, omega (arith, n.ensures.0, few), omega (arith, m.ensures.0, short));
     }
@@ -74,6 +74,6 @@ returns c =
     let n = c.start_levels-n in
     let m = c.start_levels-size in
     λ (w : Countable a.json.now a.values.now a.texts.now).
-    laid a.json.now a.values.now a.texts.now w n.result m.result n.new.1.0 m.new.1.0 a.words.now a.text.now
+    laid a.json.now a.values.now a.texts.now w n.result m.result n.new.starts m.new.starts a.words.now a.text.now
     n.ensures.0 m.ensures.0 n.ensures.1 m.ensures.1 (search rules) (search rules) c.if-words-needed.false c.if-text-size.false
-    c.write_sheet.new.1.1.1.1.1.0 c.write_sheet.new.1.1.1.1.1.1.0 c.write_sheet.ensures
+    c.write_sheet.new.words c.write_sheet.new.text c.write_sheet.ensures
