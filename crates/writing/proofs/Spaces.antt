@@ -59,6 +59,13 @@ behind_value (gap b ∷ ls) (at_gap e) = rw (blank_is b) (behind_value ls e)
 behind_value (comma ∷ ls) at_comma = λ z. omega arith
 behind_value (shuts square ∷ ls) at_shut = λ z. omega arith
 behind_value (shuts curly ∷ ls) at_shut = λ z. omega arith
+behind_value (Rattle.placing.specs.Lexemes.a_null ∷ ls) x3 = elim x3 [ ]
+behind_value (Rattle.placing.specs.Lexemes.a_true ∷ ls) x4 = elim x4 [ ]
+behind_value (Rattle.placing.specs.Lexemes.a_false ∷ ls) x5 = elim x5 [ ]
+behind_value (Rattle.placing.specs.Lexemes.num _ ∷ ls) x7 = elim x7 [ ]
+behind_value (Rattle.placing.specs.Lexemes.str _ ∷ ls) x8 = elim x8 [ ]
+behind_value (Rattle.placing.specs.Lexemes.nam _ _ ∷ ls) x10 = elim x10 [ ]
+behind_value (Rattle.placing.specs.Lexemes.opens _ ∷ ls) x10 = elim x10 [ ]
 
 pub no_colon : (json : List ℕ) (i : ℕ) (ls : List Lexeme) → Ends ls → spelling ls ≡ drop i json → get_or json (i + blanks_of (drop i json)) 0 ≢ 0x3A
 no_colon json i ls e f z =

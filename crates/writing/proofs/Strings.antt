@@ -43,6 +43,13 @@ ends_stop (gap b ∷ ls) (at_gap e) = blank_stops b
 ends_stop (comma ∷ ls) at_comma = record { no_digit = refl; no_point = λ z. omega arith; no_capital = λ z. omega arith; no_small = λ z. omega arith }
 ends_stop (shuts square ∷ ls) at_shut = record { no_digit = refl; no_point = λ z. omega arith; no_capital = λ z. omega arith; no_small = λ z. omega arith }
 ends_stop (shuts curly ∷ ls) at_shut = record { no_digit = refl; no_point = λ z. omega arith; no_capital = λ z. omega arith; no_small = λ z. omega arith }
+ends_stop (a_null ∷ ls) x3 = elim x3 [ ]
+ends_stop (a_true ∷ ls) x4 = elim x4 [ ]
+ends_stop (a_false ∷ ls) x5 = elim x5 [ ]
+ends_stop (num _ ∷ ls) x7 = elim x7 [ ]
+ends_stop (str _ ∷ ls) x8 = elim x8 [ ]
+ends_stop (nam _ _ ∷ ls) x10 = elim x10 [ ]
+ends_stop (opens _ ∷ ls) x10 = elim x10 [ ]
 
 -- ---- the inside of a string
 
