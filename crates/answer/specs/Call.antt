@@ -1,7 +1,7 @@
 -- The promises of the two calls: the answer, and what is left in the areas, are the specification's (`judge` in crate `meaning`), for every input.
 -- Assumes nothing.
 use Rattle.std.specs.Prelude.{List, [], ◌≡◌, ℕ}
-use Rattle.sheet.specs.Refusals.{refusalNumber}
+use Rattle.sheet.specs.Refusals.{refusal_number}
 use Rattle.meaning.specs.Rules.{Way, whole, cut}
 use Rattle.meaning.specs.Answer as A
 use Rattle.meaning.specs.Answer.{valid, invalid, refuses, Left, judge}
@@ -12,15 +12,15 @@ use Rattle.answer.specs.declared.Answer.TheVariants.{Valid, Invalid, Refused}
 abbrev pub answer_of : Answer → A.Answer
 answer_of (Valid count marked) = valid count marked
 answer_of (Invalid count marked) = invalid count marked
-answer_of (Refused refusal place) = refuses (refusalNumber refusal) place
+answer_of (Refused refusal place) = refuses (refusal_number refusal) place
 
 abbrev pub leaves : Way → (ws ts rs us cells₀ list₀ : List ℕ) → Answer → (cells list : List ℕ) → Type 0
 leaves w ws ts rs us cells₀ list₀ r cells list = ◌≡◌ {A = Left} (record { answer = answer_of r; cells = cells; list = list }) (judge w ws ts rs us cells₀ list₀)
 
 -- of the full call
-abbrev pub callLeaves : (ws ts rs us cells₀ list₀ : List ℕ) → Answer → (cells list : List ℕ) → Type 0
-callLeaves = leaves whole
+abbrev pub call_leaves : (ws ts rs us cells₀ list₀ : List ℕ) → Answer → (cells list : List ℕ) → Type 0
+call_leaves = leaves whole
 
 -- of the call for the verdict only, which has no list
-abbrev pub verdictLeaves : (ws ts rs us cells₀ : List ℕ) → Answer → (cells : List ℕ) → Type 0
-verdictLeaves ws ts rs us cells₀ r cells = leaves cut ws ts rs us cells₀ [] r cells []
+abbrev pub verdict_leaves : (ws ts rs us cells₀ : List ℕ) → Answer → (cells : List ℕ) → Type 0
+verdict_leaves ws ts rs us cells₀ r cells = leaves cut ws ts rs us cells₀ [] r cells []

@@ -12,8 +12,8 @@ abbrev pub cell_of : ℕ → ℕ → ℕ → ℕ
 cell_of m row rule = row * m + rule
 
 -- the pair that is meant
-abbrev pub pairIs : Declared.Pair → Pair
-pairIs p = record { row = p.row.0; rule = p.rule.0 }
+abbrev pub pair_is : Declared.Pair → Pair
+pair_is p = record { row = p.row.0; rule = p.rule.0 }
 
 -- the cell of a pair, which is also its word in the list
 abbrev pub cell_at : ℕ → Pair → ℕ
@@ -38,8 +38,8 @@ unfoldable pub four : Bool → ℕ
 four marked = cond marked 4 0
 
 -- the verdict of a pair that is settled
-unfoldable pub settledAs : Bool → ℕ
-settledAs holds = cond holds 1 2
+unfoldable pub settled_as : Bool → ℕ
+settled_as holds = cond holds 1 2
 
 -- ---- all of them
 
@@ -48,8 +48,8 @@ abbrev pub column : ℕ → List ℕ → ℕ → Marks
 column m cells s k = bit (get_or cells (cell_of m k s) 0)
 
 -- how many of the `many` rows from `first` on are marked in column 0
-unfoldable pub markedBy : ℕ → List ℕ → ℕ → ℕ → ℕ
-markedBy m cells first many = length (keep (column m cells 0) (range first many))
+unfoldable pub marked_by : ℕ → List ℕ → ℕ → ℕ → ℕ
+marked_by m cells first many = length (keep (column m cells 0) (range first many))
 
 -- every cell is 0; past the last there is nothing but zeros either
 pub record Cleared (cells₀ cells : List ℕ) : Type 0 where

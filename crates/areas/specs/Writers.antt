@@ -3,7 +3,7 @@
 -- Assumes nothing.
 use Rattle.std.specs.Prelude.{Bool, ◌||◌, List, ◌≡◌, ℕ, ◌+◌, ◌≤◌, ◌<◌, length, get_or, set}
 use Rattle.meaning.specs.Rules.{Marks}
-use Rattle.areas.specs.Cells.{cell_of, verd, settledAs, column}
+use Rattle.areas.specs.Cells.{cell_of, verd, settled_as, column}
 
 -- ---- the verdict
 
@@ -16,7 +16,7 @@ pub record Open (cells : List ℕ) (count k : ℕ) : Type 0 where
 
 -- after: its cell has the verdict, its word is the list's next if the list has a place for it, and all else is as it was
 pub record Shut (cells₀ list₀ : List ℕ) (count k : ℕ) (ok : Bool) (cells list : List ℕ) (r : ℕ) : Type 0 where
-  pub cell : cells ≡ set cells₀ k (get_or cells₀ k 0 + settledAs ok)
+  pub cell : cells ≡ set cells₀ k (get_or cells₀ k 0 + settled_as ok)
   pub entry : list ≡ set list₀ count k
   pub one_more : r ≡ count + 1
 
@@ -24,7 +24,7 @@ pub record Shut (cells₀ list₀ : List ℕ) (count k : ℕ) (ok : Bool) (cells
 
 -- before: the `many` rows from `first` on have cells, in column s and in the column that marks are taken from
 pub record Writes (m first many s from : ℕ) (cells : List ℕ) : Type 0 where
-  pub rule-in : s < m
+  pub rule_in : s < m
   pub from_in : from < m
   pub rows_in : (k : ℕ) → first ≤ k → k < first + many → cell_of m k m ≤ length cells
 

@@ -6,8 +6,10 @@
 // `write_mark`, which writes marks.
 //
 // Its contracts cite specs/, in reading order: `Cells`, `Writers`.
+#![tactic(auto)]
+
 ghost use Rattle.std.specs.Prelude.{◌≡◌, ◌<◌, length, get_or, set};
-ghost use Rattle.areas.specs.Cells.{pairIs, cell_at, verd, bit, four, settledAs, Cleared};
+ghost use Rattle.areas.specs.Cells.{pair_is, cell_at, verd, bit, four, settled_as, Cleared};
 ghost use Rattle.areas.specs.Writers.{Open, Shut, Writes, Marked};
 
 use sheet::record::{Pair, RecordRow, RuleRow, wide};
@@ -16,8 +18,8 @@ use sheet::record::{Pair, RecordRow, RuleRow, wide};
 
 // The number of a pair's cell.
 fn cell_of(m: usize, p: Pair) -> usize
-    requires { cell_at m (pairIs p) < 18446744073709551616 }
-    ensures { result ≡ cell_at m (pairIs p) }
+    requires { cell_at m (pair_is p) < 18446744073709551616 }
+    ensures { result ≡ cell_at m (pair_is p) }
 {
     wide(p.row.0) * m + wide(p.rule.0)
 }
@@ -41,16 +43,16 @@ fn bit_at(cells: &[u8], k: usize) -> bool
 
 // The verdict in the pair's cell.
 pub fn verdict_of(cells: &[u8], m: usize, p: Pair) -> u8
-    requires { (cell_at m (pairIs p) < length cells.now) × (length cells.now < 4294967296) }
-    ensures { result ≡ verd (get_or cells.now (cell_at m (pairIs p)) 0) }
+    requires { (cell_at m (pair_is p) < length cells.now) × (length cells.now < 4294967296) }
+    ensures { result ≡ verd (get_or cells.now (cell_at m (pair_is p)) 0) }
 {
     verdict_at(cells, cell_of(m, p))
 }
 
 // Whether the pair's cell is marked.
 pub fn is_marked(cells: &[u8], m: usize, p: Pair) -> bool
-    requires { cell_at m (pairIs p) < length cells.now }
-    ensures { result ≡ bit (get_or cells.now (cell_at m (pairIs p)) 0) }
+    requires { cell_at m (pair_is p) < length cells.now }
+    ensures { result ≡ bit (get_or cells.now (cell_at m (pair_is p)) 0) }
 {
     bit_at(cells, cell_of(m, p))
 }
@@ -59,7 +61,7 @@ pub fn is_marked(cells: &[u8], m: usize, p: Pair) -> bool
 
 // The verdict of a pair that holds or fails.
 fn settled_as(holds: bool) -> u8
-    ensures { result ≡ settledAs holds }
+    ensures { result ≡ settled_as holds }
 {
     if holds { 1 } else { 2 }
 }
@@ -86,8 +88,8 @@ pub fn settle(
     ok: bool,
     count: usize,
 ) -> usize
-    requires { Open cells.old count (cell_at m (pairIs p)) }
-    ensures { Shut cells.old list.old count (cell_at m (pairIs p)) ok cells.new list.new result }
+    requires { Open cells.old count (cell_at m (pair_is p)) }
+    ensures { Shut cells.old list.old count (cell_at m (pair_is p)) ok cells.new list.new result }
 {
     let k = cell_of(m, p);
     let x = cells[k];

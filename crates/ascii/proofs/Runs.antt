@@ -9,7 +9,7 @@ use native.Mathlib.Omega.{arith}
 use lib.Bits.{bit_or, or_add_and, and_le_l, and_le_r}
 use lib.ListN.{get_or}
 use Rattle.ascii.specs.Runs.{Bits, Ascii, AsciiTo}
-use Rattle.laws.proofs.Tests.{le-or-lt}
+use Rattle.laws.proofs.Tests.{le_or_lt}
 
 pub none : (text : List ℕ) (a : ℕ) → Ascii text a a
 none text a = λ (i : ℕ) (l : a ≤ i) (h : i < a). absurd (empty i l h)
@@ -20,11 +20,11 @@ none text a = λ (i : ℕ) (l : a ≤ i) (h : i < a). absurd (empty i l h)
 module _ (text : List ℕ) (a b c : ℕ) where
   -- a run and one after it
   pub join : Ascii text a b → Ascii text b c → Ascii text a c
-  join p q = λ (i : ℕ) (l : a ≤ i) (h : i < c). ⊎_elim (λ (m : b ≤ i). q i m h) (λ (m : i < b). p i l m) (le-or-lt b i)
+  join p q = λ (i : ℕ) (l : a ≤ i) (h : i < c). ⊎_elim (λ (m : b ≤ i). q i m h) (λ (m : i < b). p i l m) (le_or_lt b i)
 
 -- two runs that cover all
 pub cover : (text : List ℕ) (a b n : ℕ) → Ascii text 0 a → Ascii text b n → b ≤ a → Ascii text 0 n
-cover text a b n p q h = λ (i : ℕ) (l : 0 ≤ i) (m : i < n). ⊎_elim (λ (k : b ≤ i). q i k m) (λ (k : i < b). p i l (omega arith)) (le-or-lt b i)
+cover text a b n p q h = λ (i : ℕ) (l : 0 ≤ i) (m : i < n). ⊎_elim (λ (k : b ≤ i). q i k m) (λ (k : i < b). p i l (omega arith)) (le_or_lt b i)
 
 -- the bits of the first k bytes and of the last k are those of all
 pub both_ends : (text : List ℕ) (n k : ℕ) {a b : ℕ} → k ≤ n → n ≤ k + k → Bits text 0 k a → Bits text (n - k) k b → bit_or a b < 0x80 → Ascii text 0 n
@@ -39,8 +39,8 @@ both_ends text n k {a} {b} h g p q l =
 pub one : (text : List ℕ) (a : ℕ) → get_or text a 0 < 0x80 → Ascii text a (a + 1)
 one text a h = λ (i : ℕ) (l : a ≤ i) (m : i < a + 1). let e : a ≡ i = omega arith in subst (λ (k : ℕ). get_or text k 0 < 0x80) e h
 
-pub bits-one : (text : List ℕ) (at : ℕ) → Bits text at 1 (get_or text at 0)
-bits-one text at = record { low = one text at }
+pub bits_one : (text : List ℕ) (at : ℕ) → Bits text at 1 (get_or text at 0)
+bits_one text at = record { low = one text at }
 
 pub doubled : (text : List ℕ) (at n : ℕ) {a b : ℕ} → Bits text at n a → Bits text (at + n) n b → Bits text at (n + n) (bit_or a b)
 doubled text at n {a} {b} p q =

@@ -1,6 +1,8 @@
 // How far ASCII goes on from a place of a text. Contracts cite `specs/Runs.antt`.
 //
 // Bytes are taken together by `|`, of which the compiler makes a few steps for 32 of them.
+#![tactic(auto)]
+
 ghost use Rattle.std.specs.Prelude.{◌≡◌, true, ◌+◌, ◌≤◌, length};
 ghost use Rattle.ascii.specs.Runs.{Bits, Ascii, AsciiTo};
 

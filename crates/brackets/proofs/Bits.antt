@@ -1,6 +1,6 @@
 -- Brackets as bits.
---     none_open, some-open      the brackets where none are open, and where some are
---     pushed-is                 one more
+--     none_open, some_open      the brackets where none are open, and where some are
+--     pushed_is                 one more
 --     stepped                   a step of the automaton by its number
 -- Assumes nothing.
 use mathlib.Core.Bool.{Bool, true, false, cond}
@@ -13,84 +13,84 @@ use native.Mathlib.Numerals.{add-one}
 use native.Mathlib.Omega.{arith}
 use borrow.Author.Tests.{eq-eqb, ne_eqb}
 use lib.Dec.{eqb, lit<}
-use Rattle.json.specs.Automaton.{Bracket, square, curly, Place, Change, keep, pop, push, Move, State, at, innermost, outer, changed, follow, moves, pick, step}
-use Rattle.grammar.specs.Codes.{dead, moveCode, placeCode, changeCode, leads, bracketAt, placeAt, changeAt}
-use Rattle.grammar.proofs.Places.{place-low, move-place, move-change}
+use Rattle.jsontext.specs.Automaton.{Bracket, square, curly, Place, Change, keep, pop, push, Move, State, at, innermost, outer, changed, follow, moves, pick, step}
+use Rattle.grammar.specs.Codes.{dead, move_code, place_code, change_code, leads, bracket_at, place_at, change_at}
+use Rattle.grammar.proofs.Places.{place_low, move_place, move_change}
 use Rattle.brackets.specs.declared.Open.{Open}
-use Rattle.brackets.specs.Brackets.{bracketsOf, brackets, Around, Changed, Fits}
+use Rattle.brackets.specs.Brackets.{brackets_of, brackets, Around, Changed, Fits}
 
 -- the innermost bracket and the others
-pub some-open : (bits depth : ℕ) → (depth ≡ 0 → ⊥) → bracketsOf bits depth ≡ cond (eqb (bits % 2) 0) square curly ∷ bracketsOf (bits / 2) (depth - 1)
-unfolding bracketsOf
-some-open bits zero h = absurd (h refl)
-some-open bits (suc n) h = let less : n ≡ suc n - 1 = omega arith in ap (λ (m : ℕ). cond (eqb (bits % 2) 0) square curly ∷ bracketsOf (bits / 2) m) less
+pub some_open : (bits depth : ℕ) → (depth ≡ 0 → ⊥) → brackets_of bits depth ≡ cond (eqb (bits % 2) 0) square curly ∷ brackets_of (bits / 2) (depth - 1)
+unfolding brackets_of
+some_open bits zero h = absurd (h refl)
+some_open bits (suc n) h = let less : n ≡ suc n - 1 = omega arith in ap (λ (m : ℕ). cond (eqb (bits % 2) 0) square curly ∷ brackets_of (bits / 2) m) less
 
-pub none_open : (bits depth : ℕ) → depth ≡ 0 → bracketsOf bits depth ≡ []
-unfolding bracketsOf
+pub none_open : (bits depth : ℕ) → depth ≡ 0 → brackets_of bits depth ≡ []
+unfolding brackets_of
 none_open bits depth e = rw e
 
 -- one more
-pub pushed-is : (bits depth b : ℕ) → b < 2 → bracketsOf (bits * 2 + b) (depth + 1) ≡ cond (eqb b 0) square curly ∷ bracketsOf bits depth
-pushed-is bits depth b h =
+pub pushed_is : (bits depth b : ℕ) → b < 2 → brackets_of (bits * 2 + b) (depth + 1) ≡ cond (eqb b 0) square curly ∷ brackets_of bits depth
+pushed_is bits depth b h =
     let low : (bits * 2 + b) % 2 ≡ b = omega arith in
     let high : (bits * 2 + b) / 2 ≡ bits = omega arith in
     let less : depth + 1 - 1 ≡ depth = omega arith in
-    some-open (bits * 2 + b) (depth + 1) (λ e. omega arith) ∙ rw (low, high, less)
+    some_open (bits * 2 + b) (depth + 1) (λ e. omega arith) ∙ rw (low, high, less)
 
 -- no move has the number of none
-alive : (m : Move) → moveCode (some m) ≡ dead → ⊥
+alive : (m : Move) → move_code (some m) ≡ dead → ⊥
 alive m e = go m.change refl
   where
     go : (c : Change) → m.change ≡ c → ⊥
-    go keep q = let l = place-low m.place in omega (arith, ap changeCode q)
-    go pop q = let l = place-low m.place in omega (arith, ap changeCode q)
-    go (push square) q = let l = place-low m.place in omega (arith, ap changeCode q)
-    go (push curly) q = let l = place-low m.place in omega (arith, ap changeCode q)
+    go keep q = let l = place_low m.place in omega (arith, ap change_code q)
+    go pop q = let l = place_low m.place in omega (arith, ap change_code q)
+    go (push square) q = let l = place_low m.place in omega (arith, ap change_code q)
+    go (push curly) q = let l = place_low m.place in omega (arith, ap change_code q)
 
 -- a step by its number, where r is the number of the innermost bracket
-module _ (place byte r : ℕ) (ks : List Bracket) (a : bracketAt r ≡ innermost ks) where
-  pub stepped-none : leads (moves (placeAt place) (bracketAt r)) byte ≡ dead → step (at (placeAt place) ks) byte ≡ none
+module _ (place byte r : ℕ) (ks : List Bracket) (a : bracket_at r ≡ innermost ks) where
+  pub stepped_none : leads (moves (place_at place) (bracket_at r)) byte ≡ dead → step (at (place_at place) ks) byte ≡ none
   unfolding leads step
-  stepped-none e = go (pick (moves (placeAt place) (innermost ks)) byte) (rw a at e)
+  stepped_none e = go (pick (moves (place_at place) (innermost ks)) byte) (rw a at e)
     where
-      go : (o : Option Move) → moveCode o ≡ dead → follow ks o ≡ none
+      go : (o : Option Move) → move_code o ≡ dead → follow ks o ≡ none
       go none q = refl
       go (some m) q = absurd (alive m q)
 
-  pub stepped-some : (n : ℕ) → n ≡ leads (moves (placeAt place) (bracketAt r)) byte → (n ≡ dead → ⊥)
-      → step (at (placeAt place) ks) byte ≡ some (at (placeAt (n % 64)) (changed (changeAt (n / 64)) ks))
+  pub stepped_some : (n : ℕ) → n ≡ leads (moves (place_at place) (bracket_at r)) byte → (n ≡ dead → ⊥)
+      → step (at (place_at place) ks) byte ≡ some (at (place_at (n % 64)) (changed (change_at (n / 64)) ks))
   unfolding leads step
-  stepped-some n e d = go (pick (moves (placeAt place) (innermost ks)) byte) (rw a at e)
+  stepped_some n e d = go (pick (moves (place_at place) (innermost ks)) byte) (rw a at e)
     where
-      go : (o : Option Move) → n ≡ moveCode o → follow ks o ≡ some (at (placeAt (n % 64)) (changed (changeAt (n / 64)) ks))
+      go : (o : Option Move) → n ≡ move_code o → follow ks o ≡ some (at (place_at (n % 64)) (changed (change_at (n / 64)) ks))
       go none q = absurd (d q)
-      go (some m) q = rw (q, move-place m, move-change m)
+      go (some m) q = rw (q, move_place m, move_change m)
 
 -- ---- the functions
 
 module _ (o : Open) where
-  pub around-none : o.depth ≡ 0 → Around o 0
-  around-none e = sym (ap innermost (none_open o.bits o.depth e))
+  pub around_none : o.depth ≡ 0 → Around o 0
+  around_none e = sym (ap innermost (none_open o.bits o.depth e))
 
-  around-by : (b : Bool) (r : ℕ) → eqb (o.bits % 2) 0 ≡ b → bracketAt r ≡ some (cond b square curly) → (o.depth ≡ 0 → ⊥) → Around o r
-  around-by b r e q d = q ∙ sym (ap innermost (some-open o.bits o.depth d) ∙ ap (λ (t : Bool). some (cond t square curly)) e)
+  around_by : (b : Bool) (r : ℕ) → eqb (o.bits % 2) 0 ≡ b → bracket_at r ≡ some (cond b square curly) → (o.depth ≡ 0 → ⊥) → Around o r
+  around_by b r e q d = q ∙ sym (ap innermost (some_open o.bits o.depth d) ∙ ap (λ (t : Bool). some (cond t square curly)) e)
 
-  pub around-square : (o.depth ≡ 0 → ⊥) → o.bits % 2 ≡ 0 → Around o 1
-  around-square d e = around-by true 1 (eq-eqb (o.bits % 2) 0 e) refl d
+  pub around_square : (o.depth ≡ 0 → ⊥) → o.bits % 2 ≡ 0 → Around o 1
+  around_square d e = around_by true 1 (eq-eqb (o.bits % 2) 0 e) refl d
 
-  pub around-curly : (o.depth ≡ 0 → ⊥) → (o.bits % 2 ≡ 0 → ⊥) → Around o 2
-  around-curly d e = around-by false 2 (ne_eqb (o.bits % 2) 0 e) refl d
+  pub around_curly : (o.depth ≡ 0 → ⊥) → (o.bits % 2 ≡ 0 → ⊥) → Around o 2
+  around_curly d e = around_by false 2 (ne_eqb (o.bits % 2) 0 e) refl d
 
-  pub push-is : (b : ℕ) → b < 2 → bracketsOf (o.bits * 2 + b) (o.depth + 1) ≡ changed (changeAt (1 + b)) (brackets o)
-  push-is zero h = pushed-is o.bits o.depth 0 h
-  push-is (suc zero) h = pushed-is o.bits o.depth 1 h
-  push-is (suc (suc b)) h = absurd (omega arith)
+  pub push_is : (b : ℕ) → b < 2 → brackets_of (o.bits * 2 + b) (o.depth + 1) ≡ changed (change_at (1 + b)) (brackets o)
+  push_is zero h = pushed_is o.bits o.depth 0 h
+  push_is (suc zero) h = pushed_is o.bits o.depth 1 h
+  push_is (suc (suc b)) h = absurd (omega arith)
 
-  pub pop-none : o.depth ≡ 0 → Changed o 3 o
-  pop-none e = let none = none_open o.bits o.depth e in none ∙ sym (ap outer none)
+  pub pop_none : o.depth ≡ 0 → Changed o 3 o
+  pop_none e = let none = none_open o.bits o.depth e in none ∙ sym (ap outer none)
 
-  pub pop-some : (o.depth ≡ 0 → ⊥) → bracketsOf (o.bits / 2) (o.depth - 1) ≡ changed (changeAt 3) (brackets o)
-  pop-some d = sym (ap outer (some-open o.bits o.depth d))
+  pub pop_some : (o.depth ≡ 0 → ⊥) → brackets_of (o.bits / 2) (o.depth - 1) ≡ changed (change_at 3) (brackets o)
+  pop_some d = sym (ap outer (some_open o.bits o.depth d))
 
 -- ---- how many bits there are
 
@@ -103,8 +103,8 @@ room o f h =
     let grows : 2 ^ o.depth ≤ 2 ^ 62 = pow-le-pow_right (lit< tt) few in
     omega arith
 
-pub push-fits : (o : Open) (b : ℕ) → Fits o → b < 2 → o.bits * 2 + b < 2 ^ (o.depth + 1)
-push-fits o b f h = omega (arith, double o.depth)
+pub push_fits : (o : Open) (b : ℕ) → Fits o → b < 2 → o.bits * 2 + b < 2 ^ (o.depth + 1)
+push_fits o b f h = omega (arith, double o.depth)
 
-pub pop-fits : (o : Open) → Fits o → (o.depth ≡ 0 → ⊥) → o.bits / 2 < 2 ^ (o.depth - 1)
-pop-fits o f d = let whole : o.depth - 1 + 1 ≡ o.depth = omega arith in omega (arith, rw whole at (double (o.depth - 1)))
+pub pop_fits : (o : Open) → Fits o → (o.depth ≡ 0 → ⊥) → o.bits / 2 < 2 ^ (o.depth - 1)
+pop_fits o f d = let whole : o.depth - 1 + 1 ≡ o.depth = omega arith in omega (arith, rw whole at (double (o.depth - 1)))

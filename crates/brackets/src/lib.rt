@@ -1,10 +1,12 @@
 // The open brackets around a place in a JSON text, as bits of one number (`specs/Brackets.antt`,
 // which contracts cite): the innermost one, and what a step of the automaton does to them.
+#![tactic(auto)]
+
 ghost use Rattle.std.specs.Prelude.{◌<◌, ◌+◌};
 ghost use Rattle.brackets.specs.Brackets.{Around, Fits, Turned};
 
 // The brackets that are open, the innermost lowest, and how many there are.
-#[derive(Drop)]
+#[derive(Clone, Copy)]
 pub struct Open {
     pub bits: u64,
     pub depth: u32,

@@ -1,6 +1,6 @@
 -- The sheet of a value passes the record check, and means the value.
 --     accepts        every line of the refusal table passes
---     means-value    row 0 of the record that the words and the text stand for means the value
+--     means_value    row 0 of the record that the words and the text stand for means the value
 -- Assumes nothing.
 use mathlib.Core.Bool.{Bool, true, false, not, ◌&&◌}
 use mathlib.Core.List.{List, []}
@@ -11,39 +11,39 @@ use native.Mathlib.Omega.{arith}
 use borrow.Author.Tests.{le-leb, eq-eqb, ne_eqb}
 use lib.ListN.{length, get_or}
 use Rattle.laws.specs.Lowest.{lowest}
-use Rattle.laws.proofs.Tests.{le-or-lt, decide}
-use Rattle.laws.proofs.Searches.{lowest-is}
+use Rattle.laws.proofs.Tests.{le_or_lt, decide}
+use Rattle.laws.proofs.Searches.{lowest_is}
 use Rattle.text.specs.Part.{part}
-use Rattle.names.specs.Names.{repeatsBy}
-use Rattle.names.proofs.Repeats.{repeats-not}
+use Rattle.names.specs.Names.{repeats_by}
+use Rattle.names.proofs.Repeats.{repeats_not}
 use Rattle.sheet.specs.declared.kind.RowKind.{RowKind}
 use Rattle.sheet.specs.declared.kind.RowKind.TheVariants.{Null, False, True, Number, String, Array, Object}
 use Rattle.sheet.specs.declared.record.Row.{Row}
 use Rattle.sheet.specs.Refusals.{accepted}
 use Rattle.sheet.specs.Doc as D
-use Rattle.sheet.specs.Doc.{Value, isObject, firstChild, childCount, Child, level}
-use Rattle.sheet.specs.Record.{trailer-words, row_words, record-kind, rows-max, rowsWord, backWord, textWord, kindWord, row_at, ownerAt, docOf}
-use Rattle.sheet.specs.Faults.{text-max, wordsOk, textOk, atFault, repeated, notUtf8, level-refused, tooDeep, recordOutcome}
+use Rattle.sheet.specs.Doc.{Value, is_object, first_child, child_count, Child, level}
+use Rattle.sheet.specs.Record.{trailer_words, row_words, record_kind, rows_max, rows_word, back_word, text_word, kind_word, row_at, owner_at, doc_of}
+use Rattle.sheet.specs.Faults.{text_max, words_ok, text_ok, at_fault, repeated, not_utf8, level_refused, too_deep, record_outcome}
 use Rattle.sheet.proofs.Values.{value_in}
 use Rattle.sheet.proofs.Checks.{no_line}
-use Rattle.json.specs.Datum.{Datum}
+use Rattle.jsontext.specs.Datum.{Datum}
 use Rattle.breadth.specs.Forest.{tree}
 use Rattle.breadth.specs.Breadth.{depth}
 use Rattle.breadth.specs.Sheet.{KindRow, rows, text}
-use Rattle.breadth.specs.Meaning.{no_row, rowsDoc, Shaped, Labelled, Fitting, Means, Utf8}
-use Rattle.breadth.specs.Words.{worded, sheetWords}
+use Rattle.breadth.specs.Meaning.{no_row, rows_doc, Shaped, Labelled, Fitting, Means, Utf8}
+use Rattle.breadth.specs.Words.{worded, sheet_words}
 use Rattle.breadth.proofs.Meant.{apart}
-use Rattle.breadth.proofs.Shape.{well-formed, row_on, row-level}
+use Rattle.breadth.proofs.Shape.{well_formed, row_on, row_level}
 use Rattle.breadth.proofs.Names.{labelled}
-use Rattle.breadth.proofs.Readback.{means-root}
-use Rattle.breadth.proofs.Readwords.{Trailed, sheet-long, trailed, row-in-is}
-use Rattle.breadth.proofs.Passing.{kind-back, rows_pass}
-use Rattle.breadth.proofs.Agreeing.{Agrees, means-same, level-same}
+use Rattle.breadth.proofs.Readback.{means_root}
+use Rattle.breadth.proofs.Readwords.{Trailed, sheet_long, trailed, row_in_is}
+use Rattle.breadth.proofs.Passing.{kind_back, rows_pass}
+use Rattle.breadth.proofs.Agreeing.{Agrees, means_same, level_same}
 use Rattle.breadth.proofs.Spelled.{spelled}
 
 -- a test that holds nowhere below n is found nowhere
 none_found : (test : ℕ → Bool) (n : ℕ) → ((j : ℕ) → j < n → test j ≡ false) → n ≤ lowest test n
-none_found test n clear = omega (arith, lowest-is test n n (omega arith) clear (λ (l : n < n). absurd (omega arith)))
+none_found test n clear = omega (arith, lowest_is test n n (omega arith) clear (λ (l : n < n). absurd (omega arith)))
 
 no_test : {A : Type 0} → false ≡ true → A
 no_test e = apart (cc)
@@ -56,7 +56,7 @@ module _ (v : Datum) (u : Fitting v) where
   ts = text (tree v)
 
   abbrev ws : List ℕ
-  ws = sheetWords rs (length ts)
+  ws = sheet_words rs (length ts)
 
   abbrev at : ℕ → KindRow
   at j = get_or rs j no_row
@@ -64,131 +64,131 @@ module _ (v : Datum) (u : Fitting v) where
   sizes : Trailed ws (length rs) (length ts)
   sizes = trailed rs (length ts)
 
-  shape : Shaped (rowsDoc rs ts) (length rs)
-  shape = well-formed v
+  shape : Shaped (rows_doc rs ts) (length rs)
+  shape = well_formed v
 
   labels : Labelled rs ts
   labels = labelled v u
 
   row_is : (j : ℕ) → j < length rs → row_at ws j ≡ worded (at j)
-  row_is j h = row-in-is rs (length ts) j h
+  row_is j h = row_in_is rs (length ts) j h
 
   -- ---- the record that the words stand for is that of the rows
 
-  value_same : (j : ℕ) → j < length rs → (rowsDoc rs ts).value j ≡ (docOf ws ts).value j
-  unfolding rowsDoc
-  value_same j h = sym (value_in ws ts j (omega (arith, sizes.rows-word)) ∙ rw (row_is j h, kind-back (at j).kind))
+  value_same : (j : ℕ) → j < length rs → (rows_doc rs ts).value j ≡ (doc_of ws ts).value j
+  unfolding rows_doc
+  value_same j h = sym (value_in ws ts j (omega (arith, sizes.rows_word_is)) ∙ rw (row_is j h, kind_back (at j).kind))
 
-  pub agrees : Agrees (rowsDoc rs ts) (docOf ws ts) (length rs)
-  unfolding rowsDoc docOf
+  pub agrees : Agrees (rows_doc rs ts) (doc_of ws ts) (length rs)
+  unfolding rows_doc doc_of
   agrees =
       record {
-        same-value = value_same;
+        same_value = value_same;
         same_name = λ (j : ℕ) (h : j < length rs). ap (λ (r : Row). part ts r.label) (sym (row_is j h));
-        same-owner = λ (j : ℕ) (h : j < length rs). ap (λ (r : Row). r.owner) (sym (row_is j h));
+        same_owner = λ (j : ℕ) (h : j < length rs). ap (λ (r : Row). r.owner) (sym (row_is j h));
       }
 
-  pub means-value : Means (docOf ws ts) 0 v
-  means-value = means-same (rowsDoc rs ts) (docOf ws ts) (length rs) agrees shape.child-inside v 0 shape.some (means-root v u)
+  pub means_value : Means (doc_of ws ts) 0 v
+  means_value = means_same (rows_doc rs ts) (doc_of ws ts) (length rs) agrees shape.child_inside v 0 shape.some (means_root v u)
 
   -- ---- line 1
 
-  trailer-fits : length rs ≤ rows-max → length ts ≤ text-max → (wordsOk ws && textOk ws (length ts)) ≡ true
-  unfolding wordsOk
-  trailer-fits few short =
+  trailer_fits : length rs ≤ rows_max → length ts ≤ text_max → (words_ok ws && text_ok ws (length ts)) ≡ true
+  unfolding words_ok
+  trailer_fits few short =
       let n = length rs in
       let s = sizes in
       let some = shape.some in
-      let long = sheet-long rs (length ts) in
+      let long = sheet_long rs (length ts) in
       rw (
-        le-leb trailer-words (length ws) (omega arith),
-        eq-eqb (kindWord ws) record-kind s.kind-word,
-        le-leb 1 (rowsWord ws) (omega (arith, s.rows-word)),
-        le-leb (rowsWord ws) rows-max (omega (arith, s.rows-word)),
-        eq-eqb (backWord ws) (row_words * rowsWord ws) (s.back-word ∙ ap (λ (x : ℕ). row_words * x) (sym s.rows-word)),
-        le-leb (backWord ws + trailer-words) (length ws) (omega (arith, s.back-word)),
-        eq-eqb (textWord ws) (length ts) s.text-word,
-        le-leb (length ts) text-max short,
+        le-leb trailer_words (length ws) (omega arith),
+        eq-eqb (kind_word ws) record_kind s.kind_word_is,
+        le-leb 1 (rows_word ws) (omega (arith, s.rows_word_is)),
+        le-leb (rows_word ws) rows_max (omega (arith, s.rows_word_is)),
+        eq-eqb (back_word ws) (row_words * rows_word ws) (s.back_word_is ∙ ap (λ (x : ℕ). row_words * x) (sym s.rows_word_is)),
+        le-leb (back_word ws + trailer_words) (length ws) (omega (arith, s.back_word_is)),
+        eq-eqb (text_word ws) (length ts) s.text_word_is,
+        le-leb (length ts) text_max short,
       )
 
   -- ---- lines 2, 3 and 4
 
-  row-passes : (j : ℕ) → j < rowsWord ws → atFault ws j ≡ false
-  row-passes j h = ap not (rows_pass v u j (omega (arith, sizes.rows-word)))
+  row_passes : (j : ℕ) → j < rows_word ws → at_fault ws j ≡ false
+  row_passes j h = ap not (rows_pass v u j (omega (arith, sizes.rows_word_is)))
 
   -- an object's row is of that kind
-  object-row : (o : ℕ) (kind : RowKind) → (at o).kind ≡ kind → isObject ((rowsDoc rs ts).value o) ≡ true → (at o).kind ≡ Object
-  unfolding rowsDoc
-  object-row o Object e t = e
-  object-row o Null e t = no_test (rw e at t)
-  object-row o False e t = no_test (rw e at t)
-  object-row o True e t = no_test (rw e at t)
-  object-row o Number e t = no_test (rw e at t)
-  object-row o String e t = no_test (rw e at t)
-  object-row o Array e t = no_test (rw e at t)
+  object_row : (o : ℕ) (kind : RowKind) → (at o).kind ≡ kind → is_object ((rows_doc rs ts).value o) ≡ true → (at o).kind ≡ Object
+  unfolding rows_doc
+  object_row o Object e t = e
+  object_row o Null e t = no_test (rw e at t)
+  object_row o False e t = no_test (rw e at t)
+  object_row o True e t = no_test (rw e at t)
+  object_row o Number e t = no_test (rw e at t)
+  object_row o String e t = no_test (rw e at t)
+  object_row o Array e t = no_test (rw e at t)
 
   -- the names of row j's owner's children, and row j's place among them
   module _ (j : ℕ) (h : j < length rs) where
     abbrev o : ℕ
-    o = (docOf ws ts).owner j
+    o = (doc_of ws ts).owner j
 
     abbrev siblings : Value
-    siblings = (docOf ws ts).value o
+    siblings = (doc_of ws ts).value o
 
     abbrev name : ℕ → List ℕ
-    name i = (docOf ws ts).name (firstChild siblings + i)
+    name i = (doc_of ws ts).name (first_child siblings + i)
 
-    owner-is : o ≡ (rowsDoc rs ts).owner j
-    owner-is = sym (agrees.same-owner j h)
+    owner_is : o ≡ (rows_doc rs ts).owner j
+    owner_is = sym (agrees.same_owner j h)
 
     -- the root's name is the first of any
-    root-not : j ≡ 0 → repeatsBy name (j - firstChild siblings) ≡ false
-    root-not z = repeats-not name (j - firstChild siblings) (λ (k : ℕ) (l : k < j - firstChild siblings) (e : name k ≡ name (j - firstChild siblings)). omega arith)
+    root_not : j ≡ 0 → repeats_by name (j - first_child siblings) ≡ false
+    root_not z = repeats_not name (j - first_child siblings) (λ (k : ℕ) (l : k < j - first_child siblings) (e : name k ≡ name (j - first_child siblings)). omega arith)
 
-    other-not : 0 < j → isObject siblings ≡ true → repeatsBy name (j - firstChild siblings) ≡ false
-    other-not p t =
-        let c : Child (rowsDoc rs ts) ((rowsDoc rs ts).owner j) j = shape.placed j p h in
-        let l : (rowsDoc rs ts).owner j < length rs = omega (arith, shape.owner-before j p h) in
-        let q : o < length rs = omega (arith, owner-is) in
-        let w : (rowsDoc rs ts).value ((rowsDoc rs ts).owner j) ≡ siblings = ap (rowsDoc rs ts).value (sym owner-is) ∙ agrees.same-value o q in
-        let kind = object-row ((rowsDoc rs ts).owner j) (at ((rowsDoc rs ts).owner j)).kind refl (ap isObject w ∙ t) in
-        let f = ap firstChild w in
-        let n = ap childCount w in
-        repeats-not name (j - firstChild siblings)
-        (λ (k : ℕ) (b : k < j - firstChild siblings) (e : name k ≡ name (j - firstChild siblings)).
-        let x : ℕ = firstChild siblings + k in
-        let y : firstChild siblings + (j - firstChild siblings) ≡ j = omega (arith, c.after) in
-        let ck : Child (rowsDoc rs ts) ((rowsDoc rs ts).owner j) x = record { after = omega (arith, c.after); within = omega (arith, c.within) } in
-        let xs : x < length rs = shape.child-inside ((rowsDoc rs ts).owner j) x l ck in
-        labels.names-differ ((rowsDoc rs ts).owner j) x j l kind ck c (omega arith)
-        (agrees.same_name x xs ∙ e ∙ ap (docOf ws ts).name y ∙ sym (agrees.same_name j h)))
+    other_not : 0 < j → is_object siblings ≡ true → repeats_by name (j - first_child siblings) ≡ false
+    other_not p t =
+        let c : Child (rows_doc rs ts) ((rows_doc rs ts).owner j) j = shape.placed j p h in
+        let l : (rows_doc rs ts).owner j < length rs = omega (arith, shape.owner_before j p h) in
+        let q : o < length rs = omega (arith, owner_is) in
+        let w : (rows_doc rs ts).value ((rows_doc rs ts).owner j) ≡ siblings = ap (rows_doc rs ts).value (sym owner_is) ∙ agrees.same_value o q in
+        let kind = object_row ((rows_doc rs ts).owner j) (at ((rows_doc rs ts).owner j)).kind refl (ap is_object w ∙ t) in
+        let f = ap first_child w in
+        let n = ap child_count w in
+        repeats_not name (j - first_child siblings)
+        (λ (k : ℕ) (b : k < j - first_child siblings) (e : name k ≡ name (j - first_child siblings)).
+        let x : ℕ = first_child siblings + k in
+        let y : first_child siblings + (j - first_child siblings) ≡ j = omega (arith, c.after) in
+        let ck : Child (rows_doc rs ts) ((rows_doc rs ts).owner j) x = record { after = omega (arith, c.after); within = omega (arith, c.within) } in
+        let xs : x < length rs = shape.child_inside ((rows_doc rs ts).owner j) x l ck in
+        labels.names_differ ((rows_doc rs ts).owner j) x j l kind ck c (omega arith)
+        (agrees.same_name x xs ∙ e ∙ ap (doc_of ws ts).name y ∙ sym (agrees.same_name j h)))
 
-    name-passes : repeated (docOf ws ts) j ≡ false
+    name_passes : repeated (doc_of ws ts) j ≡ false
     unfolding repeated
-    name-passes =
+    name_passes =
         ⊎_elim
-        (λ (t : isObject siblings ≡ true). rw t (⊎_elim (λ (p : 1 ≤ j). other-not p t) (λ (z : j < 1). root-not (omega arith)) (le-or-lt 1 j)))
-        (λ (f : isObject siblings ≡ false). rw f)
-        (decide (isObject siblings))
+        (λ (t : is_object siblings ≡ true). rw t (⊎_elim (λ (p : 1 ≤ j). other_not p t) (λ (z : j < 1). root_not (omega arith)) (le_or_lt 1 j)))
+        (λ (f : is_object siblings ≡ false). rw f)
+        (decide (is_object siblings))
 
-  owner-word : (j : ℕ) → (docOf ws ts).owner j ≡ ownerAt ws j
-  unfolding docOf
-  owner-word j = refl
+  owner_word : (j : ℕ) → (doc_of ws ts).owner j ≡ owner_at ws j
+  unfolding doc_of
+  owner_word j = refl
 
-  level-passes : depth (tree v) < level-refused → (j : ℕ) → j < length rs → tooDeep ws j ≡ false
-  level-passes shallow j h =
+  level_passes : depth (tree v) < level_refused → (j : ℕ) → j < length rs → too_deep ws j ≡ false
+  level_passes shallow j h =
       let on = row_on v j h in
-      let l = row-level v on.0 j h on.1 in
-      let same = level-same (rowsDoc rs ts).owner (ownerAt ws) (length rs) j owners h in
-      ne_eqb (level (ownerAt ws) j) level-refused (λ (e : level (ownerAt ws) j ≡ level-refused). omega (arith, on.1.shallow))
+      let l = row_level v on.0 j h on.1 in
+      let same = level_same (rows_doc rs ts).owner (owner_at ws) (length rs) j owners h in
+      ne_eqb (level (owner_at ws) j) level_refused (λ (e : level (owner_at ws) j ≡ level_refused). omega (arith, on.1.shallow))
     where
-      owners : (i : ℕ) → i < length rs → (rowsDoc rs ts).owner i ≡ ownerAt ws i
-      owners i q = agrees.same-owner i q ∙ owner-word i
+      owners : (i : ℕ) → i < length rs → (rows_doc rs ts).owner i ≡ owner_at ws i
+      owners i q = agrees.same_owner i q ∙ owner_word i
 
   -- ---- line 13
 
-  array_row : (o first count : ℕ) (kind : RowKind) → (at o).kind ≡ kind → (rowsDoc rs ts).value o ≡ D.array first count → (at o).kind ≡ Array
-  unfolding rowsDoc
+  array_row : (o first count : ℕ) (kind : RowKind) → (at o).kind ≡ kind → (rows_doc rs ts).value o ≡ D.array first count → (at o).kind ≡ Array
+  unfolding rows_doc
   array_row o first count Array e t = e
   array_row o first count Null e t = let c = rw e at t in no_test (cc)
   array_row o first count False e t = let c = rw e at t in no_test (cc)
@@ -197,24 +197,24 @@ module _ (v : Datum) (u : Fitting v) where
   array_row o first count String e t = let c = rw e at t in no_test (cc)
   array_row o first count Object e t = let c = rw e at t in no_test (cc)
 
-  no_name : (k : ℕ) → (at k).label ≡ record { start = 0; length = 0 } → (rowsDoc rs ts).name k ≡ []
-  unfolding rowsDoc part
+  no_name : (k : ℕ) → (at k).label ≡ record { start = 0; length = 0 } → (rows_doc rs ts).name k ≡ []
+  unfolding rows_doc part
   no_name k e = rw e
 
-  bare : (o k first count : ℕ) → o < length rs → (rowsDoc rs ts).value o ≡ D.array first count → Child (rowsDoc rs ts) o k → (rowsDoc rs ts).name k ≡ []
-  bare o k first count l e c = no_name k (labels.items-bare o k l (array_row o first count (at o).kind refl e) c)
+  bare : (o k first count : ℕ) → o < length rs → (rows_doc rs ts).value o ≡ D.array first count → Child (rows_doc rs ts) o k → (rows_doc rs ts).name k ≡ []
+  bare o k first count l e c = no_name k (labels.items_bare o k l (array_row o first count (at o).kind refl e) c)
 
-  text-passes : Utf8 v → (j : ℕ) → j < length rs → notUtf8 (docOf ws ts) j ≡ false
-  unfolding notUtf8
-  text-passes well j h =
-      let s = spelled (rowsDoc rs ts) (length rs) bare shape v (means-root v u) well (no_name 0 labels.root-bare) j h in
-      rw (← agrees.same_name j h, ← agrees.same-value j h, s.0, s.1)
+  text_passes : Utf8 v → (j : ℕ) → j < length rs → not_utf8 (doc_of ws ts) j ≡ false
+  unfolding not_utf8
+  text_passes well j h =
+      let s = spelled (rows_doc rs ts) (length rs) bare shape v (means_root v u) well (no_name 0 labels.root_bare) j h in
+      rw (← agrees.same_name j h, ← agrees.same_value j h, s.0, s.1)
 
-  pub accepts : Utf8 v → length rs ≤ rows-max → length ts ≤ text-max → depth (tree v) < level-refused → recordOutcome ws ts ≡ accepted (length rs)
+  pub accepts : Utf8 v → length rs ≤ rows_max → length ts ≤ text_max → depth (tree v) < level_refused → record_outcome ws ts ≡ accepted (length rs)
   accepts well few short shallow =
-      no_line ws ts (trailer-fits few short)
-      (none_found (atFault ws) (rowsWord ws) row-passes)
-      (none_found (repeated (docOf ws ts)) (rowsWord ws) (λ (j : ℕ) (h : j < rowsWord ws). name-passes j (omega (arith, sizes.rows-word))))
-      (none_found (notUtf8 (docOf ws ts)) (rowsWord ws) (λ (j : ℕ) (h : j < rowsWord ws). text-passes well j (omega (arith, sizes.rows-word))))
-      (none_found (tooDeep ws) (rowsWord ws) (λ (j : ℕ) (h : j < rowsWord ws). level-passes shallow j (omega (arith, sizes.rows-word))))
-      ∙ ap accepted sizes.rows-word
+      no_line ws ts (trailer_fits few short)
+      (none_found (at_fault ws) (rows_word ws) row_passes)
+      (none_found (repeated (doc_of ws ts)) (rows_word ws) (λ (j : ℕ) (h : j < rows_word ws). name_passes j (omega (arith, sizes.rows_word_is))))
+      (none_found (not_utf8 (doc_of ws ts)) (rows_word ws) (λ (j : ℕ) (h : j < rows_word ws). text_passes well j (omega (arith, sizes.rows_word_is))))
+      (none_found (too_deep ws) (rows_word ws) (λ (j : ℕ) (h : j < rows_word ws). level_passes shallow j (omega (arith, sizes.rows_word_is))))
+      ∙ ap accepted sizes.rows_word_is

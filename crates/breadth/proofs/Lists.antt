@@ -8,7 +8,7 @@ use native.Mathlib.Nat.{eq-or-lt_of_le}
 use native.Mathlib.Omega.{arith}
 use lib.ListN.{length, get_or, drop, length-append, length-drop, get_or-append}
 use lib.Seq.{get_or-append-add, get_or-drop, ext_get_or}
-use Rattle.laws.proofs.Tests.{le-or-lt}
+use Rattle.laws.proofs.Tests.{le_or_lt}
 use Rattle.breadth.specs.Breadth.{Entry}
 use Rattle.breadth.specs.Sheet.{weigh, text_of, bytes_of}
 use Rattle.breadth.specs.Counters.{one, size}
@@ -18,32 +18,32 @@ same_or_not a b =
     ⊎_elim
     (λ (l : a ≤ b). ⊎_elim (λ (e : a ≡ b). inl e) (λ (g : a < b). inr (omega arith)) (eq-or-lt_of_le l))
     (λ (l : b < a). inr (omega arith))
-    (le-or-lt a b)
+    (le_or_lt a b)
 
-pub weigh-append : (w : Entry → ℕ) (a b : List Entry) → weigh w (a ++ b) ≡ weigh w a + weigh w b
+pub weigh_append : (w : Entry → ℕ) (a b : List Entry) → weigh w (a ++ b) ≡ weigh w a + weigh w b
 unfolding weigh
-weigh-append w [] b = omega arith
-weigh-append w (e ∷ a) b = omega (arith, weigh-append w a b)
+weigh_append w [] b = omega arith
+weigh_append w (e ∷ a) b = omega (arith, weigh_append w a b)
 
-pub weigh-one : (es : List Entry) → weigh one es ≡ length es
+pub weigh_one : (es : List Entry) → weigh one es ≡ length es
 unfolding weigh
-weigh-one [] = refl
-weigh-one (e ∷ es) = omega (arith, weigh-one es)
+weigh_one [] = refl
+weigh_one (e ∷ es) = omega (arith, weigh_one es)
 
-pub weigh-size : (es : List Entry) → weigh size es ≡ length (text_of es)
+pub weigh_size : (es : List Entry) → weigh size es ≡ length (text_of es)
 unfolding weigh text_of
-weigh-size [] = refl
-weigh-size (e ∷ es) = omega (arith, weigh-size es, length-append (bytes_of e) (text_of es))
+weigh_size [] = refl
+weigh_size (e ∷ es) = omega (arith, weigh_size es, length-append (bytes_of e) (text_of es))
 
-pub text-append : (a b : List Entry) → text_of (a ++ b) ≡ text_of a ++ text_of b
+pub text_append : (a b : List Entry) → text_of (a ++ b) ≡ text_of a ++ text_of b
 unfolding text_of
-text-append [] b = refl
-text-append (e ∷ a) b = rw (text-append a b) (sym (append_assoc (bytes_of e) (text_of a) (text_of b)))
+text_append [] b = refl
+text_append (e ∷ a) b = rw (text_append a b) (sym (append_assoc (bytes_of e) (text_of a) (text_of b)))
 
 module _ {A : Type 0} where
-  pub nothing-holds : (p q : List A) (x : A) → [] ≡ p ++ x ∷ q → ⊥
-  nothing-holds [] q x h = let z : ◌≡◌ {A = ℕ} 0 1 = cc in omega arith
-  nothing-holds (y ∷ p) q x h = let z : ◌≡◌ {A = ℕ} 0 1 = cc in omega arith
+  pub nothing_holds : (p q : List A) (x : A) → [] ≡ p ++ x ∷ q → ⊥
+  nothing_holds [] q x h = let z : ◌≡◌ {A = ℕ} 0 1 = cc in omega arith
+  nothing_holds (y ∷ p) q x h = let z : ◌≡◌ {A = ℕ} 0 1 = cc in omega arith
 
   -- where x stands, if p stands before it in two lists' join
   abbrev pub InFirst : List A → List A → A → Type 0
@@ -76,4 +76,4 @@ module _ {A : Type 0} where
       kept i l ∙ ap (λ (x : ℕ). get_or area₀ x d) z ∙ sym (get_or-drop n area₀ (i - n) d) ∙ sym (get_or-append-add xs (drop n area₀) (i - n) d)
       ∙ ap (λ (x : ℕ). get_or (xs ++ drop n area₀) x d) (sym z))
       (λ (l : i < n). same i l ∙ sym (get_or-append xs (drop n area₀) d i l))
-      (le-or-lt n i))
+      (le_or_lt n i))

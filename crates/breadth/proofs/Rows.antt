@@ -1,9 +1,9 @@
 -- The rows of any list of entries, by the entries before each.
---     entry-at, first-at, start-at    what row `length a` of a ++ e ∷ b is made from
+--     entry_at, first_at, start_at    what row `length a` of a ++ e ∷ b is made from
 --     owner_at                        the rows in its range name it as their owner
 --     owns                            every row up to the last child but row 0 lies in its owner's range
 --     row_at                          the list of rows holds them
---     label-read, string-read         the label's and the string's ranges hold their bytes
+--     label_read, string_read         the label's and the string's ranges hold their bytes
 -- Assumes nothing.
 use mathlib.Core.List.{List, [], ◌∷◌, ◌++◌, append_assoc}
 use mathlib.Core.Logic.{⊎_elim}
@@ -15,59 +15,59 @@ use lib.Seq.{take-append_seam, drop_at, get_or-append_seam, get_or-append-add}
 use Rattle.text.specs.Part.{part}
 use Rattle.breadth.specs.Forest.{Forest}
 use Rattle.breadth.specs.Breadth.{Entry, breadth}
-use Rattle.breadth.specs.Sheet.{weigh, count_of, first_of, ownersFrom, ownerOf, start_of, text_of, labelBytes, stringBytes, no-entry, row_of, rows_from, rows}
+use Rattle.breadth.specs.Sheet.{weigh, count_of, first_one_of, owners_from, owner_of, start_of, text_of, label_bytes, string_bytes, no_entry, row_of, rows_from, rows}
 use Rattle.breadth.specs.Meaning.{part_at, no_row}
 use Rattle.breadth.specs.Counters.{size}
-use Rattle.laws.proofs.Tests.{le-or-lt}
-use Rattle.breadth.proofs.Lists.{weigh-size, text-append}
+use Rattle.laws.proofs.Tests.{le_or_lt}
+use Rattle.breadth.proofs.Lists.{weigh_size, text_append}
 
 module _ (a : List Entry) (e : Entry) (b : List Entry) where
-  pub entry-at : get_or (a ++ e ∷ b) (length a) no-entry ≡ e
-  entry-at = get_or-append_seam a e b no-entry
+  pub entry_at : get_or (a ++ e ∷ b) (length a) no_entry ≡ e
+  entry_at = get_or-append_seam a e b no_entry
 
-  pub first-at : first_of (a ++ e ∷ b) (length a) ≡ 1 + weigh count_of a
-  first-at = rw (take-append_seam a (e ∷ b))
+  pub first_at : first_one_of (a ++ e ∷ b) (length a) ≡ 1 + weigh count_of a
+  first_at = rw (take-append_seam a (e ∷ b))
 
-  pub start-at : start_of (a ++ e ∷ b) (length a) ≡ weigh size a
-  start-at = rw (take-append_seam a (e ∷ b)) (sym (weigh-size a))
+  pub start_at : start_of (a ++ e ∷ b) (length a) ≡ weigh size a
+  start_at = rw (take-append_seam a (e ∷ b)) (sym (weigh_size a))
 
   -- ---- the text
 
-  pub text_at : text_of (a ++ e ∷ b) ≡ text_of a ++ (labelBytes e.label ++ (stringBytes e.head ++ text_of b))
+  pub text_at : text_of (a ++ e ∷ b) ≡ text_of a ++ (label_bytes e.label ++ (string_bytes e.head ++ text_of b))
   unfolding text_of
-  text_at = text-append a (e ∷ b) ∙ rw (append_assoc (labelBytes e.label) (stringBytes e.head) (text_of b))
+  text_at = text_append a (e ∷ b) ∙ rw (append_assoc (label_bytes e.label) (string_bytes e.head) (text_of b))
 
-  pub label-read : part_at (text_of (a ++ e ∷ b)) (length (text_of a)) (length (labelBytes e.label)) ≡ labelBytes e.label
+  pub label_read : part_at (text_of (a ++ e ∷ b)) (length (text_of a)) (length (label_bytes e.label)) ≡ label_bytes e.label
   unfolding part
-  label-read =
-      rw (text_at, drop_at (text_of a) (labelBytes e.label ++ (stringBytes e.head ++ text_of b)) (length (text_of a)) refl)
-      (take-append_seam (labelBytes e.label) (stringBytes e.head ++ text_of b))
+  label_read =
+      rw (text_at, drop_at (text_of a) (label_bytes e.label ++ (string_bytes e.head ++ text_of b)) (length (text_of a)) refl)
+      (take-append_seam (label_bytes e.label) (string_bytes e.head ++ text_of b))
 
-  pub string-read : part_at (text_of (a ++ e ∷ b)) (length (text_of a) + length (labelBytes e.label)) (length (stringBytes e.head)) ≡ stringBytes e.head
+  pub string_read : part_at (text_of (a ++ e ∷ b)) (length (text_of a) + length (label_bytes e.label)) (length (string_bytes e.head)) ≡ string_bytes e.head
   unfolding part
-  string-read =
+  string_read =
       rw (
         text_at,
-        ← append_assoc (text_of a) (labelBytes e.label) (stringBytes e.head ++ text_of b),
-        drop_at (text_of a ++ labelBytes e.label) (stringBytes e.head ++ text_of b) (length (text_of a) + length (labelBytes e.label)) (length-append (text_of a) (labelBytes e.label)),
+        ← append_assoc (text_of a) (label_bytes e.label) (string_bytes e.head ++ text_of b),
+        drop_at (text_of a ++ label_bytes e.label) (string_bytes e.head ++ text_of b) (length (text_of a) + length (label_bytes e.label)) (length-append (text_of a) (label_bytes e.label)),
       )
-      (take-append_seam (stringBytes e.head) (text_of b))
+      (take-append_seam (string_bytes e.head) (text_of b))
 
 -- ---- owners
 
-owner-from : (a b : List Entry) (e : Entry) (i j : ℕ) → j < e.count → get_or (ownersFrom i (a ++ e ∷ b)) (weigh count_of a + j) 0 ≡ i + length a
-unfolding weigh ownersFrom
-owner-from [] b e i j h =
+owner_from : (a b : List Entry) (e : Entry) (i j : ℕ) → j < e.count → get_or (owners_from i (a ++ e ∷ b)) (weigh count_of a + j) 0 ≡ i + length a
+unfolding weigh owners_from
+owner_from [] b e i j h =
     let z : 0 + j ≡ j = omega arith in
-    rw (z, get_or-append (replicate e.count i) (ownersFrom (suc i) b) 0 j (rw (length-replicate e.count i) h), get_or-replicate e.count j i 0 h) (omega arith)
-owner-from (d ∷ a) b e i j h =
+    rw (z, get_or-append (replicate e.count i) (owners_from (suc i) b) 0 j (rw (length-replicate e.count i) h), get_or-replicate e.count j i 0 h) (omega arith)
+owner_from (d ∷ a) b e i j h =
     let z : d.count + weigh count_of a + j ≡ length (replicate d.count i) + (weigh count_of a + j) = rw (length-replicate d.count i) (omega arith) in
-    rw (z, get_or-append-add (replicate d.count i) (ownersFrom (suc i) (a ++ e ∷ b)) (weigh count_of a + j) 0) (omega (arith, owner-from a b e (suc i) j h))
+    rw (z, get_or-append-add (replicate d.count i) (owners_from (suc i) (a ++ e ∷ b)) (weigh count_of a + j) 0) (omega (arith, owner_from a b e (suc i) j h))
 
-pub owner_at : (a b : List Entry) (e : Entry) (j : ℕ) → j < e.count → ownerOf (a ++ e ∷ b) (1 + weigh count_of a + j) ≡ length a
+pub owner_at : (a b : List Entry) (e : Entry) (j : ℕ) → j < e.count → owner_of (a ++ e ∷ b) (1 + weigh count_of a + j) ≡ length a
 owner_at a b e j h =
     let z : 1 + weigh count_of a + j ≡ suc (weigh count_of a + j) = omega arith in
-    rw z (omega (arith, owner-from a b e 0 j h))
+    rw z (omega (arith, owner_from a b e 0 j h))
 
 -- entry `owner` has child number m of all children
 pub record Owns (es : List Entry) (m : ℕ) : Type 0 where
@@ -97,7 +97,7 @@ owns (e ∷ es) m h =
       high = omega (arith, o.high);
     })
     (λ (l : m < e.count). record { before = []; owner = e; rest = es; is = refl; low = omega arith; high = omega arith })
-    (le-or-lt e.count m)
+    (le_or_lt e.count m)
 
 -- ---- the list of rows
 

@@ -9,31 +9,31 @@ use Prim.Native.Nat.{ℕ, suc, ◌+◌, ◌-◌, ◌≤◌, ◌<◌}
 use native.Mathlib.Omega.{arith}
 use lib.ListN.{length, get_or, drop, set, length-set}
 use lib.Seq.{get_or-set_same, get_or-set_other}
-use Rattle.breadth.specs.Forest.{Label, Head, a-null, a-bool, a-number, a-string, an-array, an-object, Forest, empty, node, trees}
+use Rattle.breadth.specs.Forest.{Label, Head, a_null, a_bool, a_number, a_string, an_array, an_object, Forest, empty, node, trees}
 use Rattle.breadth.specs.Breadth.{Entry, Event, entry_of, event, walk, depth}
-use Rattle.breadth.specs.Sheet.{KindRow, rowFor, rows}
+use Rattle.breadth.specs.Sheet.{KindRow, row_for, rows}
 use Rattle.breadth.specs.Meaning.{no_row}
-use Rattle.breadth.specs.Counters.{one, size, bump, after, starts, ownerBy, row_by}
-use Rattle.breadth.specs.Tokens.{Token, ends, tokens, openRow, closeRow, begun, run}
-use Rattle.laws.proofs.Tests.{le-or-lt}
+use Rattle.breadth.specs.Counters.{one, size, bump, after, starts, owner_by, row_by}
+use Rattle.breadth.specs.Tokens.{Token, ends, tokens, open_row, close_row, begun, run}
+use Rattle.laws.proofs.Tests.{le_or_lt}
 use Rattle.breadth.proofs.Lists.{same_or_not, written}
-use Rattle.breadth.proofs.Walks.{sum, sum-nil, sum-append, sum_same, sum-other, shallow, on-trees, high, high-next, Splits}
-use Rattle.breadth.proofs.Places.{in-range}
+use Rattle.breadth.proofs.Walks.{sum, sum_nil, sum_append, sum_same, sum_other, shallow, on_trees, high, high_next, Splits}
+use Rattle.breadth.proofs.Places.{in_range}
 use Rattle.breadth.proofs.Rows.{same_length}
-use Rattle.breadth.proofs.Passes.{now, now-is, after-append, after_last, taken, locate, rows-high}
-use Rattle.breadth.proofs.Numbers.{high-climbs}
+use Rattle.breadth.proofs.Passes.{now, now_is, after_append, after_last, taken, locate, rows_high}
+use Rattle.breadth.proofs.Numbers.{high_climbs}
 
 -- a row that is opened and then closed is the row
 close_open : (l : Label) (h : Head) (c first owner start : ℕ)
-    → closeRow (openRow l h first owner start) (first + c) ≡ rowFor (record { label = l; head = h; count = c }) first owner start
-unfolding closeRow openRow rowFor
-close_open l a-null c first owner start = refl
-close_open l (a-bool true) c first owner start = refl
-close_open l (a-bool false) c first owner start = refl
-close_open l (a-number d s) c first owner start = refl
-close_open l (a-string bs) c first owner start = refl
-close_open l an-array c first owner start = let z : first + c - first ≡ c = omega arith in rw z
-close_open l an-object c first owner start = let z : first + c - first ≡ c = omega arith in rw z
+    → close_row (open_row l h first owner start) (first + c) ≡ row_for (record { label = l; head = h; count = c }) first owner start
+unfolding close_row open_row row_for
+close_open l a_null c first owner start = refl
+close_open l (a_bool true) c first owner start = refl
+close_open l (a_bool false) c first owner start = refl
+close_open l (a_number d s) c first owner start = refl
+close_open l (a_string bs) c first owner start = refl
+close_open l an_array c first owner start = let z : first + c - first ≡ c = omega arith in rw z
+close_open l an_object c first owner start = let z : first + c - first ≡ c = omega arith in rw z
 
 module _ (f : Forest) (root : trees f ≡ 1) (area₀ : List KindRow) (room : length (rows f) ≤ length area₀) where
   abbrev es : List Event
@@ -57,15 +57,15 @@ module _ (f : Forest) (root : trees f ≡ 1) (area₀ : List KindRow) (room : le
     pub ran : run k (now one es pre) (now size es pre) (tokens g ++ ts) area ≡ run k (now one es (pre ++ walk k g)) (now size es (pre ++ walk k g)) ts area'
 
   more : (a b : List Event) (j : ℕ) → N (a ++ b) j ≡ N a j + sum one j b
-  more a b j = omega (arith, sum-append one j a b)
+  more a b j = omega (arith, sum_append one j a b)
 
   bounded : (a b : List Event) (j : ℕ) → es ≡ a ++ b → N a j ≤ high one (suc j) es
   bounded a b j h =
-      let t : sum one j es ≡ sum one j a + sum one j b = ap (sum one j) h ∙ sum-append one j a b in
-      omega (arith, high-next one j es)
+      let t : sum one j es ≡ sum one j a + sum one j b = ap (sum one j) h ∙ sum_append one j a b in
+      omega (arith, high_next one j es)
 
-  now-begun : (w : Entry → ℕ) (pre : List Event) (k : ℕ) (e : Entry) → now w es (pre ++ event k e ∷ []) ≡ bump w (now w es pre) (event k e)
-  now-begun w pre k e = after-append w pre (event k e ∷ []) (starts w es) ∙ after_last w (now w es pre) (event k e)
+  now_begun : (w : Entry → ℕ) (pre : List Event) (k : ℕ) (e : Entry) → now w es (pre ++ event k e ∷ []) ≡ bump w (now w es pre) (event k e)
+  now_begun w pre k e = after_append w pre (event k e ∷ []) (starts w es) ∙ after_last w (now w es pre) (event k e)
 
   module _ (l : Label) (h : Head) (c s : Forest) (k : ℕ) (pre post : List Event) (is : es ≡ pre ++ (walk k (node l h c s) ++ post)) where
     abbrev e : Entry
@@ -96,17 +96,17 @@ module _ (f : Forest) (root : trees f ≡ 1) (area₀ : List KindRow) (room : le
     r₀ = N pre k
 
     -- the counters there
-    at-k : N pre₁ k ≡ suc r₀
-    at-k = omega (arith, more pre (event k e ∷ []) k, sum_same one k e [], sum-nil one k)
+    at_k : N pre₁ k ≡ suc r₀
+    at_k = omega (arith, more pre (event k e ∷ []) k, sum_same one k e [], sum_nil one k)
 
     at_other : (j : ℕ) → (k ≡ j → ⊥) → N pre₁ j ≡ N pre j
-    at_other j n = omega (arith, more pre (event k e ∷ []) j, sum-other one j k e [] n, sum-nil one j)
+    at_other j n = omega (arith, more pre (event k e ∷ []) j, sum_other one j k e [] n, sum_nil one j)
 
-    at-k₂ : N pre₂ k ≡ suc r₀
-    at-k₂ = omega (arith, more pre₁ (walk (suc k) c) k, at-k, shallow one c (suc k) k (omega arith))
+    at_k₂ : N pre₂ k ≡ suc r₀
+    at_k₂ = omega (arith, more pre₁ (walk (suc k) c) k, at_k, shallow one c (suc k) k (omega arith))
 
-    at-children : N pre₂ (suc k) ≡ N pre (suc k) + trees c
-    at-children = omega (arith, more pre₁ (walk (suc k) c) (suc k), at_other (suc k) (omega arith), on-trees c (suc k))
+    at_children : N pre₂ (suc k) ≡ N pre (suc k) + trees c
+    at_children = omega (arith, more pre₁ (walk (suc k) c) (suc k), at_other (suc k) (omega arith), on_trees c (suc k))
 
     low₁ : (j : ℕ) → N pre j ≤ N pre₁ j
     low₁ j = omega (arith, more pre (event k e ∷ []) j)
@@ -118,139 +118,139 @@ module _ (f : Forest) (root : trees f ≡ 1) (area₀ : List KindRow) (room : le
     low₃ j = omega (arith, more pre₂ (walk k s) j)
 
     inside : r₀ < length (rows f)
-    inside = omega (arith, in-range f pre (walk (suc k) c ++ (walk k s ++ post)) k e splits, same_length f)
+    inside = omega (arith, in_range f pre (walk (suc k) c ++ (walk k s ++ post)) k e splits, same_length f)
 
     -- a row of another level, or of its level but not it
-    not-it : (j r : ℕ) → high one j es ≤ r → r < high one (suc j) es → (k ≡ j → r ≡ r₀ → ⊥) → r ≡ r₀ → ⊥
-    not-it j r p q n z =
+    not_it : (j r : ℕ) → high one j es ≤ r → r < high one (suc j) es → (k ≡ j → r ≡ r₀ → ⊥) → r ≡ r₀ → ⊥
+    not_it j r p q n z =
         ⊎_elim
         (λ (g : k ≡ j). n g z)
         (λ (g : k ≡ j → ⊥).
         ⊎_elim
-        (λ (m : j ≤ k). omega (arith, high-climbs es (suc j) k (omega arith)))
-        (λ (m : k < j). omega (arith, high-climbs es (suc k) j m, bounded pre₁ (walk (suc k) c ++ (walk k s ++ post)) k is₁, at-k))
-        (le-or-lt j k))
+        (λ (m : j ≤ k). omega (arith, high_climbs es (suc j) k (omega arith)))
+        (λ (m : k < j). omega (arith, high_climbs es (suc k) j m, bounded pre₁ (walk (suc k) c ++ (walk k s ++ post)) k is₁, at_k))
+        (le_or_lt j k))
         (same_or_not k j)
 
-    abbrev open_row : KindRow
-    open_row = openRow l h (now one es pre (suc k)) (ownerBy k (now one es pre)) (now size es pre k)
+    abbrev opened_row : KindRow
+    opened_row = open_row l h (now one es pre (suc k)) (owner_by k (now one es pre)) (now size es pre k)
 
-    abbrev closed-row : KindRow
-    closed-row = row_by (now one es pre) (now size es pre) (event k e)
+    abbrev closed_row : KindRow
+    closed_row = row_by (now one es pre) (now size es pre) (event k e)
 
     module _ (area area₂ area₄ : List KindRow) (long₀ : length area ≡ length area₀)
-        (in_c : Wrote pre₁ pre₂ (set area r₀ open_row) area₂)
-        (in-s : Wrote pre₂ (pre₂ ++ walk k s) (set area₂ r₀ closed-row) area₄) where
+        (in_c : Wrote pre₁ pre₂ (set area r₀ opened_row) area₂)
+        (in_s : Wrote pre₂ (pre₂ ++ walk k s) (set area₂ r₀ closed_row) area₄) where
       -- the row is still there as it was opened
-      still_open : get_or area₂ r₀ no_row ≡ open_row
+      still_open : get_or area₂ r₀ no_row ≡ opened_row
       still_open =
-          in_c.kept k r₀ (omega arith) (omega (arith, bounded pre₁ (walk (suc k) c ++ (walk k s ++ post)) k is₁, at-k)) (inl (omega (arith, at-k)))
-          ∙ get_or-set_same area r₀ open_row no_row (omega (arith, inside))
+          in_c.kept k r₀ (omega arith) (omega (arith, bounded pre₁ (walk (suc k) c ++ (walk k s ++ post)) k is₁, at_k)) (inl (omega (arith, at_k)))
+          ∙ get_or-set_same area r₀ opened_row no_row (omega (arith, inside))
 
       long₂ : length area₂ ≡ length area
-      long₂ = in_c.long ∙ length-set area r₀ open_row
+      long₂ = in_c.long ∙ length-set area r₀ opened_row
 
-      right : get_or (set area₂ r₀ closed-row) r₀ no_row ≡ get_or (rows f) r₀ no_row
+      right : get_or (set area₂ r₀ closed_row) r₀ no_row ≡ get_or (rows f) r₀ no_row
       right =
-          get_or-set_same area₂ r₀ closed-row no_row (omega (arith, inside, long₂))
+          get_or-set_same area₂ r₀ closed_row no_row (omega (arith, inside, long₂))
           ∙ sym (taken f root pre (walk (suc k) c ++ (walk k s ++ post)) k e splits)
-          ∙ ap (λ (x : ℕ). get_or (rows f) x no_row) (now-is one es pre k)
+          ∙ ap (λ (x : ℕ). get_or (rows f) x no_row) (now_is one es pre k)
 
-      wrote-all : Wrote pre (pre₂ ++ walk k s) area area₄
-      wrote-all =
+      wrote_all : Wrote pre (pre₂ ++ walk k s) area area₄
+      wrote_all =
           record {
-            long = in-s.long ∙ length-set area₂ r₀ closed-row ∙ long₂;
+            long = in_s.long ∙ length-set area₂ r₀ closed_row ∙ long₂;
             done =
                 λ (j r : ℕ) (p : N pre j ≤ r) (q : r < N (pre₂ ++ walk k s) j).
                 ⊎_elim
-                (λ (g : N pre₂ j ≤ r). in-s.done j r g q)
+                (λ (g : N pre₂ j ≤ r). in_s.done j r g q)
                 (λ (g : r < N pre₂ j).
-                in-s.kept j r (omega arith) (omega (arith, bounded pre₂ (walk k s ++ post) j is₂)) (inl g)
+                in_s.kept j r (omega arith) (omega (arith, bounded pre₂ (walk k s ++ post) j is₂)) (inl g)
                 ∙ ⊎_elim
                 (λ (z : r ≡ r₀). rw z right)
                 (λ (n : r ≡ r₀ → ⊥).
-                get_or-set_other area₂ r₀ r closed-row no_row n
+                get_or-set_other area₂ r₀ r closed_row no_row n
                 ∙ in_c.done j r
                 (⊎_elim
-                (λ (z : k ≡ j). absurd (n (let a : N pre j ≡ r₀ = rw (← z) in let b : N pre₂ j ≡ suc r₀ = rw (← z) at-k₂ in omega arith)))
+                (λ (z : k ≡ j). absurd (n (let a : N pre j ≡ r₀ = rw (← z) in let b : N pre₂ j ≡ suc r₀ = rw (← z) at_k₂ in omega arith)))
                 (λ (m : k ≡ j → ⊥). omega (arith, at_other j m))
                 (same_or_not k j))
                 g)
                 (same_or_not r r₀))
-                (le-or-lt (N pre₂ j) r);
+                (le_or_lt (N pre₂ j) r);
             kept =
                 λ (j r : ℕ) (p : high one j es ≤ r) (q : r < high one (suc j) es) (o : (r < N pre j) ⊎ (N (pre₂ ++ walk k s) j ≤ r)).
                 let n : r ≡ r₀ → ⊥ =
-                not-it j r p q
+                not_it j r p q
                 (λ (z : k ≡ j) (y : r ≡ r₀).
                 let a : N pre j ≡ r₀ = rw (← z) in
-                let b : N pre₂ j ≡ suc r₀ = rw (← z) at-k₂ in
+                let b : N pre₂ j ≡ suc r₀ = rw (← z) at_k₂ in
                 ⊎_elim (λ (g : r < N pre j). omega arith) (λ (g : N (pre₂ ++ walk k s) j ≤ r). omega (arith, low₃ j)) o) in
-                in-s.kept j r p q (⊎_elim (λ (g : r < N pre j). inl (omega (arith, low₁ j, low₂ j))) (λ (g : N (pre₂ ++ walk k s) j ≤ r). inr g) o)
-                ∙ get_or-set_other area₂ r₀ r closed-row no_row n
+                in_s.kept j r p q (⊎_elim (λ (g : r < N pre j). inl (omega (arith, low₁ j, low₂ j))) (λ (g : N (pre₂ ++ walk k s) j ≤ r). inr g) o)
+                ∙ get_or-set_other area₂ r₀ r closed_row no_row n
                 ∙ in_c.kept j r p q (⊎_elim (λ (g : r < N pre j). inl (omega (arith, low₁ j))) (λ (g : N (pre₂ ++ walk k s) j ≤ r). inr (omega (arith, low₃ j))) o)
-                ∙ get_or-set_other area r₀ r open_row no_row n;
+                ∙ get_or-set_other area r₀ r opened_row no_row n;
             tail =
                 λ (r : ℕ) (p : length (rows f) ≤ r).
-                in-s.tail r p ∙ get_or-set_other area₂ r₀ r closed-row no_row (omega (arith, inside)) ∙ in_c.tail r p ∙ get_or-set_other area r₀ r open_row no_row (omega (arith, inside));
+                in_s.tail r p ∙ get_or-set_other area₂ r₀ r closed_row no_row (omega (arith, inside)) ∙ in_c.tail r p ∙ get_or-set_other area r₀ r opened_row no_row (omega (arith, inside));
           }
 
     -- ---- the pass at its start and at its end
 
-    at-start : (ts : List Token) (area : List KindRow)
+    at_start : (ts : List Token) (area : List KindRow)
         → run k (now one es pre) (now size es pre) (tokens (node l h c s) ++ ts) area
-        ≡ run (suc k) (now one es pre₁) (now size es pre₁) (tokens c ++ (ends ∷ (tokens s ++ ts))) (set area r₀ open_row)
+        ≡ run (suc k) (now one es pre₁) (now size es pre₁) (tokens c ++ (ends ∷ (tokens s ++ ts))) (set area r₀ opened_row)
     unfolding run tokens bump
-    at-start ts area =
+    at_start ts area =
         rw (append_assoc (tokens c) (ends ∷ tokens s) ts)
-        (let a : bump one (now one es pre) (begun k l h) ≡ now one es pre₁ = sym (now-begun one pre k e) in
-        let b : bump size (now size es pre) (begun k l h) ≡ now size es pre₁ = sym (now-begun size pre k e) in
-        ap (λ (x : ℕ). run (suc k) (bump one (now one es pre) (begun k l h)) (bump size (now size es pre) (begun k l h)) (tokens c ++ (ends ∷ (tokens s ++ ts))) (set area x open_row)) (now-is one es pre k)
-        ∙ ap (λ (x : ℕ → ℕ). run (suc k) x (bump size (now size es pre) (begun k l h)) (tokens c ++ (ends ∷ (tokens s ++ ts))) (set area r₀ open_row)) a
-        ∙ ap (λ (x : ℕ → ℕ). run (suc k) (now one es pre₁) x (tokens c ++ (ends ∷ (tokens s ++ ts))) (set area r₀ open_row)) b)
+        (let a : bump one (now one es pre) (begun k l h) ≡ now one es pre₁ = sym (now_begun one pre k e) in
+        let b : bump size (now size es pre) (begun k l h) ≡ now size es pre₁ = sym (now_begun size pre k e) in
+        ap (λ (x : ℕ). run (suc k) (bump one (now one es pre) (begun k l h)) (bump size (now size es pre) (begun k l h)) (tokens c ++ (ends ∷ (tokens s ++ ts))) (set area x opened_row)) (now_is one es pre k)
+        ∙ ap (λ (x : ℕ → ℕ). run (suc k) x (bump size (now size es pre) (begun k l h)) (tokens c ++ (ends ∷ (tokens s ++ ts))) (set area r₀ opened_row)) a
+        ∙ ap (λ (x : ℕ → ℕ). run (suc k) (now one es pre₁) x (tokens c ++ (ends ∷ (tokens s ++ ts))) (set area r₀ opened_row)) b)
 
-    at-end : (ts : List Token) (area₂ : List KindRow) → get_or area₂ r₀ no_row ≡ open_row
-        → run (suc k) (now one es pre₂) (now size es pre₂) (ends ∷ ts) area₂ ≡ run k (now one es pre₂) (now size es pre₂) ts (set area₂ r₀ closed-row)
+    at_end : (ts : List Token) (area₂ : List KindRow) → get_or area₂ r₀ no_row ≡ opened_row
+        → run (suc k) (now one es pre₂) (now size es pre₂) (ends ∷ ts) area₂ ≡ run k (now one es pre₂) (now size es pre₂) ts (set area₂ r₀ closed_row)
     unfolding run
-    at-end ts area₂ o =
-        let z : now one es pre₂ k - 1 ≡ r₀ = omega (arith, now-is one es pre₂ k, at-k₂) in
-        let n : now one es pre₂ (suc k) ≡ now one es pre (suc k) + trees c = omega (arith, now-is one es pre₂ (suc k), now-is one es pre (suc k), at-children) in
-        let q : closeRow (get_or area₂ (now one es pre₂ k - 1) no_row) (now one es pre₂ (suc k)) ≡ closed-row =
-        ap (λ (x : ℕ). closeRow (get_or area₂ x no_row) (now one es pre₂ (suc k))) z
-        ∙ ap (λ (x : KindRow). closeRow x (now one es pre₂ (suc k))) o
-        ∙ ap (closeRow open_row) n
-        ∙ close_open l h (trees c) (now one es pre (suc k)) (ownerBy k (now one es pre)) (now size es pre k) in
+    at_end ts area₂ o =
+        let z : now one es pre₂ k - 1 ≡ r₀ = omega (arith, now_is one es pre₂ k, at_k₂) in
+        let n : now one es pre₂ (suc k) ≡ now one es pre (suc k) + trees c = omega (arith, now_is one es pre₂ (suc k), now_is one es pre (suc k), at_children) in
+        let q : close_row (get_or area₂ (now one es pre₂ k - 1) no_row) (now one es pre₂ (suc k)) ≡ closed_row =
+        ap (λ (x : ℕ). close_row (get_or area₂ x no_row) (now one es pre₂ (suc k))) z
+        ∙ ap (λ (x : KindRow). close_row x (now one es pre₂ (suc k))) o
+        ∙ ap (close_row opened_row) n
+        ∙ close_open l h (trees c) (now one es pre (suc k)) (owner_by k (now one es pre)) (now size es pre k) in
         ap (λ (x : KindRow). run k (now one es pre₂) (now size es pre₂) ts (set area₂ (now one es pre₂ k - 1) x)) q
-        ∙ ap (λ (x : ℕ). run k (now one es pre₂) (now size es pre₂) ts (set area₂ x closed-row)) z
+        ∙ ap (λ (x : ℕ). run k (now one es pre₂) (now size es pre₂) ts (set area₂ x closed_row)) z
 
     both : (ts : List Token) (area : List KindRow) → length area ≡ length area₀
-        → Ran (suc k) c pre₁ (ends ∷ (tokens s ++ ts)) (set area r₀ open_row)
+        → Ran (suc k) c pre₁ (ends ∷ (tokens s ++ ts)) (set area r₀ opened_row)
         → ((area₃ : List KindRow) → length area₃ ≡ length area₀ → Ran k s pre₂ ts area₃)
         → Ran k (node l h c s) pre ts area
     both ts area long₀ in_c then =
         assemble in_c.area' in_c.wrote in_c.ran
-        (then (set in_c.area' r₀ closed-row) (length-set in_c.area' r₀ closed-row ∙ in_c.wrote.long ∙ length-set area r₀ open_row ∙ long₀))
+        (then (set in_c.area' r₀ closed_row) (length-set in_c.area' r₀ closed_row ∙ in_c.wrote.long ∙ length-set area r₀ opened_row ∙ long₀))
       where
-        assemble : (area₂ : List KindRow) → Wrote pre₁ pre₂ (set area r₀ open_row) area₂
-            → run (suc k) (now one es pre₁) (now size es pre₁) (tokens c ++ (ends ∷ (tokens s ++ ts))) (set area r₀ open_row) ≡ run (suc k) (now one es pre₂) (now size es pre₂) (ends ∷ (tokens s ++ ts)) area₂
-            → Ran k s pre₂ ts (set area₂ r₀ closed-row)
+        assemble : (area₂ : List KindRow) → Wrote pre₁ pre₂ (set area r₀ opened_row) area₂
+            → run (suc k) (now one es pre₁) (now size es pre₁) (tokens c ++ (ends ∷ (tokens s ++ ts))) (set area r₀ opened_row) ≡ run (suc k) (now one es pre₂) (now size es pre₂) (ends ∷ (tokens s ++ ts)) area₂
+            → Ran k s pre₂ ts (set area₂ r₀ closed_row)
             → Ran k (node l h c s) pre ts area
-        assemble area₂ w r in-s =
+        assemble area₂ w r in_s =
             record {
-              area' = in-s.area';
-              wrote = rw end at (wrote-all area area₂ in-s.area' long₀ w in-s.wrote);
+              area' = in_s.area';
+              wrote = rw end at (wrote_all area area₂ in_s.area' long₀ w in_s.wrote);
               ran =
-                  at-start ts area ∙ r ∙ at-end (tokens s ++ ts) area₂ (still_open area area₂ in-s.area' long₀ w in-s.wrote) ∙ in-s.ran
-                  ∙ ap (λ (x : List Event). run k (now one es x) (now size es x) ts in-s.area') end;
+                  at_start ts area ∙ r ∙ at_end (tokens s ++ ts) area₂ (still_open area area₂ in_s.area' long₀ w in_s.wrote) ∙ in_s.ran
+                  ∙ ap (λ (x : List Event). run k (now one es x) (now size es x) ts in_s.area') end;
             }
 
-  nothing-more : (k : ℕ) (pre : List Event) → pre ++ walk k empty ≡ pre
+  nothing_more : (k : ℕ) (pre : List Event) → pre ++ walk k empty ≡ pre
   unfolding walk
-  nothing-more k pre = append-nil pre
+  nothing_more k pre = append-nil pre
 
   go : (g : Forest) (k : ℕ) (pre post : List Event) (ts : List Token) (area : List KindRow) → es ≡ pre ++ (walk k g ++ post) → length area ≡ length area₀ → Ran k g pre ts area
   go empty k pre post ts area is long₀ =
-      let z = nothing-more k pre in
+      let z = nothing_more k pre in
       record {
         area' = area;
         wrote =
@@ -265,23 +265,23 @@ module _ (f : Forest) (root : trees f ≡ 1) (area₀ : List KindRow) (room : le
       }
   go (node l h c s) k pre post ts area is long₀ =
       both l h c s k pre post is ts area long₀
-      (go c (suc k) (pre₁ l h c s k pre post is) (walk k s ++ post) (ends ∷ (tokens s ++ ts)) (set area (N pre k) (open_row l h c s k pre post is)) (is₁ l h c s k pre post is)
-      (length-set area (N pre k) (open_row l h c s k pre post is) ∙ long₀))
+      (go c (suc k) (pre₁ l h c s k pre post is) (walk k s ++ post) (ends ∷ (tokens s ++ ts)) (set area (N pre k) (opened_row l h c s k pre post is)) (is₁ l h c s k pre post is)
+      (length-set area (N pre k) (opened_row l h c s k pre post is) ∙ long₀))
       (λ area₃ long₃. go s k (pre₂ l h c s k pre post is) post ts area₃ (is₂ l h c s k pre post is) long₃)
 
-  all-run : run 0 (now one es []) (now size es []) (tokens f ++ []) area₀ ≡ rows f ++ drop (length (rows f)) area₀
+  all_run : run 0 (now one es []) (now size es []) (tokens f ++ []) area₀ ≡ rows f ++ drop (length (rows f)) area₀
   unfolding run
-  all-run =
+  all_run =
       let g = go f 0 [] [] [] area₀ (sym (append-nil es)) refl in
       g.ran
       ∙ written no_row (rows f) area₀ g.area' room g.wrote.long
       (λ (i : ℕ) (b : i < length (rows f)).
-      let k = locate one es (depth f) i (omega (arith, rows-high f)) in
-      g.wrote.done k.0 i (omega (arith, sum-nil one k.0, k.1)) k.2)
+      let k = locate one es (depth f) i (omega (arith, rows_high f)) in
+      g.wrote.done k.0 i (omega (arith, sum_nil one k.0, k.1)) k.2)
       g.wrote.tail
 
 -- the rows are written from the area's start, and what lies after them stays
 pub rows_run : (f : Forest) → trees f ≡ 1 → (area : List KindRow) → length (rows f) ≤ length area
     → run 0 (starts one (walk 0 f)) (starts size (walk 0 f)) (tokens f) area ≡ rows f ++ drop (length (rows f)) area
 unfolding after
-rows_run f root area room = rw (append-nil (tokens f)) at (all-run f root area room)
+rows_run f root area room = rw (append-nil (tokens f)) at (all_run f root area room)

@@ -1,6 +1,6 @@
 -- The values in the order of the text, level by level.
 --     even           the values on a level have as many children as the level below has values
---     even-before    also up to any value, on its level
+--     even_before    also up to any value, on its level
 --     parent         the last value one level higher is a value's parent
 -- Assumes nothing.
 use mathlib.Core.List.{List, [], ◌∷◌, ◌++◌, append_assoc, append-nil}
@@ -14,7 +14,7 @@ use Rattle.breadth.specs.Forest.{Label, Head, Forest, empty, node, trees, values
 use Rattle.breadth.specs.Breadth.{Entry, Event, entry_of, event, walk, depth, hit, on, above}
 use Rattle.breadth.specs.Sheet.{weigh, count_of}
 use Rattle.breadth.specs.Counters.{one}
-use Rattle.breadth.proofs.Lists.{weigh-append, nothing-holds, InFirst, InSecond, split}
+use Rattle.breadth.proofs.Lists.{weigh_append, nothing_holds, InFirst, InSecond, split}
 
 -- ---- one value
 
@@ -24,70 +24,70 @@ hit_same k e = rw (eq-eqb k k refl)
 pub hit_other : (k j : ℕ) (e : Entry) → (j ≡ k → ⊥) → hit k (event j e) ≡ []
 hit_other k j e h = rw (ne_eqb j k h)
 
-pub on-append : (k : ℕ) (a b : List Event) → on k (a ++ b) ≡ on k a ++ on k b
+pub on_append : (k : ℕ) (a b : List Event) → on k (a ++ b) ≡ on k a ++ on k b
 unfolding on
-on-append k [] b = refl
-on-append k (x ∷ a) b = rw (on-append k a b) (sym (append_assoc (hit k x) (on k a) (on k b)))
+on_append k [] b = refl
+on_append k (x ∷ a) b = rw (on_append k a b) (sym (append_assoc (hit k x) (on k a) (on k b)))
 
 module _ (w : Entry → ℕ) where
   -- what the values on level k weigh
   abbrev pub sum : ℕ → List Event → ℕ
   sum k es = weigh w (on k es)
 
-  pub sum-nil : (k : ℕ) → sum k [] ≡ 0
+  pub sum_nil : (k : ℕ) → sum k [] ≡ 0
   unfolding on weigh
-  sum-nil k = refl
+  sum_nil k = refl
 
-  pub sum-append : (k : ℕ) (a b : List Event) → sum k (a ++ b) ≡ sum k a + sum k b
-  sum-append k a b = rw (on-append k a b) (weigh-append w (on k a) (on k b))
+  pub sum_append : (k : ℕ) (a b : List Event) → sum k (a ++ b) ≡ sum k a + sum k b
+  sum_append k a b = rw (on_append k a b) (weigh_append w (on k a) (on k b))
 
   pub sum_same : (k : ℕ) (e : Entry) (es : List Event) → sum k (event k e ∷ es) ≡ w e + sum k es
   unfolding on weigh
   sum_same k e es = rw (hit_same k e)
 
-  pub sum-other : (k j : ℕ) (e : Entry) (es : List Event) → (j ≡ k → ⊥) → sum k (event j e ∷ es) ≡ sum k es
+  pub sum_other : (k j : ℕ) (e : Entry) (es : List Event) → (j ≡ k → ⊥) → sum k (event j e ∷ es) ≡ sum k es
   unfolding on weigh
-  sum-other k j e es h = rw (hit_other k j e h)
+  sum_other k j e es h = rw (hit_other k j e h)
 
   -- ---- a forest from level k₀ on
 
-  pub sum-walk-same : (k : ℕ) (l : Label) (h : Head) (c s : Forest)
+  pub sum_walk_same : (k : ℕ) (l : Label) (h : Head) (c s : Forest)
       → sum k (walk k (node l h c s)) ≡ w (entry_of l h c) + (sum k (walk (suc k) c) + sum k (walk k s))
   unfolding walk
-  sum-walk-same k l h c s = sum_same k (entry_of l h c) (walk (suc k) c ++ walk k s) ∙ rw (sum-append k (walk (suc k) c) (walk k s))
+  sum_walk_same k l h c s = sum_same k (entry_of l h c) (walk (suc k) c ++ walk k s) ∙ rw (sum_append k (walk (suc k) c) (walk k s))
 
-  pub sum-walk-other : (k k₀ : ℕ) (l : Label) (h : Head) (c s : Forest) → (k₀ ≡ k → ⊥)
+  pub sum_walk_other : (k k₀ : ℕ) (l : Label) (h : Head) (c s : Forest) → (k₀ ≡ k → ⊥)
       → sum k (walk k₀ (node l h c s)) ≡ sum k (walk (suc k₀) c) + sum k (walk k₀ s)
   unfolding walk
-  sum-walk-other k k₀ l h c s n = sum-other k k₀ (entry_of l h c) (walk (suc k₀) c ++ walk k₀ s) n ∙ sum-append k (walk (suc k₀) c) (walk k₀ s)
+  sum_walk_other k k₀ l h c s n = sum_other k k₀ (entry_of l h c) (walk (suc k₀) c ++ walk k₀ s) n ∙ sum_append k (walk (suc k₀) c) (walk k₀ s)
 
   pub shallow : (f : Forest) (k₀ k : ℕ) → k < k₀ → sum k (walk k₀ f) ≡ 0
   unfolding walk on weigh
   shallow empty k₀ k h = refl
-  shallow (node l g c s) k₀ k h = omega (arith, sum-walk-other k k₀ l g c s (omega arith), shallow c (suc k₀) k (omega arith), shallow s k₀ k h)
+  shallow (node l g c s) k₀ k h = omega (arith, sum_walk_other k k₀ l g c s (omega arith), shallow c (suc k₀) k (omega arith), shallow s k₀ k h)
 
   pub deep : (f : Forest) (k₀ k : ℕ) → k₀ + depth f ≤ k → sum k (walk k₀ f) ≡ 0
   unfolding walk on weigh
   deep empty k₀ k h = refl
-  deep (node l g c s) k₀ k h = omega (arith, sum-walk-other k k₀ l g c s (omega arith), deep c (suc k₀) k (omega arith), deep s k₀ k (omega arith))
+  deep (node l g c s) k₀ k h = omega (arith, sum_walk_other k k₀ l g c s (omega arith), deep c (suc k₀) k (omega arith), deep s k₀ k (omega arith))
 
-pub on-trees : (f : Forest) (k : ℕ) → sum one k (walk k f) ≡ trees f
+pub on_trees : (f : Forest) (k : ℕ) → sum one k (walk k f) ≡ trees f
 unfolding walk on weigh
-on-trees empty k = refl
-on-trees (node l h c s) k = omega (arith, sum-walk-same one k l h c s, shallow one c (suc k) k (omega arith), on-trees s k)
+on_trees empty k = refl
+on_trees (node l h c s) k = omega (arith, sum_walk_same one k l h c s, shallow one c (suc k) k (omega arith), on_trees s k)
 
 pub even : (f : Forest) (k₀ k : ℕ) → k₀ ≤ k → sum count_of k (walk k₀ f) ≡ sum one (suc k) (walk k₀ f)
 unfolding walk on weigh
 even empty k₀ k h = refl
 even (node l g c s) k₀ k h =
-    let other = sum-walk-other one (suc k) k₀ l g c s (omega arith) in
+    let other = sum_walk_other one (suc k) k₀ l g c s (omega arith) in
     let below = even s k₀ k h in
     ⊎_elim
     (λ (e : k₀ ≡ k).
-    let same : sum count_of k (walk k₀ (node l g c s)) ≡ trees c + (sum count_of k (walk (suc k₀) c) + sum count_of k (walk k₀ s)) = rw e (sum-walk-same count_of k l g c s) in
-    let here : sum one (suc k) (walk (suc k₀) c) ≡ trees c = rw e (on-trees c (suc k)) in
+    let same : sum count_of k (walk k₀ (node l g c s)) ≡ trees c + (sum count_of k (walk (suc k₀) c) + sum count_of k (walk k₀ s)) = rw e (sum_walk_same count_of k l g c s) in
+    let here : sum one (suc k) (walk (suc k₀) c) ≡ trees c = rw e (on_trees c (suc k)) in
     omega (arith, shallow count_of c (suc k₀) k (omega arith)))
-    (λ (l' : k₀ < k). omega (arith, sum-walk-other count_of k k₀ l g c s (omega arith), even c (suc k₀) k l'))
+    (λ (l' : k₀ < k). omega (arith, sum_walk_other count_of k k₀ l g c s (omega arith), even c (suc k₀) k l'))
     (eq-or-lt_of_le h)
 
 -- ---- up to any value
@@ -96,35 +96,35 @@ even (node l g c s) k₀ k h =
 abbrev pub Splits : Forest → ℕ → List Event → ℕ → Entry → List Event → Type 0
 Splits f k₀ pre k e post = walk k₀ f ≡ pre ++ event k e ∷ post
 
-same-level : (j k : ℕ) (d e : Entry) → event j d ≡ event k e → j ≡ k
-same-level j k d e h = ap (λ (x : Event). x.level) h
+same_level : (j k : ℕ) (d e : Entry) → event j d ≡ event k e → j ≡ k
+same_level j k d e h = ap (λ (x : Event). x.level) h
 
-pub even-before : (f : Forest) (k₀ k : ℕ) (pre post : List Event) (e : Entry) → Splits f k₀ pre k e post
+pub even_before : (f : Forest) (k₀ k : ℕ) (pre post : List Event) (e : Entry) → Splits f k₀ pre k e post
     → (k₀ ≤ k) × (sum count_of k pre ≡ sum one (suc k) pre)
 unfolding walk
-even-before empty k₀ k pre post e h = absurd (nothing-holds pre post (event k e) h)
-even-before (node l g c s) k₀ k [] post e h =
+even_before empty k₀ k pre post e h = absurd (nothing_holds pre post (event k e) h)
+even_before (node l g c s) k₀ k [] post e h =
     let t : event k₀ (entry_of l g c) ≡ event k e = cc in
-    (omega (arith, same-level k₀ k (entry_of l g c) e t), omega (arith, sum-nil count_of k, sum-nil one (suc k)))
-even-before (node l g c s) k₀ k (y ∷ pre) post e h =
+    (omega (arith, same_level k₀ k (entry_of l g c) e t), omega (arith, sum_nil count_of k, sum_nil one (suc k)))
+even_before (node l g c s) k₀ k (y ∷ pre) post e h =
     let t : y ≡ event k₀ (entry_of l g c) = cc in
     ⊎_elim
     (λ (i : InFirst (walk (suc k₀) c) pre (event k e)).
-    let b = even-before c (suc k₀) k pre i.0 e i.1 in (
+    let b = even_before c (suc k₀) k pre i.0 e i.1 in (
       omega arith,
       rw t
           (let n : k₀ ≡ k → ⊥ = omega arith in
           let m : k₀ ≡ suc k → ⊥ = omega arith in
-          sum-other count_of k k₀ (entry_of l g c) pre n ∙ b.1 ∙ sym (sum-other one (suc k) k₀ (entry_of l g c) pre m)),
+          sum_other count_of k k₀ (entry_of l g c) pre n ∙ b.1 ∙ sym (sum_other one (suc k) k₀ (entry_of l g c) pre m)),
     ))
     (λ (i : InSecond (walk (suc k₀) c) (walk k₀ s) pre post (event k e)).
-    let b = even-before s k₀ k i.0 post e i.2 in
+    let b = even_before s k₀ k i.0 post e i.2 in
     let m : k₀ ≡ suc k → ⊥ = omega arith in
     let w : y ∷ pre ≡ walk k₀ (node l g c empty) ++ i.0 = rw (t, i.1, append-nil (walk (suc k₀) c)) in (
       b.0,
-      rw w (sum-append count_of k (walk k₀ (node l g c empty)) i.0
+      rw w (sum_append count_of k (walk k₀ (node l g c empty)) i.0
           ∙ (let v = even (node l g c empty) k₀ k b.0 in let u = b.1 in rw (v, u))
-          ∙ sym (sum-append one (suc k) (walk k₀ (node l g c empty)) i.0)),
+          ∙ sym (sum_append one (suc k) (walk k₀ (node l g c empty)) i.0)),
     ))
     (split (walk (suc k₀) c) (walk k₀ s) pre post (event k e) (cc))
 
@@ -150,10 +150,10 @@ later k a p q =
 
 pub parent : (f : Forest) (k₀ k : ℕ) (pre post : List Event) (e : Entry) → k₀ ≤ k → Splits f k₀ pre (suc k) e post → Parent k pre
 unfolding walk
-parent empty k₀ k pre post e b h = absurd (nothing-holds pre post (event (suc k) e) h)
+parent empty k₀ k pre post e b h = absurd (nothing_holds pre post (event (suc k) e) h)
 parent (node l g c s) k₀ k [] post e b h =
     let t : event k₀ (entry_of l g c) ≡ event (suc k) e = cc in
-    absurd (no_way (same-level k₀ (suc k) (entry_of l g c) e t))
+    absurd (no_way (same_level k₀ (suc k) (entry_of l g c) e t))
   where
     no_way : k₀ ≡ suc k → ⊥
     no_way z = omega arith
@@ -163,9 +163,9 @@ parent (node l g c s) k₀ k (y ∷ pre) post e b h =
     (λ (i : InFirst (walk (suc k₀) c) pre (event (suc k) e)).
     ⊎_elim
     (λ (z : k₀ ≡ k).
-    let total : sum one k (walk (suc k₀) c) ≡ sum one k pre + sum one k (event (suc k) e ∷ i.0) = ap (sum one k) i.1 ∙ sum-append one k pre (event (suc k) e ∷ i.0) in
-    let total' : sum one (suc k) (walk (suc k₀) c) ≡ sum one (suc k) pre + sum one (suc k) (event (suc k) e ∷ i.0) = ap (sum one (suc k)) i.1 ∙ sum-append one (suc k) pre (event (suc k) e ∷ i.0) in
-    let all : sum one (suc k) (walk (suc k₀) c) ≡ trees c = rw z (on-trees c (suc k)) in
+    let total : sum one k (walk (suc k₀) c) ≡ sum one k pre + sum one k (event (suc k) e ∷ i.0) = ap (sum one k) i.1 ∙ sum_append one k pre (event (suc k) e ∷ i.0) in
+    let total' : sum one (suc k) (walk (suc k₀) c) ≡ sum one (suc k) pre + sum one (suc k) (event (suc k) e ∷ i.0) = ap (sum one (suc k)) i.1 ∙ sum_append one (suc k) pre (event (suc k) e ∷ i.0) in
+    let all : sum one (suc k) (walk (suc k₀) c) ≡ trees c = rw z (on_trees c (suc k)) in
     record {
       before = [];
       parent = entry_of l g c;
@@ -191,19 +191,19 @@ module _ (w : Entry → ℕ) where
   unfolding above weigh
   high_zero es = refl
 
-  pub high-next : (k : ℕ) (es : List Event) → high (suc k) es ≡ high k es + sum w k es
+  pub high_next : (k : ℕ) (es : List Event) → high (suc k) es ≡ high k es + sum w k es
   unfolding above
-  high-next k es = weigh-append w (above k es) (on k es)
+  high_next k es = weigh_append w (above k es) (on k es)
 
-  pub high-append : (k : ℕ) (a b : List Event) → high k (a ++ b) ≡ high k a + high k b
+  pub high_append : (k : ℕ) (a b : List Event) → high k (a ++ b) ≡ high k a + high k b
   unfolding above weigh
-  high-append zero a b = omega arith
-  high-append (suc k) a b = omega (arith, high-next k (a ++ b), high-next k a, high-next k b, high-append k a b, sum-append w k a b)
+  high_append zero a b = omega arith
+  high_append (suc k) a b = omega (arith, high_next k (a ++ b), high_next k a, high_next k b, high_append k a b, sum_append w k a b)
 
-  high-none : (j k : ℕ) (e : Entry) → k ≤ j → high k (event j e ∷ []) ≡ 0
+  high_none : (j k : ℕ) (e : Entry) → k ≤ j → high k (event j e ∷ []) ≡ 0
   unfolding above weigh on
-  high-none j zero e h = refl
-  high-none j (suc k) e h = omega (arith, high-next k (event j e ∷ []), high-none j k e (omega arith), sum-other w k j e [] (omega arith))
+  high_none j zero e h = refl
+  high_none j (suc k) e h = omega (arith, high_next k (event j e ∷ []), high_none j k e (omega arith), sum_other w k j e [] (omega arith))
 
   high_one : (j k : ℕ) (e : Entry) → j < k → high k (event j e ∷ []) ≡ w e
   unfolding weigh on
@@ -214,42 +214,42 @@ module _ (w : Entry → ℕ) where
   high_one j (suc k) e h =
       ⊎_elim
       (λ (z : j ≡ k). let t : sum w k (event j e ∷ []) ≡ w e + 0 = rw z (sum_same w k e []) in
-      omega (arith, high-next k (event j e ∷ []), high-none j k e (omega arith)))
-      (λ (z : j < k). omega (arith, high-next k (event j e ∷ []), high_one j k e z, sum-other w k j e [] (omega arith)))
+      omega (arith, high_next k (event j e ∷ []), high_none j k e (omega arith)))
+      (λ (z : j < k). omega (arith, high_next k (event j e ∷ []), high_one j k e z, sum_other w k j e [] (omega arith)))
       (eq-or-lt_of_le (less h))
     where
       less : j < suc k → j ≤ k
       less z = omega arith
 
-  high-empty : (i : ℕ) → high i [] ≡ 0
+  high_empty : (i : ℕ) → high i [] ≡ 0
   unfolding above weigh on
-  high-empty zero = refl
-  high-empty (suc i) = omega (arith, high-next i [], high-empty i)
+  high_empty zero = refl
+  high_empty (suc i) = omega (arith, high_next i [], high_empty i)
 
   -- what all values of a forest weigh
   abbrev pub total : Forest → ℕ
   total empty = 0
   total (node l h c s) = w (entry_of l h c) + (total c + total s)
 
-  pub high-all : (f : Forest) (k₀ k : ℕ) → k₀ + depth f ≤ k → high k (walk k₀ f) ≡ total f
+  pub high_all : (f : Forest) (k₀ k : ℕ) → k₀ + depth f ≤ k → high k (walk k₀ f) ≡ total f
   unfolding walk
-  high-all empty k₀ k h = high-empty k
-  high-all (node l g c s) k₀ k h =
+  high_all empty k₀ k h = high_empty k
+  high_all (node l g c s) k₀ k h =
       omega (
         arith,
-        high-append k (event k₀ (entry_of l g c) ∷ []) (walk (suc k₀) c ++ walk k₀ s),
-        high-append k (walk (suc k₀) c) (walk k₀ s),
+        high_append k (event k₀ (entry_of l g c) ∷ []) (walk (suc k₀) c ++ walk k₀ s),
+        high_append k (walk (suc k₀) c) (walk k₀ s),
         high_one k₀ k (entry_of l g c) (omega arith),
-        high-all c (suc k₀) k (omega arith),
-        high-all s k₀ k (omega arith),
+        high_all c (suc k₀) k (omega arith),
+        high_all s k₀ k (omega arith),
       )
 
-pub total-one : (f : Forest) → total one f ≡ values f
-total-one empty = refl
-total-one (node l h c s) = omega (arith, total-one c, total-one s)
+pub total_one : (f : Forest) → total one f ≡ values f
+total_one empty = refl
+total_one (node l h c s) = omega (arith, total_one c, total_one s)
 
 -- the children of the levels above level k are the levels above level k + 1, but for the forest's own trees
-pub high-even : (f : Forest) (k : ℕ) → high count_of k (walk 0 f) + trees f ≡ high one (suc k) (walk 0 f)
+pub high_even : (f : Forest) (k : ℕ) → high count_of k (walk 0 f) + trees f ≡ high one (suc k) (walk 0 f)
 unfolding above weigh
-high-even f zero = omega (arith, high-next one 0 (walk 0 f), on-trees f 0)
-high-even f (suc k) = omega (arith, high-next one (suc k) (walk 0 f), high-next count_of k (walk 0 f), high-even f k, even f 0 k (omega arith))
+high_even f zero = omega (arith, high_next one 0 (walk 0 f), on_trees f 0)
+high_even f (suc k) = omega (arith, high_next one (suc k) (walk 0 f), high_next count_of k (walk 0 f), high_even f k, even f 0 k (omega arith))

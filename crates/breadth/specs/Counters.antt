@@ -3,7 +3,7 @@
 use Rattle.std.specs.Prelude.{cond, List, [], ◌∷◌, ℕ, zero, suc, ◌+◌, ◌-◌, eqb, length, set}
 use Rattle.std.proofs.lemmas.List.Edits.{sets}
 use Rattle.breadth.specs.Breadth.{Entry, Event}
-use Rattle.breadth.specs.Sheet.{KindRow, rowFor, bytes_of}
+use Rattle.breadth.specs.Sheet.{KindRow, row_for, bytes_of}
 
 -- what a value adds to its level's counter: a row; its bytes
 abbrev pub one : Entry → ℕ
@@ -30,20 +30,20 @@ starts w es zero = 0
 starts w es (suc k) = starts w es k + counted w es k
 
 -- the owner is the row that was taken last one level higher
-unfoldable pub ownerBy : ℕ → (ℕ → ℕ) → ℕ
-ownerBy zero next = 0
-ownerBy (suc k) next = next k - 1
+unfoldable pub owner_by : ℕ → (ℕ → ℕ) → ℕ
+owner_by zero next = 0
+owner_by (suc k) next = next k - 1
 
 -- the row of a value that starts when the counters of rows and of bytes stand there
 abbrev pub row_by : (ℕ → ℕ) → (ℕ → ℕ) → Event → KindRow
-row_by next bytes x = rowFor x.entry (next (suc x.level)) (ownerBy x.level next) (bytes x.level)
+row_by next bytes x = row_for x.entry (next (suc x.level)) (owner_by x.level next) (bytes x.level)
 
 -- the second pass, over the rows
-unfoldable pub writeRows : (ℕ → ℕ) → (ℕ → ℕ) → List Event → List KindRow → List KindRow
-writeRows next bytes [] area = area
-writeRows next bytes (x ∷ es) area = writeRows (bump one next x) (bump size bytes x) es (set area (next x.level) (row_by next bytes x))
+unfoldable pub write_rows : (ℕ → ℕ) → (ℕ → ℕ) → List Event → List KindRow → List KindRow
+write_rows next bytes [] area = area
+write_rows next bytes (x ∷ es) area = write_rows (bump one next x) (bump size bytes x) es (set area (next x.level) (row_by next bytes x))
 
 -- and over the text
-unfoldable pub writeText : (ℕ → ℕ) → List Event → List ℕ → List ℕ
-writeText bytes [] area = area
-writeText bytes (x ∷ es) area = writeText (bump size bytes x) es (sets area (bytes x.level) (bytes_of x.entry))
+unfoldable pub write_text : (ℕ → ℕ) → List Event → List ℕ → List ℕ
+write_text bytes [] area = area
+write_text bytes (x ∷ es) area = write_text (bump size bytes x) es (sets area (bytes x.level) (bytes_of x.entry))

@@ -1,8 +1,8 @@
 -- A JSON value as a forest: of each value its label, what it is by itself, its children and the siblings after it.
 -- Assumes nothing.
 use Rattle.std.specs.Prelude.{Bool, List, ℕ, suc, ◌+◌}
-use Rattle.json.specs.Datum.{Datum, null, bool, number, string, array, object, Items, no_item, item, Fields, no_field, field}
-use Rattle.breadth.specs.Number.{digitsWord, scale_of}
+use Rattle.jsontext.specs.Datum.{Datum, null, bool, number, string, array, object, Items, no_item, item, Fields, no_field, field}
+use Rattle.breadth.specs.Number.{digits_word, scale_of}
 
 -- a value's name in an object; the root and an array's children have none
 pub data Label : Type 0 where
@@ -11,11 +11,11 @@ pub data Label : Type 0 where
 
 -- a value without its children; a number is its two words, digits and scale
 pub data Head : Type 0 where
-  a-null : Head
-  a-bool : Bool → Head
-  a-number : ℕ → ℕ → Head
-  a-string : List ℕ → Head
-  an-array an-object : Head
+  a_null : Head
+  a_bool : Bool → Head
+  a_number : ℕ → ℕ → Head
+  a_string : List ℕ → Head
+  an_array an_object : Head
 
 pub data Forest : Type 0 where
   empty : Forest
@@ -32,12 +32,12 @@ values empty = 0
 values (node l h c s) = suc (values c + values s)
 
 abbrev pub head_of : Datum → Head
-head_of null = a-null
-head_of (bool b) = a-bool b
-head_of (number z) = a-number (digitsWord z) (scale_of z)
-head_of (string bs) = a-string bs
-head_of (array vs) = an-array
-head_of (object ms) = an-object
+head_of null = a_null
+head_of (bool b) = a_bool b
+head_of (number z) = a_number (digits_word z) (scale_of z)
+head_of (string bs) = a_string bs
+head_of (array vs) = an_array
+head_of (object ms) = an_object
 
 abbrev mutual
   pub children : Datum → Forest

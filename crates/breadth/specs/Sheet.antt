@@ -4,7 +4,7 @@ use Rattle.std.specs.Prelude.{Bool, true, false, List, [], ◌∷◌, ◌++◌, 
 use Rattle.text.specs.declared.Range.{Range}
 use Rattle.sheet.specs.declared.kind.RowKind.{RowKind}
 use Rattle.sheet.specs.declared.kind.RowKind.TheVariants.{Null, False, True, Number, String, Array, Object}
-use Rattle.breadth.specs.Forest.{Label, bare, named, Head, a-null, a-bool, a-number, a-string, an-array, an-object, Forest}
+use Rattle.breadth.specs.Forest.{Label, bare, named, Head, a_null, a_bool, a_number, a_string, an_array, an_object, Forest}
 use Rattle.breadth.specs.Breadth.{Entry, breadth}
 
 -- a row of a record sheet, its kind not yet a number
@@ -17,20 +17,20 @@ pub record KindRow : Type 0 where
 
 -- ---- the text: row by row the label, then the string
 
-abbrev pub labelBytes : Label → List ℕ
-labelBytes bare = []
-labelBytes (named bs) = bs
+abbrev pub label_bytes : Label → List ℕ
+label_bytes bare = []
+label_bytes (named bs) = bs
 
-abbrev pub stringBytes : Head → List ℕ
-stringBytes a-null = []
-stringBytes (a-bool b) = []
-stringBytes (a-number d s) = []
-stringBytes (a-string bs) = bs
-stringBytes an-array = []
-stringBytes an-object = []
+abbrev pub string_bytes : Head → List ℕ
+string_bytes a_null = []
+string_bytes (a_bool b) = []
+string_bytes (a_number d s) = []
+string_bytes (a_string bs) = bs
+string_bytes an_array = []
+string_bytes an_object = []
 
 abbrev pub bytes_of : Entry → List ℕ
-bytes_of e = labelBytes e.label ++ stringBytes e.head
+bytes_of e = label_bytes e.label ++ string_bytes e.head
 
 unfoldable pub text_of : List Entry → List ℕ
 text_of [] = []
@@ -47,19 +47,19 @@ abbrev pub count_of : Entry → ℕ
 count_of e = e.count
 
 -- the children's rows follow one another in the order of their owners, from row 1 on
-abbrev pub first_of : List Entry → ℕ → ℕ
-first_of es r = 1 + weigh count_of (take r es)
+abbrev pub first_one_of : List Entry → ℕ → ℕ
+first_one_of es r = 1 + weigh count_of (take r es)
 
 -- each row from number i on, once for each of its children
-unfoldable pub ownersFrom : ℕ → List Entry → List ℕ
-ownersFrom i [] = []
-ownersFrom i (e ∷ es) = replicate e.count i ++ ownersFrom (suc i) es
+unfoldable pub owners_from : ℕ → List Entry → List ℕ
+owners_from i [] = []
+owners_from i (e ∷ es) = replicate e.count i ++ owners_from (suc i) es
 
 abbrev pub owners : List Entry → List ℕ
-owners es = 0 ∷ ownersFrom 0 es
+owners es = 0 ∷ owners_from 0 es
 
-abbrev pub ownerOf : List Entry → ℕ → ℕ
-ownerOf es r = get_or (owners es) r 0
+abbrev pub owner_of : List Entry → ℕ → ℕ
+owner_of es r = get_or (owners es) r 0
 
 -- where the row's bytes start in the text
 abbrev pub start_of : List Entry → ℕ → ℕ
@@ -71,56 +71,56 @@ abbrev bool_kind : Bool → RowKind
 bool_kind true = True
 bool_kind false = False
 
-abbrev pub headKind : Head → RowKind
-headKind a-null = Null
-headKind (a-bool b) = bool_kind b
-headKind (a-number d s) = Number
-headKind (a-string bs) = String
-headKind an-array = Array
-headKind an-object = Object
+abbrev pub head_kind : Head → RowKind
+head_kind a_null = Null
+head_kind (a_bool b) = bool_kind b
+head_kind (a_number d s) = Number
+head_kind (a_string bs) = String
+head_kind an_array = Array
+head_kind an_object = Object
 
 -- an empty container's first child is 0
-abbrev pub firstOrNone : ℕ → ℕ → ℕ
-firstOrNone zero first = 0
-firstOrNone (suc n) first = first
+abbrev pub first_or_none : ℕ → ℕ → ℕ
+first_or_none zero first = 0
+first_or_none (suc n) first = first
 
 abbrev pub first_word : Head → ℕ → ℕ → ℕ → ℕ
-first_word a-null count first start = 0
-first_word (a-bool b) count first start = 0
-first_word (a-number d s) count first start = d
-first_word (a-string bs) count first start = start
-first_word an-array count first start = firstOrNone count first
-first_word an-object count first start = firstOrNone count first
+first_word a_null count first start = 0
+first_word (a_bool b) count first start = 0
+first_word (a_number d s) count first start = d
+first_word (a_string bs) count first start = start
+first_word an_array count first start = first_or_none count first
+first_word an_object count first start = first_or_none count first
 
-abbrev pub countWord : Head → ℕ → ℕ
-countWord a-null count = 0
-countWord (a-bool b) count = 0
-countWord (a-number d s) count = s
-countWord (a-string bs) count = length bs
-countWord an-array count = count
-countWord an-object count = count
+abbrev pub count_word : Head → ℕ → ℕ
+count_word a_null count = 0
+count_word (a_bool b) count = 0
+count_word (a_number d s) count = s
+count_word (a_string bs) count = length bs
+count_word an_array count = count
+count_word an_object count = count
 
-abbrev pub labelRange : Label → ℕ → Range
-labelRange bare start = record { start = 0; length = 0 }
-labelRange (named bs) start = record { start = start; length = length bs }
+abbrev pub label_range : Label → ℕ → Range
+label_range bare start = record { start = 0; length = 0 }
+label_range (named bs) start = record { start = start; length = length bs }
 
 -- the row of an entry whose first child, owner and bytes stand there
-unfoldable pub rowFor : Entry → ℕ → ℕ → ℕ → KindRow
-rowFor e first owner start =
+unfoldable pub row_for : Entry → ℕ → ℕ → ℕ → KindRow
+row_for e first owner start =
     record {
-      kind = headKind e.head;
-      first = first_word e.head e.count first (start + length (labelBytes e.label));
-      count = countWord e.head e.count;
+      kind = head_kind e.head;
+      first = first_word e.head e.count first (start + length (label_bytes e.label));
+      count = count_word e.head e.count;
       owner = owner;
-      label = labelRange e.label start;
+      label = label_range e.label start;
     }
 
-unfoldable pub no-entry : Entry
-no-entry = record { label = bare; head = a-null; count = 0 }
+unfoldable pub no_entry : Entry
+no_entry = record { label = bare; head = a_null; count = 0 }
 
 -- row r
 unfoldable pub row_of : List Entry → ℕ → KindRow
-row_of es r = rowFor (get_or es r no-entry) (first_of es r) (ownerOf es r) (start_of es r)
+row_of es r = row_for (get_or es r no_entry) (first_one_of es r) (owner_of es r) (start_of es r)
 
 -- the rows from number i on, as many as there are entries left
 unfoldable pub rows_from : List Entry → ℕ → ℕ → List KindRow

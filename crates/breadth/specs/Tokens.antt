@@ -2,13 +2,13 @@
 -- number of values that are open. Assumes nothing.
 use Rattle.std.specs.Prelude.{List, [], ◌∷◌, ◌++◌, ℕ, zero, suc, ◌+◌, ◌-◌, length, get_or, set}
 use Rattle.std.proofs.lemmas.List.Edits.{sets}
-use Rattle.breadth.specs.Forest.{Label, Head, a-null, a-bool, a-number, a-string, an-array, an-object, Forest, empty, node}
+use Rattle.breadth.specs.Forest.{Label, Head, a_null, a_bool, a_number, a_string, an_array, an_object, Forest, empty, node}
 use Rattle.breadth.specs.Breadth.{Entry, Event, event}
 use Rattle.sheet.specs.declared.kind.RowKind.{RowKind}
 use Rattle.sheet.specs.declared.kind.RowKind.TheVariants.{Null, False, True, Number, String, Array, Object}
-use Rattle.breadth.specs.Sheet.{KindRow, labelBytes, stringBytes, headKind, countWord, labelRange, firstOrNone}
+use Rattle.breadth.specs.Sheet.{KindRow, label_bytes, string_bytes, head_kind, count_word, label_range, first_or_none}
 use Rattle.breadth.specs.Meaning.{no_row}
-use Rattle.breadth.specs.Counters.{one, size, bump, ownerBy}
+use Rattle.breadth.specs.Counters.{one, size, bump, owner_by}
 
 pub data Token : Type 0 where
   begins : Label → Head → Token
@@ -19,49 +19,49 @@ tokens empty = []
 tokens (node l h c s) = begins l h ∷ (tokens c ++ ends ∷ tokens s)
 
 -- a container's first word before its children are counted
-abbrev pub openFirst : Head → ℕ → ℕ → ℕ
-openFirst a-null first start = 0
-openFirst (a-bool b) first start = 0
-openFirst (a-number d s) first start = d
-openFirst (a-string bs) first start = start
-openFirst an-array first start = first
-openFirst an-object first start = first
+abbrev pub open_first : Head → ℕ → ℕ → ℕ
+open_first a_null first start = 0
+open_first (a_bool b) first start = 0
+open_first (a_number d s) first start = d
+open_first (a_string bs) first start = start
+open_first an_array first start = first
+open_first an_object first start = first
 
-unfoldable pub openRow : Label → Head → ℕ → ℕ → ℕ → KindRow
-openRow l h first owner start =
+unfoldable pub open_row : Label → Head → ℕ → ℕ → ℕ → KindRow
+open_row l h first owner start =
     record {
-      kind = headKind h;
-      first = openFirst h first (start + length (labelBytes l));
-      count = countWord h 0;
+      kind = head_kind h;
+      first = open_first h first (start + length (label_bytes l));
+      count = count_word h 0;
       owner = owner;
-      label = labelRange l start;
+      label = label_range l start;
     }
 
 -- the row once its children are counted, where n is the next row of their level
-abbrev pub closeFirst : RowKind → ℕ → ℕ → ℕ
-closeFirst Null first n = first
-closeFirst False first n = first
-closeFirst True first n = first
-closeFirst Number first n = first
-closeFirst String first n = first
-closeFirst Array first n = firstOrNone (n - first) first
-closeFirst Object first n = firstOrNone (n - first) first
+abbrev pub close_first : RowKind → ℕ → ℕ → ℕ
+close_first Null first n = first
+close_first False first n = first
+close_first True first n = first
+close_first Number first n = first
+close_first String first n = first
+close_first Array first n = first_or_none (n - first) first
+close_first Object first n = first_or_none (n - first) first
 
-abbrev pub closeCount : RowKind → ℕ → ℕ → ℕ → ℕ
-closeCount Null first count n = count
-closeCount False first count n = count
-closeCount True first count n = count
-closeCount Number first count n = count
-closeCount String first count n = count
-closeCount Array first count n = n - first
-closeCount Object first count n = n - first
+abbrev pub close_count : RowKind → ℕ → ℕ → ℕ → ℕ
+close_count Null first count n = count
+close_count False first count n = count
+close_count True first count n = count
+close_count Number first count n = count
+close_count String first count n = count
+close_count Array first count n = n - first
+close_count Object first count n = n - first
 
-unfoldable pub closeRow : KindRow → ℕ → KindRow
-closeRow r n =
+unfoldable pub close_row : KindRow → ℕ → KindRow
+close_row r n =
     record {
       kind = r.kind;
-      first = closeFirst r.kind r.first n;
-      count = closeCount r.kind r.first r.count n;
+      first = close_first r.kind r.first n;
+      count = close_count r.kind r.first r.count n;
       owner = r.owner;
       label = r.label;
     }
@@ -74,11 +74,11 @@ unfoldable pub run : ℕ → (ℕ → ℕ) → (ℕ → ℕ) → List Token → 
 run k next bytes [] area = area
 run k next bytes (begins l h ∷ ts) area =
     run (suc k) (bump one next (begun k l h)) (bump size bytes (begun k l h)) ts
-    (set area (next k) (openRow l h (next (suc k)) (ownerBy k next) (bytes k)))
+    (set area (next k) (open_row l h (next (suc k)) (owner_by k next) (bytes k)))
 run zero next bytes (ends ∷ ts) area = area
 run (suc k) next bytes (ends ∷ ts) area =
     let r = next k - 1 in
-    run k next bytes ts (set area r (closeRow (get_or area r no_row) (next (suc k))))
+    run k next bytes ts (set area r (close_row (get_or area r no_row) (next (suc k))))
 
 -- the first pass
 unfoldable pub tally : (Entry → ℕ) → ℕ → (ℕ → ℕ) → List Token → ℕ → ℕ
@@ -93,8 +93,8 @@ begin w ts zero = 0
 begin w ts (suc k) = begin w ts k + tally w 0 (λ i. 0) ts k
 
 -- the second pass over the text
-unfoldable pub runText : ℕ → (ℕ → ℕ) → List Token → List ℕ → List ℕ
-runText k bytes [] area = area
-runText k bytes (begins l h ∷ ts) area = runText (suc k) (bump size bytes (begun k l h)) ts (sets area (bytes k) (labelBytes l ++ stringBytes h))
-runText zero bytes (ends ∷ ts) area = area
-runText (suc k) bytes (ends ∷ ts) area = runText k bytes ts area
+unfoldable pub run_text : ℕ → (ℕ → ℕ) → List Token → List ℕ → List ℕ
+run_text k bytes [] area = area
+run_text k bytes (begins l h ∷ ts) area = run_text (suc k) (bump size bytes (begun k l h)) ts (sets area (bytes k) (label_bytes l ++ string_bytes h))
+run_text zero bytes (ends ∷ ts) area = area
+run_text (suc k) bytes (ends ∷ ts) area = run_text k bytes ts area

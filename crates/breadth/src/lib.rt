@@ -2,3 +2,4 @@
 // row by row (`specs/Sheet.antt`, `Words.antt`); that it passes the record check and means the value
 // (`proofs/Acceptance.antt`); and two passes that write it by counting on each level. There is no
 // code here.
+#![tactic(auto)]

@@ -1,27 +1,27 @@
 -- Any two outcomes that the promise of `reply_to` allows are equal.
---     printed-one     two replies that print the same are the same reply
---     reply-one       the reply, the cells and the list are determined by the bundle and the areas at entry
+--     printed_one     two replies that print the same are the same reply
+--     reply_one       the reply, the cells and the list are determined by the bundle and the areas at entry
 -- Assumes nothing.
 use mathlib.Core.List.{List, map}
 use mathlib.Core.Path.{◌≡◌, refl, sym, ap, ◌∙◌}
 use Prim.Native.Nat.{ℕ}
 use lib.ListN.{length, length-map}
-use Rattle.sheet.specs.Refusals.{refusalNumber}
-use Rattle.sheet.proofs.Tables.{number-one}
+use Rattle.sheet.specs.Refusals.{refusal_number}
+use Rattle.sheet.proofs.Tables.{number_one}
 use Rattle.meaning.specs.Lists.{range}
 use Rattle.meaning.proofs.Members.{range_length}
 use Rattle.bundle.specs.declared.Judgement.{Judgement}
 use Rattle.bundle.specs.declared.Line.{Line}
 use Rattle.bundle.specs.declared.Reply.{Reply}
 use Rattle.bundle.specs.declared.Reply.TheVariants.{BadBundle, Refused, TooLarge, Judged}
-use Rattle.bundle.specs.Printed.{line_at, Told, printedBy, Replies}
+use Rattle.bundle.specs.Printed.{line_at, Told, printed_by, Replies}
 
 lines_long : (g : ℕ → Line) (k : ℕ) → length (map g (range 0 k)) ≡ k
 lines_long g k = length-map (range 0 k) g ∙ range_length 0 k
 
 module _ (c c' l l' : List ℕ) where
-  judgement-one : (j k : Judgement) → printedBy (Judged j) c l ≡ printedBy (Judged k) c' l' → Judged j ≡ Judged k
-  judgement-one j k e =
+  judgement_one : (j k : Judgement) → printed_by (Judged j) c l ≡ printed_by (Judged k) c' l' → Judged j ≡ Judged k
+  judgement_one j k e =
       let g = line_at c l j.schemas in
       let h = line_at c' l' k.schemas in
       let v : j.valid ≡ k.valid = cc in
@@ -31,28 +31,28 @@ module _ (c c' l l' : List ℕ) where
       let p : j.pairs ≡ k.pairs = sym (lines_long g j.pairs) ∙ ap length lines ∙ lines_long h k.pairs in
       λ i. Judged (record { valid = v i; schemas = s i; pairs = p i; marked = m i })
 
-  pub printed-one : (r r' : Reply) → printedBy r c l ≡ printedBy r' c' l' → r ≡ r'
-  printed-one BadBundle BadBundle e = refl
-  printed-one BadBundle (Refused g q) e = cc
-  printed-one BadBundle TooLarge e = cc
-  printed-one BadBundle (Judged k) e = cc
-  printed-one (Refused f p) BadBundle e = cc
-  printed-one (Refused f p) (Refused g q) e =
-      let numbers : refusalNumber f ≡ refusalNumber g = cc in
+  pub printed_one : (r r' : Reply) → printed_by r c l ≡ printed_by r' c' l' → r ≡ r'
+  printed_one BadBundle BadBundle e = refl
+  printed_one BadBundle (Refused g q) e = cc
+  printed_one BadBundle TooLarge e = cc
+  printed_one BadBundle (Judged k) e = cc
+  printed_one (Refused f p) BadBundle e = cc
+  printed_one (Refused f p) (Refused g q) e =
+      let numbers : refusal_number f ≡ refusal_number g = cc in
       let places : p ≡ q = cc in
-      rw (number-one f g numbers, places)
-  printed-one (Refused f p) TooLarge e = cc
-  printed-one (Refused f p) (Judged k) e = cc
-  printed-one TooLarge BadBundle e = cc
-  printed-one TooLarge (Refused g q) e = cc
-  printed-one TooLarge TooLarge e = refl
-  printed-one TooLarge (Judged k) e = cc
-  printed-one (Judged j) BadBundle e = cc
-  printed-one (Judged j) (Refused g q) e = cc
-  printed-one (Judged j) TooLarge e = cc
-  printed-one (Judged j) (Judged k) e = judgement-one j k e
+      rw (number_one f g numbers, places)
+  printed_one (Refused f p) TooLarge e = cc
+  printed_one (Refused f p) (Judged k) e = cc
+  printed_one TooLarge BadBundle e = cc
+  printed_one TooLarge (Refused g q) e = cc
+  printed_one TooLarge TooLarge e = refl
+  printed_one TooLarge (Judged k) e = cc
+  printed_one (Judged j) BadBundle e = cc
+  printed_one (Judged j) (Refused g q) e = cc
+  printed_one (Judged j) TooLarge e = cc
+  printed_one (Judged j) (Judged k) e = judgement_one j k e
 
-  pub reply-one : {told : Told} (r r' : Reply) → Replies told r c l → Replies told r' c' l' → (r ≡ r') × (c ≡ c') × (l ≡ l')
-  reply-one r r' a b =
+  pub reply_one : {told : Told} (r r' : Reply) → Replies told r c l → Replies told r' c' l' → (r ≡ r') × (c ≡ c') × (l ≡ l')
+  reply_one r r' a b =
       let same = a.tells ∙ sym b.tells in
-      (printed-one r r' (ap (λ (x : Told). x.printed) same), ap (λ (x : Told). x.cells) same, ap (λ (x : Told). x.list) same)
+      (printed_one r r' (ap (λ (x : Told). x.printed) same), ap (λ (x : Told). x.cells) same, ap (λ (x : Told). x.list) same)

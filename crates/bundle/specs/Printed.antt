@@ -4,13 +4,13 @@
 -- Assumes nothing.
 use Rattle.std.specs.Prelude.{Bool, false, cond, ◌||◌, List, map, ◌≡◌, ℕ, ◌+◌, ◌*◌, ◌/◌, ◌%◌, ◌≤◌, ◌<◌, eqb, ltb, length, get_or, take, drop}
 use Rattle.sheet.specs.Refusals as S
-use Rattle.sheet.specs.Refusals.{refusalNumber, Outcome, accepted}
+use Rattle.sheet.specs.Refusals.{refusal_number, Outcome, accepted}
 use Rattle.sheet.specs.Doc.{Doc}
-use Rattle.sheet.specs.Record.{docOf}
-use Rattle.sheet.specs.Faults.{recordOutcome}
+use Rattle.sheet.specs.Record.{doc_of}
+use Rattle.sheet.specs.Faults.{record_outcome}
 use Rattle.rulesheet.specs.Ruleset.{Ruleset}
-use Rattle.rulesheet.specs.Sheet.{rulesOf}
-use Rattle.rules.specs.Check.{rulesOutcome}
+use Rattle.rulesheet.specs.Sheet.{rules_of}
+use Rattle.rules.specs.Check.{rules_outcome}
 use Rattle.meaning.specs.Lists.{range}
 use Rattle.meaning.specs.Rules.{Pair, whole, truth}
 use Rattle.meaning.specs.Settling.{root, settled, marked}
@@ -24,16 +24,16 @@ use Rattle.bundle.specs.declared.Reply.TheVariants.{BadBundle, Refused, TooLarge
 use Rattle.parts.specs.Bundle.{words_of, parts_of}
 
 -- the most rows and the most schemas that are judged
-abbrev pub side-max : ℕ
-side-max = 128
+abbrev pub side_max : ℕ
+side_max = 128
 
-abbrev pub tooLarge : ℕ → ℕ → Bool
-tooLarge n m = ltb side-max n || ltb side-max m
+abbrev pub is_too_large : ℕ → ℕ → Bool
+is_too_large n m = ltb side_max n || ltb side_max m
 
 -- of a judgement: the verdict, the number of schemas (by which the words of the list are read; it is not printed), the marked children of the root, and
 -- a line for each settled pair; how many lines there are is printed besides
 pub data Printed : Type 0 where
-  bad-bundle too_large : Printed
+  bad_bundle too_large : Printed
   refused : ℕ → ℕ → Printed
   judged : Bool → ℕ → ℕ → List Line → Printed
 
@@ -49,37 +49,37 @@ unfoldable pub line_of : Doc → Ruleset → Pair → Line
 line_of D R p = record { row = p.row; schema = p.rule; held = (truth D R p).holds }
 
 -- the areas are those that judging leaves
-unfoldable pub toldJudged : Doc → Ruleset → ℕ → ℕ → (cs ls : List ℕ) → Told
-toldJudged D R n m cs ls =
+unfoldable pub told_judged : Doc → Ruleset → ℕ → ℕ → (cs ls : List ℕ) → Told
+told_judged D R n m cs ls =
     record {
       printed = judged (truth D R root).holds m (marked D R n m) (map (line_of D R) (settled D R whole));
       cells = (A.judged whole D R n m cs ls).cells;
       list = (A.judged whole D R n m cs ls).list;
     }
 
-abbrev pub unlessRefused : Outcome → (Printed → Told) → (ℕ → Told) → Told
-unlessRefused (accepted rows) unchanged more = more rows
-unlessRefused (S.refused number place) unchanged more = unchanged (refused number place)
+abbrev pub unless_refused : Outcome → (Printed → Told) → (ℕ → Told) → Told
+unless_refused (accepted rows) unchanged more = more rows
+unless_refused (S.refused number place) unchanged more = unchanged (refused number place)
 
 -- unless it is judged, nothing is written to the areas
-unfoldable pub toldSheets : (ws ts rs us cs ls : List ℕ) → Told
-toldSheets ws ts rs us cs ls =
+unfoldable pub told_sheets : (ws ts rs us cs ls : List ℕ) → Told
+told_sheets ws ts rs us cs ls =
     let unchanged : Printed → Told = λ p. record { printed = p; cells = cs; list = ls } in
-    unlessRefused (recordOutcome ws ts) unchanged
+    unless_refused (record_outcome ws ts) unchanged
     (λ n.
-    unlessRefused (rulesOutcome rs us) unchanged
-    (λ m. cond (tooLarge n m) (unchanged too_large) (toldJudged (docOf ws ts) (rulesOf rs us) n m cs ls)))
+    unless_refused (rules_outcome rs us) unchanged
+    (λ m. cond (is_too_large n m) (unchanged too_large) (told_judged (doc_of ws ts) (rules_of rs us) n m cs ls)))
 
-unfoldable pub toldParts : (bs cs ls : List ℕ) → Bundle → Told
-toldParts bs cs ls Bad = record { printed = bad-bundle; cells = cs; list = ls }
-toldParts bs cs ls (Good a b) =
+unfoldable pub told_parts : (bs cs ls : List ℕ) → Bundle → Told
+told_parts bs cs ls Bad = record { printed = bad_bundle; cells = cs; list = ls }
+told_parts bs cs ls (Good a b) =
     let text = a.words in
     let rules = text + a.text in
-    let rule-text = rules + b.words in
-    toldSheets (words_of (take a.words bs)) (take a.text (drop text bs)) (words_of (take b.words (drop rules bs))) (take b.text (drop rule-text bs)) cs ls
+    let rule_text = rules + b.words in
+    told_sheets (words_of (take a.words bs)) (take a.text (drop text bs)) (words_of (take b.words (drop rules bs))) (take b.text (drop rule_text bs)) cs ls
 
-abbrev pub toldOf : (bs cs ls : List ℕ) → Told
-toldOf bs cs ls = toldParts bs cs ls (parts_of bs)
+abbrev pub told_of : (bs cs ls : List ℕ) → Told
+told_of bs cs ls = told_parts bs cs ls (parts_of bs)
 
 -- ---- what the program's reply says
 
@@ -89,22 +89,22 @@ line_at cells list schemas i =
     let word = get_or list i 0 in
     record { row = word / schemas; schema = word % schemas; held = eqb (verd (get_or cells word 0)) 1 }
 
-abbrev pub printedBy : Reply → (cells list : List ℕ) → Printed
-printedBy BadBundle cells list = bad-bundle
-printedBy (Refused refusal place) cells list = refused (refusalNumber refusal) place
-printedBy TooLarge cells list = too_large
-printedBy (Judged j) cells list = judged j.valid j.schemas j.marked (map (line_at cells list j.schemas) (range 0 j.pairs))
+abbrev pub printed_by : Reply → (cells list : List ℕ) → Printed
+printed_by BadBundle cells list = bad_bundle
+printed_by (Refused refusal place) cells list = refused (refusal_number refusal) place
+printed_by TooLarge cells list = too_large
+printed_by (Judged j) cells list = judged j.valid j.schemas j.marked (map (line_at cells list j.schemas) (range 0 j.pairs))
 
 -- areas for as many rows and schemas as are judged
 pub record Roomy (cells list : List ℕ) : Type 0 where
-  pub cells-long : side-max * side-max ≤ length cells
-  pub list-long : side-max * side-max ≤ length list
+  pub cells_long : side_max * side_max ≤ length cells
+  pub list_long : side_max * side_max ≤ length list
 
 -- both sheets are in order, with n rows and m schemas, not too many of either, and there is room
 pub record InOrder (ws ts rs us cells list : List ℕ) (n m : ℕ) : Type 0 where
-  pub record-good : recordOutcome ws ts ≡ accepted n
-  pub rules-good : rulesOutcome rs us ≡ accepted m
-  pub small : tooLarge n m ≡ false
+  pub record_good : record_outcome ws ts ≡ accepted n
+  pub rules_good : rules_outcome rs us ≡ accepted m
+  pub small : is_too_large n m ≡ false
   pub room : Roomy cells list
 
 -- line i can be read
@@ -122,5 +122,5 @@ Readable (Judged j) cells list = (i : ℕ) → i < j.pairs → LineIn cells list
 
 -- a reply that tells this
 pub record Replies (told : Told) (r : Reply) (cells list : List ℕ) : Type 0 where
-  pub tells : ◌≡◌ {A = Told} (record { printed = printedBy r cells list; cells = cells; list = list }) told
+  pub tells : ◌≡◌ {A = Told} (record { printed = printed_by r cells list; cells = cells; list = list }) told
   pub readable : Readable r cells list

@@ -2,8 +2,10 @@
 // reads or writes a file.
 //
 // Its contracts cite `specs/Printed.antt`.
+#![tactic(auto)]
+
 ghost use Rattle.std.specs.Prelude.{◌≡◌};
-ghost use Rattle.bundle.specs.Printed.{tooLarge, toldSheets, toldOf, line_at, Roomy, InOrder, LineIn, Replies};
+ghost use Rattle.bundle.specs.Printed.{is_too_large, told_sheets, told_of, line_at, Roomy, InOrder, LineIn, Replies};
 
 use answer::Answer;
 use parts::{BUNDLE_MAX, Bundle, WORD, parts_of, read_words};
@@ -18,7 +20,7 @@ pub const AREA: usize = (SIDE_MAX * SIDE_MAX) as usize;
 
 // The verdict, and how many schemas there are, how many pairs were settled and how many children of
 // the root are marked.
-#[derive(Drop)]
+#[derive(Clone, Copy)]
 pub struct Judgement {
     pub valid: bool,
     pub schemas: usize,
@@ -27,7 +29,7 @@ pub struct Judgement {
 }
 
 // All that is printed but for the lines of the settled pairs, which `line_at` gives.
-#[derive(Drop)]
+#[derive(Clone, Copy)]
 pub enum Reply {
     BadBundle,
     Refused(Refusal, u32),
@@ -36,7 +38,7 @@ pub enum Reply {
 }
 
 // A settled pair, and whether it held.
-#[derive(Drop)]
+#[derive(Clone, Copy)]
 pub struct Line {
     pub row: usize,
     pub schema: usize,
@@ -47,7 +49,7 @@ pub struct Line {
 // nothing is written to them.
 pub fn reply_to(bundle: &[u8], cells: &mut [u8], list: &mut [u32]) -> Reply
     requires { Roomy cells.old list.old }
-    ensures { Replies (toldOf bundle.now cells.old list.old) result cells.new list.new }
+    ensures { Replies (told_of bundle.now cells.old list.old) result cells.new list.new }
 {
     let Bundle::Good(of_record, of_rules) = parts_of(bundle) else {
         return Reply::BadBundle;
@@ -80,7 +82,7 @@ fn reply_to_sheets<'a>(
     list: &mut [u32],
 ) -> Reply
     requires { Roomy cells.old list.old }
-    ensures { Replies (toldSheets «record».now text.now rules.now rule_text.now cells.old list.old) result cells.new list.new }
+    ensures { Replies (told_sheets «record».now text.now rules.now rule_text.now cells.old list.old) result cells.new list.new }
 {
     match recordcheck::check_record(record, text) {
         Checked::Refused(refusal, place) => Reply::Refused(refusal, place),
@@ -99,7 +101,7 @@ fn reply_to_sheets<'a>(
 
 // Whether so many rows and schemas are too many.
 fn too_large(n: u32, m: u32) -> bool
-    ensures { result ≡ tooLarge n m }
+    ensures { result ≡ is_too_large n m }
 {
     (SIDE_MAX < n) | (SIDE_MAX < m)
 }
@@ -116,7 +118,7 @@ fn judge_all<'a>(
     m: u32,
 ) -> Reply
     requires { InOrder «record».now text.now rules.now rule_text.now cells.old list.old n m }
-    ensures { Replies (toldSheets «record».now text.now rules.now rule_text.now cells.old list.old) result cells.new list.new }
+    ensures { Replies (told_sheets «record».now text.now rules.now rule_text.now cells.old list.old) result cells.new list.new }
 {
     let schemas = wide(m);
     match judge::judge(record, text, rules, rule_text, cells, list) {

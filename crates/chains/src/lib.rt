@@ -1,11 +1,13 @@
 // Refusal 9: the lowest schema that starts an unguarded chain of 33 schemas.
 //
 // Its contracts cite `Graph`, `Places` and `Lengths` of `unguarded`.
+#![tactic(auto)]
+
 ghost use Rattle.std.specs.Prelude.{◌∷◌, [], ◌≡◌, ◌≤◌, ◌<◌, length};
-ghost use Rattle.rulesheet.specs.Sheet.{schemasWord, clausesWord, targetsOf, next_of};
+ghost use Rattle.rulesheet.specs.Sheet.{schemas_word, clauses_word, targets_of, next_of};
 ghost use Rattle.rulesheet.specs.Read.{RulesLaid};
 ghost use Rattle.unguarded.specs.Graph.{chain_steps};
-ghost use Rattle.unguarded.specs.Places.{chainPlace};
+ghost use Rattle.unguarded.specs.Places.{chain_place};
 ghost use Rattle.unguarded.specs.Lengths.{Noted, Raised, Passed, Lengths, Ready};
 
 use links::{CHAIN_STEPS, last_step, longer, taker};
@@ -38,8 +40,8 @@ fn clause_length(
     late: &mut [u8],
     most: u8,
 ) -> u8
-    requires { RulesLaid words.now form × (k < clausesWord words.now) × (schemasWord words.now ≤ length table.now) × (schemasWord words.now ≤ length late.old) × (most ≤ chain_steps) }
-    ensures { Raised (targetsOf words.now k) table.now most result × Noted s.0 (targetsOf words.now k) late.old late.new }
+    requires { RulesLaid words.now form × (k < clauses_word words.now) × (schemas_word words.now ≤ length table.now) × (schemas_word words.now ≤ length late.old) × (most ≤ chain_steps) }
+    ensures { Raised (targets_of words.now k) table.now most result × Noted s.0 (targets_of words.now k) late.old late.new }
 {
     let n = steps_of(words, form, k);
     let mut long = most;
@@ -59,7 +61,7 @@ fn clause_length(
 // one in the pass had asked for: if not, the table is right.
 fn pass(words: &[u32], form: RuleForm, last: u32, table: &mut [u8], late: &mut [u8]) -> bool
     requires { Ready words.now form last table.old late.old }
-    ensures { Passed (schemasWord words.now) (next_of words.now) table.old table.new result }
+    ensures { Passed (schemas_word words.now) (next_of words.now) table.old table.new result }
 {
     let mut again = false;
     let last_schema = form.m - 1;
@@ -84,7 +86,7 @@ fn pass(words: &[u32], form: RuleForm, last: u32, table: &mut [u8], late: &mut [
 // a later schema or to one without steps, and never later than the 32nd.
 fn fill_lengths(words: &[u32], form: RuleForm, last: u32, table: &mut [u8], late: &mut [u8])
     requires { Ready words.now form last table.old late.old }
-    ensures { Lengths (schemasWord words.now) (next_of words.now) table.new }
+    ensures { Lengths (schemas_word words.now) (next_of words.now) table.new }
 {
     let mut k: u8 = 0;
     while k < CHAIN_STEPS {
@@ -97,8 +99,8 @@ fn fill_lengths(words: &[u32], form: RuleForm, last: u32, table: &mut [u8], late
 
 // The lowest schema that starts a chain of 33 schemas, or the number of schemas.
 fn first_long(words: &[u32], form: RuleForm, table: &[u8]) -> u32
-    requires { RulesLaid words.now form × Lengths (schemasWord words.now) (next_of words.now) table.now }
-    ensures { result ≡ chainPlace (schemasWord words.now) (next_of words.now) }
+    requires { RulesLaid words.now form × Lengths (schemas_word words.now) (next_of words.now) table.now }
+    ensures { result ≡ chain_place (schemas_word words.now) (next_of words.now) }
 {
     let m = form.m;
     let mut s = 0;
@@ -115,7 +117,7 @@ fn first_long(words: &[u32], form: RuleForm, table: &[u8]) -> u32
 // The same, from a table that tells no length yet.
 fn long_by(words: &[u32], form: RuleForm, last: u32, table: &mut [u8], late: &mut [u8]) -> u32
     requires { Ready words.now form last table.old late.old }
-    ensures { result ≡ chainPlace (schemasWord words.now) (next_of words.now) }
+    ensures { result ≡ chain_place (schemas_word words.now) (next_of words.now) }
 {
     fill_lengths(words, form, last, table, late);
     first_long(words, form, table)
@@ -124,7 +126,7 @@ fn long_by(words: &[u32], form: RuleForm, last: u32, table: &mut [u8], late: &mu
 // The same, from nothing. Where no clause has a step, no table is needed.
 pub fn long_place(words: &[u32], form: RuleForm) -> u32
     requires { RulesLaid words.now form }
-    ensures { result ≡ chainPlace (schemasWord words.now) (next_of words.now) }
+    ensures { result ≡ chain_place (schemas_word words.now) (next_of words.now) }
 {
     let m = form.m;
     let last = last_step(words, form, form.c);

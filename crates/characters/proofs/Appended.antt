@@ -7,32 +7,32 @@ use native.Mathlib.Numerals.{add-one}
 use native.Mathlib.Omega.{arith}
 use lib.ListN.{length, set}
 use lib.Seq.{sets}
-use Rattle.json.specs.Utf8.{encode}
-use Rattle.json.proofs.Strings.{encode-1, encode-2, encode-3, encode-4}
+use Rattle.jsontext.specs.Utf8.{encode}
+use Rattle.jsontext.proofs.Strings.{encode_1, encode_2, encode_3, encode_4}
 
 module _ (area : List ℕ) (at c : ℕ) where
   abbrev Appended : ℕ → List ℕ → Type 0
   Appended to room = (to ≡ at + length (encode c [])) × (room ≡ sets area at (encode c []))
 
-  pub appended-1 : {a : List ℕ} → c < 0x80 → a ≡ set area at c → Appended (at + 1) a
-  appended-1 l e = rw (encode-1 c [] l) (omega arith, e)
+  pub appended_1 : {a : List ℕ} → c < 0x80 → a ≡ set area at c → Appended (at + 1) a
+  appended_1 l e = rw (encode_1 c [] l) (omega arith, e)
 
-  pub appended-2 : {a b : List ℕ} → 0x80 ≤ c → c < 0x800 → a ≡ set area at (0xC0 + c / 0x40) → b ≡ set a (at + 1) (0x80 + c % 0x40) → Appended (at + 2) b
-  appended-2 {a} {b} l m e f =
-      rw (encode-2 c [] l m) (omega arith, f ∙ rw (e, add-one at))
+  pub appended_2 : {a b : List ℕ} → 0x80 ≤ c → c < 0x800 → a ≡ set area at (0xC0 + c / 0x40) → b ≡ set a (at + 1) (0x80 + c % 0x40) → Appended (at + 2) b
+  appended_2 {a} {b} l m e f =
+      rw (encode_2 c [] l m) (omega arith, f ∙ rw (e, add-one at))
 
-  pub appended-3 : {x y z : List ℕ} → 0x800 ≤ c → c < 0x10000
+  pub appended_3 : {x y z : List ℕ} → 0x800 ≤ c → c < 0x10000
       → x ≡ set area at (0xE0 + c / 0x1000) → y ≡ set x (at + 1) (0x80 + c / 0x40 % 0x40) → z ≡ set y (at + 2) (0x80 + c % 0x40)
       → Appended (at + 3) z
-  appended-3 {x} {y} {z} l m e f g =
+  appended_3 {x} {y} {z} l m e f g =
       let two : at + 2 ≡ suc (suc at) = omega arith in
-      rw (encode-3 c [] l m) (omega arith, g ∙ rw (f, e, two, add-one at))
+      rw (encode_3 c [] l m) (omega arith, g ∙ rw (f, e, two, add-one at))
 
-  pub appended-4 : {x y z w : List ℕ} → 0x10000 ≤ c
+  pub appended_4 : {x y z w : List ℕ} → 0x10000 ≤ c
       → x ≡ set area at (0xF0 + c / 0x40000) → y ≡ set x (at + 1) (0x80 + c / 0x1000 % 0x40)
       → z ≡ set y (at + 2) (0x80 + c / 0x40 % 0x40) → w ≡ set z (at + 3) (0x80 + c % 0x40)
       → Appended (at + 4) w
-  appended-4 {x} {y} {z} {w} l e f g h =
+  appended_4 {x} {y} {z} {w} l e f g h =
       let two : at + 2 ≡ suc (suc at) = omega arith in
       let three : at + 3 ≡ suc (suc (suc at)) = omega arith in
-      rw (encode-4 c [] l) (omega arith, h ∙ rw (g, f, e, three, two, add-one at))
+      rw (encode_4 c [] l) (omega arith, h ∙ rw (g, f, e, three, two, add-one at))

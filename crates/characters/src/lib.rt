@@ -1,7 +1,9 @@
-// A character, written into an area: its bytes in UTF-8 (`json/specs/Utf8.antt`, which the contract cites).
+// A character, written into an area: its bytes in UTF-8 (`jsontext/specs/Utf8.antt`, which the contract cites).
+#![tactic(auto)]
+
 ghost use Rattle.std.specs.Prelude.{[], ◌≡◌, ◌+◌, ◌<◌, length};
 ghost use Rattle.std.proofs.lemmas.List.Edits.{sets};
-ghost use Rattle.json.specs.Utf8.{encode};
+ghost use Rattle.jsontext.specs.Utf8.{encode};
 
 use putting::put;
 

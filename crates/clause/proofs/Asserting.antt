@@ -20,7 +20,7 @@ use Rattle.rulesheet.specs.declared.clause.Clause.TheVariants.{Never, Types, Enu
 use Rattle.rulesheet.specs.declared.clause.Clause.TheVariants.{MinLength, MaxLength, MinItems, MaxItems, MinProperties, MaxProperties, Required}
 use Rattle.rulesheet.specs.declared.clause.Clause.TheVariants.{AllOf, AnyOf, OneOf as Exactly, Not, Ref, IfThenElse, DependentSchemas, Properties, AdditionalProperties, PrefixItems, Items, Contains, UnevaluatedProperties, UnevaluatedItems}
 use Rattle.rulesheet.specs.Ruleset.{Test, asserts}
-use Rattle.rulesheet.specs.Clauses.{clauseMeans, list, held, Bounded, Listed, Sized, Tested}
+use Rattle.rulesheet.specs.Clauses.{clause_means, list, held, Bounded, Listed, Sized, Tested}
 use Rattle.meaning.specs.Rules.{passes}
 use Rattle.clause.specs.Read.{RulesRead, ListRead, Tries}
 
@@ -29,18 +29,18 @@ abbrev appliers : List ℕ
 appliers = 15 ∷ 16 ∷ 17 ∷ 18 ∷ 19 ∷ 20 ∷ 21 ∷ 22 ∷ 23 ∷ 24 ∷ 25 ∷ 26 ∷ 27 ∷ 28 ∷ []
 
 module _ (ws ts : List ℕ) where
-  pub tried : (d : Doc) (j : ℕ) (clause variant : Clause) (s : Test) (ok : Bool) → clause ≡ variant → clauseMeans ws ts variant ≡ asserts s → ok ≡ passes d j s
-      → Tries d j (clauseMeans ws ts clause) ok
-  tried d j clause variant s ok e means is = (s, ap (clauseMeans ws ts) e ∙ means, is)
+  pub tried : (d : Doc) (j : ℕ) (clause variant : Clause) (s : Test) (ok : Bool) → clause ≡ variant → clause_means ws ts variant ≡ asserts s → ok ≡ passes d j s
+      → Tries d j (clause_means ws ts clause) ok
+  tried d j clause variant s ok e means is = (s, ap (clause_means ws ts) e ∙ means, is)
 
-  pub answered : (d : Doc) (j : ℕ) (clause variant : Clause) (s : Test) (ok : Bool) → clause ≡ variant → clauseMeans ws ts variant ≡ asserts s → ok ≡ passes d j s
-      → (t : Test) → clauseMeans ws ts clause ≡ asserts t → ok ≡ passes d j t
+  pub answered : (d : Doc) (j : ℕ) (clause variant : Clause) (s : Test) (ok : Bool) → clause ≡ variant → clause_means ws ts variant ≡ asserts s → ok ≡ passes d j s
+      → (t : Test) → clause_means ws ts clause ≡ asserts t → ok ≡ passes d j t
   answered d j clause variant s ok e means is t h =
-      let twice : asserts s ≡ asserts t = sym means ∙ sym (ap (clauseMeans ws ts) e) ∙ h in
+      let twice : asserts s ≡ asserts t = sym means ∙ sym (ap (clause_means ws ts) e) ∙ h in
       let same : s ≡ t = cc in
       is ∙ ap (passes d j) same
 
-  pub no_test : (clause : Clause) → OneOf appliers (tag_of the_type clause) → (t : Test) → clauseMeans ws ts clause ≡ asserts t → ⊥
+  pub no_test : (clause : Clause) → OneOf appliers (tag_of the_type clause) → (t : Test) → clause_means ws ts clause ≡ asserts t → ⊥
   no_test Never k t e = absurd (miss appliers 0 tt k)
   no_test (Types mask) k t e = absurd (miss appliers 1 tt k)
   no_test (Enum es) k t e = absurd (miss appliers 2 tt k)
@@ -73,10 +73,10 @@ module _ (ws ts : List ℕ) where
 
 module _ {ws ts : List ℕ} {form : RuleForm} {clause : Clause} (tested : Tested ws form clause) (rules : RulesRead ws ts form) (variant : Clause) (e : clause ≡ variant) where
   pub bounds : Bounded form (held variant)
-  bounds = rw e at (tested.bounded rules.laid.clauses-laid)
+  bounds = rw e at (tested.bounded rules.laid.clauses_laid)
 
   pub sizes : Sized (held variant)
-  sizes = rw e at (tested.sized rules.laid.clauses-laid)
+  sizes = rw e at (tested.sized rules.laid.clauses_laid)
 
   pub list_read : (fields : Fields) (es : Entries) → held variant ≡ list fields es → ListRead ws form fields es
   list_read fields es h =

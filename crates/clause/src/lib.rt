@@ -5,6 +5,8 @@
 //
 // Its contracts cite the tests of `meaning` (`specs/Tests.antt`, `specs/Rules.antt`), what is looked up
 // of a row (`specs/Read.antt` of `looking`) and `specs/Read.antt`.
+#![tactic(auto)]
+
 mod members;
 mod read;
 mod sizes;

@@ -1,9 +1,9 @@
 // The keyword `required`: a row has a member of each name of a list.
 ghost use Rattle.std.specs.Prelude.{map, ◌≡◌, ◌<◌};
-ghost use Rattle.sheet.specs.Record.{docOf};
+ghost use Rattle.sheet.specs.Record.{doc_of};
 ghost use Rattle.rulesheet.specs.declared.code.Fields.TheVariants.{Names};
-ghost use Rattle.rulesheet.specs.Codes.{entryName};
-ghost use Rattle.rulesheet.specs.Clauses.{entriesOf};
+ghost use Rattle.rulesheet.specs.Codes.{entry_name};
+ghost use Rattle.rulesheet.specs.Clauses.{entries_of};
 ghost use Rattle.meaning.specs.Tests.{members?, given};
 ghost use Rattle.meaning.specs.Rules.{present};
 ghost use Rattle.looking.specs.Read.{RecordRead};
@@ -30,7 +30,7 @@ pub(crate) fn required<'a>(
 ) -> bool
     requires record_read { RecordRead «record».now text.now form × (row.0 < form.rows) }
     requires rules_read { RulesRead rules.now rule_text.now rule_form × ListRead rules.now rule_form Names list }
-    ensures { result ≡ given (members? ((docOf «record».now text.now).value row.0)) (present (docOf «record».now text.now) (map (entryName rule_text.now) (entriesOf rules.now list))) }
+    ensures { result ≡ given (members? ((doc_of «record».now text.now).value row.0)) (present (doc_of «record».now text.now) (map (entry_name rule_text.now) (entries_of rules.now list))) }
 {
     if !is_kind(record, form, row, RowKind::OBJECT) {
         return true;

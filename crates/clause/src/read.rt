@@ -1,6 +1,6 @@
 // The clauses of a schema, read by their numbers.
 ghost use Rattle.std.specs.Prelude.{◌<◌};
-ghost use Rattle.rulesheet.specs.Sheet.{schemaAt};
+ghost use Rattle.rulesheet.specs.Sheet.{schema_at};
 ghost use Rattle.clause.specs.Read.{RulesRead, ClauseRead};
 
 use rulereader::clause_of;
@@ -16,7 +16,7 @@ pub(crate) fn clause_in<'a>(
     s: RuleRow,
     i: u32,
 ) -> Clause
-    requires { RulesRead rules.now rule_text.now form × (s.0 < form.m) × (i < (schemaAt rules.now s.0).count) }
+    requires { RulesRead rules.now rule_text.now form × (s.0 < form.m) × (i < (schema_at rules.now s.0).count) }
     ensures { ClauseRead (λ c. c) rules.now rule_text.now form s.0 i result }
 {
     let first = schema_at(rules, form, s).first;

@@ -1,6 +1,6 @@
 // The lengths of strings. A row that is no string keeps them.
 ghost use Rattle.std.specs.Prelude.{◌≡◌, ◌<◌};
-ghost use Rattle.sheet.specs.Record.{docOf};
+ghost use Rattle.sheet.specs.Record.{doc_of};
 ghost use Rattle.meaning.specs.Tests.{bytes?, length_of, at_least, at_most};
 ghost use Rattle.looking.specs.Read.{RecordRead};
 
@@ -17,7 +17,7 @@ pub(crate) fn min_length(
     k: u32,
 ) -> bool
     requires { RecordRead «record».now text.now form × (row.0 < form.rows) }
-    ensures { result ≡ at_least length_of k (bytes? ((docOf «record».now text.now).value row.0)) }
+    ensures { result ≡ at_least length_of k (bytes? ((doc_of «record».now text.now).value row.0)) }
 {
     let found = string_in(record, form, row);
     if k <= FEW {
@@ -35,7 +35,7 @@ pub(crate) fn max_length(
     k: u32,
 ) -> bool
     requires { RecordRead «record».now text.now form × (row.0 < form.rows) }
-    ensures { result ≡ at_most length_of k (bytes? ((docOf «record».now text.now).value row.0)) }
+    ensures { result ≡ at_most length_of k (bytes? ((doc_of «record».now text.now).value row.0)) }
 {
     let found = string_in(record, form, row);
     if few_bytes(found, k) {

@@ -1,13 +1,13 @@
 // A clause that asserts something of a row's value, by its keyword.
 ghost use Rattle.std.specs.Prelude.{◌≡◌, ◌<◌};
-ghost use Rattle.sheet.specs.Record.{docOf};
+ghost use Rattle.sheet.specs.Record.{doc_of};
 ghost use Rattle.rulesheet.specs.Ruleset.{Test, asserts};
-ghost use Rattle.rulesheet.specs.Sheet.{schemaAt};
-ghost use Rattle.rulesheet.specs.Clauses.{clauseMeans, Tested};
+ghost use Rattle.rulesheet.specs.Sheet.{schema_at};
+ghost use Rattle.rulesheet.specs.Clauses.{clause_means, Tested};
 ghost use Rattle.meaning.specs.Rules.{passes};
-ghost use Rattle.areas.specs.Cells.{pairIs, Unsettled};
+ghost use Rattle.areas.specs.Cells.{pair_is, Unsettled};
 ghost use Rattle.looking.specs.Read.{RecordRead};
-ghost use Rattle.clause.specs.Read.{RulesRead, clauseIn};
+ghost use Rattle.clause.specs.Read.{RulesRead, clause_in};
 
 use crate::members::required;
 use crate::read::clause_in;
@@ -35,7 +35,7 @@ fn passes_test<'a>(
 ) -> bool
     requires record_read { RecordRead «record».now text.now form × (row.0 < form.rows) }
     requires rules_read { RulesRead rules.now rule_text.now rule_form × Tested rules.now rule_form clause }
-    ensures { (t : Test) → clauseMeans rules.now rule_text.now clause ≡ asserts t → result ≡ passes (docOf «record».now text.now) row.0 t }
+    ensures { (t : Test) → clause_means rules.now rule_text.now clause ≡ asserts t → result ≡ passes (doc_of «record».now text.now) row.0 t }
 {
     match clause {
         Clause::Never => false,
@@ -75,9 +75,9 @@ pub fn passes_clause<'a>(
     i: u32,
 ) -> bool
     requires record_read { RecordRead «record».now text.now form × (p.row.0 < form.rows) }
-    requires rules_read { RulesRead rules.now rule_text.now rule_form × (p.rule.0 < rule_form.m) × (i < (schemaAt rules.now p.rule.0).count) }
-    requires unsettled { Unsettled rule_form.m (pairIs p) cells.now }
-    ensures { (t : Test) → clauseIn rules.now rule_text.now p.rule.0 i ≡ asserts t → result ≡ passes (docOf «record».now text.now) p.row.0 t }
+    requires rules_read { RulesRead rules.now rule_text.now rule_form × (p.rule.0 < rule_form.m) × (i < (schema_at rules.now p.rule.0).count) }
+    requires unsettled { Unsettled rule_form.m (pair_is p) cells.now }
+    ensures { (t : Test) → clause_in rules.now rule_text.now p.rule.0 i ≡ asserts t → result ≡ passes (doc_of «record».now text.now) p.row.0 t }
 {
     let clause = clause_in(rules, rule_text, rule_form, p.rule, i);
     passes_test(

@@ -1,10 +1,10 @@
 // The keyword `enum`: a row equals one of the values of a list.
 ghost use Rattle.std.specs.Prelude.{true, map, ◌≡◌, ◌<◌, length};
-ghost use Rattle.sheet.specs.Record.{docOf};
+ghost use Rattle.sheet.specs.Record.{doc_of};
 ghost use Rattle.rulesheet.specs.declared.code.Fields.TheVariants.{Values};
-ghost use Rattle.rulesheet.specs.Codes.{entryValue};
-ghost use Rattle.rulesheet.specs.Faults.{entryOk};
-ghost use Rattle.rulesheet.specs.Clauses.{entriesOf};
+ghost use Rattle.rulesheet.specs.Codes.{entry_value};
+ghost use Rattle.rulesheet.specs.Faults.{entry_ok};
+ghost use Rattle.rulesheet.specs.Clauses.{entries_of};
 ghost use Rattle.meaning.specs.Lists.{any};
 ghost use Rattle.meaning.specs.Tests.{equal};
 ghost use Rattle.looking.specs.Read.{RecordRead};
@@ -29,8 +29,8 @@ fn equals_entry<'a>(
     entry: EntryRow,
 ) -> bool
     requires record_read { RecordRead «record».now text.now form × (row.0 < form.rows) }
-    requires value { entryOk Values (length rule_text.now) 0 entry ≡ true }
-    ensures { result ≡ equal ((docOf «record».now text.now).value row.0) (entryValue rule_text.now entry) }
+    requires value { entry_ok Values (length rule_text.now) 0 entry ≡ true }
+    ensures { result ≡ equal ((doc_of «record».now text.now).value row.0) (entry_value rule_text.now entry) }
 {
     let kind = kind_of(record, form, row).number();
     if kind != entry.first {
@@ -63,7 +63,7 @@ pub(crate) fn enum_holds<'a>(
 ) -> bool
     requires record_read { RecordRead «record».now text.now form × (row.0 < form.rows) }
     requires rules_read { RulesRead rules.now rule_text.now rule_form × ListRead rules.now rule_form Values list }
-    ensures { result ≡ any (map (λ v. equal ((docOf «record».now text.now).value row.0) v) (map (entryValue rule_text.now) (entriesOf rules.now list))) }
+    ensures { result ≡ any (map (λ v. equal ((doc_of «record».now text.now).value row.0) v) (map (entry_value rule_text.now) (entries_of rules.now list))) }
 {
     let many = list.count;
     let mut i = 0;

@@ -2,8 +2,10 @@
 // column of a schema. Nothing here stores into cells but by `areas::write_mark`.
 //
 // Its contracts cite specs/ of `areas`: `Cells`, `Writers`.
+#![tactic(auto)]
+
 ghost use Rattle.std.specs.Prelude.{false, ◌≡◌, ◌+◌, ◌<◌};
-ghost use Rattle.areas.specs.Cells.{plus, markedBy};
+ghost use Rattle.areas.specs.Cells.{plus, marked_by};
 ghost use Rattle.areas.specs.Writers.{Writes, Marked, merged};
 
 use areas::{is_marked, write_mark};
@@ -74,7 +76,7 @@ fn add(n: usize, so: bool) -> usize
 pub fn marked_of(cells: &[u8], m: usize, kids: Children) -> usize
     requires writes { Writes m kids.first kids.count 0 0 cells.now }
     requires count_bound { kids.first + kids.count < 4294967296 }
-    ensures { result ≡ markedBy m cells.now kids.first kids.count }
+    ensures { result ≡ marked_by m cells.now kids.first kids.count }
 {
     let mut n = 0;
     let mut i = 0;

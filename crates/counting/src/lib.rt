@@ -2,17 +2,19 @@
 //
 // Contracts cite `specs/Counting.antt`, what is computed, and of crate `utf8` the meaning (`Utf8`,
 // `characters`).
+#![tactic(auto)]
+
 ghost use Rattle.std.specs.Prelude.{◌≡◌, true, leb, length};
 ghost use Rattle.text.specs.Part.{fits, part};
-ghost use Rattle.utf8.specs.Encoding.{Utf8, characters as charactersOf};
-ghost use Rattle.counting.specs.Counting.{leadLength, count};
+ghost use Rattle.utf8.specs.Encoding.{Utf8, characters as characters_of};
+ghost use Rattle.counting.specs.Counting.{lead_length, count};
 
 use ascii::ascii_run;
 use text::Range;
 
 // How many bytes a character has that begins with b.
 fn lead_length(b: u8) -> u32
-    ensures { result ≡ leadLength b }
+    ensures { result ≡ lead_length b }
 {
     let n = u8::leading_zeros(!b);
     if n == 0 { 1 } else { n }
@@ -22,7 +24,7 @@ fn lead_length(b: u8) -> u32
 pub fn characters(text: &[u8], range: Range) -> u32
     requires { fits (length text.now) range ≡ true }
     ensures counted { result ≡ count (part text.now range) }
-    ensures meant { (u : Utf8 (part text.now range)) → result ≡ charactersOf u }
+    ensures meant { (u : Utf8 (part text.now range)) → result ≡ characters_of u }
 {
     let start = range.start as usize;
     let n = range.length as usize;

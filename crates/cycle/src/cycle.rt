@@ -17,9 +17,9 @@
 //
 // The contracts cite `specs/State.antt` of `progress`, and of what is lent `specs/Lent.antt` of `lent`.
 ghost use Rattle.std.specs.Prelude.{◌≡◌, ◌+◌, ◌<◌};
-ghost use Rattle.rulesheet.specs.Sheet.{schemaAt};
-ghost use Rattle.areas.specs.Cells.{pairIs, Unsettled};
-ghost use Rattle.lent.specs.Lent.{lent, Lent, lentCase, row_of, PassesFirst, Applying};
+ghost use Rattle.rulesheet.specs.Sheet.{schema_at};
+ghost use Rattle.areas.specs.Cells.{pair_is, Unsettled};
+ghost use Rattle.lent.specs.Lent.{lent, Lent, lent_case, row_of, PassesFirst, Applying};
 ghost use Rattle.progress.specs.State.{Named, rank_of, Ready, Judged, ClauseJudged};
 
 use areas::settle;
@@ -46,8 +46,8 @@ fn apply<'a, 'b>(
     p: Pair,
 ) -> usize
     requires lent { Lent sheets.now texts.now forms.now }
-    requires ready { Ready (lentCase sheets.now texts.now forms.now) (rank_of (lentCase sheets.now texts.now forms.now) (pairIs p) + 1) (pairIs p) cells.old list.old count }
-    ensures { Judged (lentCase sheets.now texts.now forms.now) (pairIs p) cells.old list.old count cells.new list.new result }
+    requires ready { Ready (lent_case sheets.now texts.now forms.now) (rank_of (lent_case sheets.now texts.now forms.now) (pair_is p) + 1) (pair_is p) cells.old list.old count }
+    ensures { Judged (lent_case sheets.now texts.now forms.now) (pair_is p) cells.old list.old count cells.new list.new result }
 {
     if verdict_of(forms, cells, p) != 0 {
         return count;
@@ -74,10 +74,10 @@ pub fn judge_pair<'a, 'b>(
     passed: u32,
 ) -> usize
     requires lent { Lent sheets.now texts.now forms.now }
-    requires ready { Ready (lentCase sheets.now texts.now forms.now) (rank_of (lentCase sheets.now texts.now forms.now) (pairIs p) + 1) (pairIs p) cells.old list.old count }
-    requires unsettled { Unsettled (lentCase sheets.now texts.now forms.now).m (pairIs p) cells.old }
-    requires passes_first { PassesFirst (lentCase sheets.now texts.now forms.now) (pairIs p) (schemaAt (lent sheets.now 1) p.rule.0).count passed }
-    ensures { Judged (lentCase sheets.now texts.now forms.now) (pairIs p) cells.old list.old count cells.new list.new result }
+    requires ready { Ready (lent_case sheets.now texts.now forms.now) (rank_of (lent_case sheets.now texts.now forms.now) (pair_is p) + 1) (pair_is p) cells.old list.old count }
+    requires unsettled { Unsettled (lent_case sheets.now texts.now forms.now).m (pair_is p) cells.old }
+    requires passes_first { PassesFirst (lent_case sheets.now texts.now forms.now) (pair_is p) (schema_at (lent sheets.now 1) p.rule.0).count passed }
+    ensures { Judged (lent_case sheets.now texts.now forms.now) (pair_is p) cells.old list.old count cells.new list.new result }
 {
     let many = clauses_of(sheets[RULES], forms, p.rule);
     let mut ok = true;
@@ -113,11 +113,11 @@ fn judge_clause<'a, 'b>(
     row: ClauseRow,
 ) -> Done
     requires lent { Lent sheets.now texts.now forms.now }
-    requires ready { Ready (lentCase sheets.now texts.now forms.now) (rank_of (lentCase sheets.now texts.now forms.now) (pairIs p)) (pairIs p) cells.old list.old count }
-    requires unsettled { Unsettled (lentCase sheets.now texts.now forms.now).m (pairIs p) cells.old }
-    requires i_bound { (i < (schemaAt (lent sheets.now 1) p.rule.0).count) × Applying (lentCase sheets.now texts.now forms.now) (pairIs p) i × Named (lentCase sheets.now texts.now forms.now) (pairIs p) i cells.old }
-    requires row_value { row ≡ row_of sheets.now (pairIs p) i }
-    ensures { ClauseJudged (lentCase sheets.now texts.now forms.now) (pairIs p) i cells.old list.old count cells.new list.new result }
+    requires ready { Ready (lent_case sheets.now texts.now forms.now) (rank_of (lent_case sheets.now texts.now forms.now) (pair_is p)) (pair_is p) cells.old list.old count }
+    requires unsettled { Unsettled (lent_case sheets.now texts.now forms.now).m (pair_is p) cells.old }
+    requires i_bound { (i < (schema_at (lent sheets.now 1) p.rule.0).count) × Applying (lent_case sheets.now texts.now forms.now) (pair_is p) i × Named (lent_case sheets.now texts.now forms.now) (pair_is p) i cells.old }
+    requires row_value { row ≡ row_of sheets.now (pair_is p) i }
+    ensures { ClauseJudged (lent_case sheets.now texts.now forms.now) (pair_is p) i cells.old list.old count cells.new list.new result }
 {
     let from = start(sheets, texts, forms, p, i);
     let mut tally = 0;

@@ -5,8 +5,8 @@ use mathlib.Core.Bool.{Bool, true, false}
 use Prim.Native.Nat.{ℕ, suc, ◌-◌, ◌^◌, ◌≤◌, ◌<◌}
 use native.Mathlib.Omega.{arith}
 use borrow.Author.Tests.{lt-ltb, le-ltb}
-use Rattle.decimal.specs.Value.{signed, with_sign, signedDigits, value, OfWord}
-use Rattle.decimal.proofs.Sizes.{sign-off}
+use Rattle.decimal.specs.Value.{signed, with_sign, signed_digits, value, OfWord}
+use Rattle.decimal.proofs.Sizes.{sign_off}
 
 pub signed_low : (w : ℕ) → w < 2 ^ 31 → signed w ≡ with_sign false w
 unfolding signed
@@ -20,5 +20,5 @@ signed_high w h g =
 
 -- a sign and a size that are the word's make the word's decimal
 pub of_parts : (w s : ℕ) (b : Bool) (n : ℕ) → signed w ≡ with_sign b n → OfWord w s (record { below = b; digits = n; scale = s })
-unfolding value signedDigits
-of_parts w s b n e = record { means = rw e; size = rw e (sym (sign-off b n)); same = refl }
+unfolding value signed_digits
+of_parts w s b n e = record { means = rw e; size = rw e (sym (sign_off b n)); same = refl }

@@ -6,18 +6,18 @@ use Rattle.std.specs.Prelude.{ℕ, ◌-◌, ◌%◌, ◌^◌, ◌≤◌, ◌≡�
 use Rattle.decimal.specs.declared.Decimal.{Decimal}
 
 -- the limits of a scale and of digits, and how many billionths 1 is
-abbrev pub scale-max : ℕ
-scale-max = 9
+abbrev pub scale_max : ℕ
+scale_max = 9
 
-abbrev pub digits-max : ℕ
-digits-max = 1_000_000_000_000_000
+abbrev pub digits_max : ℕ
+digits_max = 1_000_000_000_000_000
 
 abbrev pub one : ℕ
-one = 10 ^ scale-max
+one = 10 ^ scale_max
 
 -- z / 10 ^ s in billionths, for a scale s up to the limit
 unfoldable pub billionths : ℤ → ℕ → ℤ
-billionths z s = z *ℤ pos (10 ^ (scale-max - s))
+billionths z s = z *ℤ pos (10 ^ (scale_max - s))
 
 -- a word of 32 bits as a signed number, in two's complement
 unfoldable pub signed : ℕ → ℤ
@@ -29,31 +29,31 @@ with_sign true n = neg_ℤ (pos n)
 with_sign false n = pos n
 
 -- the digits with their sign, and the value in billionths
-unfoldable pub signedDigits : Decimal → ℤ
-signedDigits d = with_sign d.below d.digits
+unfoldable pub signed_digits : Decimal → ℤ
+signed_digits d = with_sign d.below d.digits
 
 unfoldable pub value : Decimal → ℤ
-value d = billionths (signedDigits d) d.scale
+value d = billionths (signed_digits d) d.scale
 
 -- within the limits
 pub record Plain (d : Decimal) : Type 0 where
-  pub small : d.digits ≤ digits-max
-  pub few : d.scale ≤ scale-max
+  pub small : d.digits ≤ digits_max
+  pub few : d.scale ≤ scale_max
 
 -- x = y; x ≤ y and x < y are the library's `le_z` and `lt_z`
-abbrev pub equalZ : ℤ → ℤ → Bool
-equalZ (pos a) (pos b) = eqb a b
-equalZ (pos a) (negsuc b) = false
-equalZ (negsuc a) (pos b) = false
-equalZ (negsuc a) (negsuc b) = eqb a b
+abbrev pub equal_z : ℤ → ℤ → Bool
+equal_z (pos a) (pos b) = eqb a b
+equal_z (pos a) (negsuc b) = false
+equal_z (negsuc a) (pos b) = false
+equal_z (negsuc a) (negsuc b) = eqb a b
 
 -- z billionths are a whole number
 unfoldable pub is_whole : ℤ → Bool
 is_whole z = eqb (nat_abs z % one) 0
 
 -- z is m times a whole number; 0 is the only multiple of 0, since n % 0 is n
-unfoldable pub isMultiple : ℤ → ℤ → Bool
-isMultiple z m = eqb (nat_abs z % nat_abs m) 0
+unfoldable pub is_multiple : ℤ → ℤ → Bool
+is_multiple z m = eqb (nat_abs z % nat_abs m) 0
 
 -- the decimal d is the signed number of the word w, over 10 ^ s
 pub record OfWord (w s : ℕ) (d : Decimal) : Type 0 where
@@ -62,6 +62,6 @@ pub record OfWord (w s : ℕ) (d : Decimal) : Type 0 where
   pub same : d.scale ≡ s
 
 -- opens this module to a computation
-unfoldable pub value-computes : Unit {0}
-unfolding billionths signed signedDigits value is_whole isMultiple
-value-computes = tt
+unfoldable pub value_computes : Unit {0}
+unfolding billionths signed signed_digits value is_whole is_multiple
+value_computes = tt

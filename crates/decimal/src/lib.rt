@@ -3,12 +3,14 @@
 //
 // The contracts cite `specs/Value.antt`: `value` is what a decimal stands for, a whole number of billionths, and `Plain` says that a
 // decimal is within the limits, which every question about its value asks.
+#![tactic(auto)]
+
 ghost use Rattle.std.specs.Prelude.{true, ◌≡◌, ◌*◌, ◌%◌, ◌^◌, ◌≤◌, ◌<◌, leb, nat_abs};
 ghost use Rattle.std.specs.Int.Signed.{le_z, lt_z};
-ghost use Rattle.decimal.specs.Value.{scale-max, digits-max, value, Plain, equalZ, is_whole, isMultiple, OfWord};
+ghost use Rattle.decimal.specs.Value.{scale_max, digits_max, value, Plain, equal_z, is_whole, is_multiple, OfWord};
 
 // digits / 10^scale, below zero if `below` says so. Zero may have either sign.
-#[derive(Drop)]
+#[derive(Clone, Copy)]
 pub struct Decimal {
     pub below: bool,
     pub digits: u64,
@@ -39,7 +41,7 @@ impl Decimal {
 
 // 10^n, for an `n` up to `SCALE_MAX`.
 pub fn power(n: u32) -> u64
-    requires { n ≤ scale-max }
+    requires { n ≤ scale_max }
     ensures { result ≡ 10 ^ n }
 {
     match n {
@@ -142,7 +144,7 @@ pub fn plainly_less(a: Decimal, b: Decimal) -> bool
 // Whether a = b, at whatever scales: a ≤ b and b ≤ a.
 pub fn equal(a: Decimal, b: Decimal) -> bool
     requires { Plain a × Plain b }
-    ensures { result ≡ equalZ (value a) (value b) }
+    ensures { result ≡ equal_z (value a) (value b) }
 {
     at_most(a, b) && at_most(b, a)
 }
@@ -160,7 +162,7 @@ pub fn whole(a: Decimal) -> bool
 
 // What division of digits * 10^places by `m` leaves. The product may not fit and is never made: each place is added and divided at once.
 fn left_of(digits: u64, places: u32, m: u64) -> u64
-    requires { (0 < m) × (m ≤ digits-max) }
+    requires { (0 < m) × (m ≤ digits_max) }
     ensures { result ≡ (digits * 10 ^ places) % m }
 {
     let mut left = digits % m;
@@ -175,7 +177,7 @@ fn left_of(digits: u64, places: u32, m: u64) -> u64
 // Whether `a` is `m` times a whole number. Signs do not matter, and 0 is the only multiple of 0.
 pub fn multiple_of(a: Decimal, m: Decimal) -> bool
     requires { Plain a × Plain m }
-    ensures { result ≡ isMultiple (value a) (value m) }
+    ensures { result ≡ is_multiple (value a) (value m) }
 {
     let digits = a.digits;
     let by = m.digits;

@@ -1,13 +1,15 @@
 // Escapes of a JSON text, read: a hexadecimal digit, the four of an escape, the character of a pair
 // of surrogates, and how many bytes a character takes (`specs/Escapes.antt`, which contracts cite).
+#![tactic(auto)]
+
 ghost use Rattle.std.specs.Prelude.{◌≡◌, ◌+◌, ◌*◌, ◌≤◌, ◌<◌};
-ghost use Rattle.json.specs.Value.{joined};
-ghost use Rattle.escapes.specs.Escapes.{HexByte, hexAt, encodedSize};
+ghost use Rattle.jsontext.specs.Value.{joined};
+ghost use Rattle.escapes.specs.Escapes.{HexByte, hex_at, encoded_size};
 
 // What a hexadecimal digit is worth.
 pub fn hex_of(byte: u32) -> u32
     requires { HexByte byte }
-    ensures { result ≡ hexAt byte }
+    ensures { result ≡ hex_at byte }
 {
     if byte <= 0x39 {
         return byte - 0x30;
@@ -39,7 +41,7 @@ pub fn character_of(waits: u32, code: u32) -> u32
 
 // How many bytes a character takes.
 pub fn size_of(code: u32) -> u32
-    ensures { result ≡ encodedSize code }
+    ensures { result ≡ encoded_size code }
 {
     if code < 0x80 {
         return 1;

@@ -2,12 +2,14 @@
 // reading and asking become one dispatch; each clause of another code reads as `Clause::Never`.
 //
 // Its contracts cite `specs/Asked.antt`.
+#![tactic(auto)]
+
 ghost use Rattle.std.specs.Prelude.{true, List, ◌≡◌, ℕ, ◌<◌};
-ghost use Rattle.rulesheet.specs.Sheet.{clauseAt, clauseOf};
-ghost use Rattle.rulesheet.specs.Faults.{clauseFine};
+ghost use Rattle.rulesheet.specs.Sheet.{clause_at, clause_of};
+ghost use Rattle.rulesheet.specs.Faults.{clause_fine};
 ghost use Rattle.rulesheet.specs.Read.{RulesFormed};
-ghost use Rattle.rulesheet.specs.Clauses.{clauseMeans, Tested};
-ghost use Rattle.few.specs.Asked.{telling, applying, told, sparing, appliesAny, PlainRead, ReadBy};
+ghost use Rattle.rulesheet.specs.Clauses.{clause_means, Tested};
+ghost use Rattle.few.specs.Asked.{telling, applying, told, sparing, applies_any, PlainRead, ReadBy};
 
 use decimal::Decimal;
 use rulesheet::clause::{Clause, Entries};
@@ -17,7 +19,7 @@ use sheet::record::RuleRow;
 // Clause k if it tells something to those after it.
 pub fn telling_of(words: &[u32], form: RuleForm, k: u32) -> Clause
     requires { RulesFormed words.now form × (k < form.c) }
-    ensures by_index { (ts : List ℕ) → clauseMeans words.now ts result ≡ telling (clauseOf words.now ts k) }
+    ensures by_index { (ts : List ℕ) → clause_means words.now ts result ≡ telling (clause_of words.now ts k) }
     ensures tested { Tested words.now form result }
 {
     let row = clause_at(words, form, k);
@@ -36,7 +38,7 @@ pub fn telling_of(words: &[u32], form: RuleForm, k: u32) -> Clause
 // Clause k if those before it tell it something.
 pub fn told_of(words: &[u32], form: RuleForm, k: u32) -> Clause
     requires { RulesFormed words.now form × (k < form.c) }
-    ensures by_index { (ts : List ℕ) → clauseMeans words.now ts result ≡ told (clauseOf words.now ts k) }
+    ensures by_index { (ts : List ℕ) → clause_means words.now ts result ≡ told (clause_of words.now ts k) }
     ensures tested { Tested words.now form result }
 {
     let row = clause_at(words, form, k);
@@ -54,7 +56,7 @@ const APPLYING: u32 = 30;
 
 // Whether the clause of these words, which breaks no layout, applies schemas.
 pub fn applies(row: ClauseRow) -> bool
-    ensures { (ws ts : List ℕ) (k : ℕ) → clauseFine ws k ≡ true → row ≡ clauseAt ws k → result ≡ appliesAny (clauseOf ws ts k) }
+    ensures { (ws ts : List ℕ) (k : ℕ) → clause_fine ws k ≡ true → row ≡ clause_at ws k → result ≡ applies_any (clause_of ws ts k) }
 {
     APPLYING <= row.code
 }

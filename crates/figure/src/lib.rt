@@ -1,14 +1,16 @@
 // A number of a JSON text under way: what is kept of it as its digits, its point and its exponent
 // are read, and the digits and the scale of its row in the end (`specs/Figure.antt`, which
 // contracts cite).
+#![tactic(auto)]
+
 ghost use Rattle.std.specs.Prelude.{◌≡◌, ◌<◌};
-ghost use Rattle.figure.specs.Figure.{Fair, wholeMore, partMore, powerBack, powerMore, figured};
+ghost use Rattle.figure.specs.Figure.{Fair, whole_more, part_more, power_back, power_more, figured};
 
 use numeral::{Kept, Written, digit_more, power_more, write_down};
 
 // The digits up to the last that is not 0 and how many zeros follow it, how many digits stand
 // behind the point, whether the exponent has a minus, and the exponent.
-#[derive(Drop)]
+#[derive(Clone, Copy)]
 pub struct Figure {
     pub kept: u64,
     pub zeros: u32,
@@ -20,7 +22,7 @@ pub struct Figure {
 // A digit of the whole part.
 pub fn whole_more(f: Figure, digit: u64) -> Figure
     requires { Fair f × (digit < 10) }
-    ensures { result ≡ wholeMore f digit }
+    ensures { result ≡ whole_more f digit }
 {
     let k = digit_more(
         Kept {
@@ -41,7 +43,7 @@ pub fn whole_more(f: Figure, digit: u64) -> Figure
 // A digit behind the point.
 pub fn part_more(f: Figure, digit: u64) -> Figure
     requires { Fair f × (digit < 10) }
-    ensures { result ≡ partMore f digit }
+    ensures { result ≡ part_more f digit }
 {
     let k = digit_more(
         Kept {
@@ -61,7 +63,7 @@ pub fn part_more(f: Figure, digit: u64) -> Figure
 
 // The minus of the exponent.
 pub fn power_back(f: Figure) -> Figure
-    ensures { result ≡ powerBack f }
+    ensures { result ≡ power_back f }
 {
     Figure {
         kept: f.kept,
@@ -75,7 +77,7 @@ pub fn power_back(f: Figure) -> Figure
 // A digit of the exponent.
 pub fn power_digit(f: Figure, digit: u64) -> Figure
     requires { Fair f × (digit < 10) }
-    ensures { result ≡ powerMore f digit }
+    ensures { result ≡ power_more f digit }
 {
     Figure {
         kept: f.kept,

@@ -9,13 +9,13 @@ use native.Mathlib.Omega.{arith}
 use borrow.Author.Tests.{le-leb}
 use lib.Dec.{eqb, leb}
 use lib.ListN.{length, get_or, drop, get_or-eq_default}
-use Rattle.laws.proofs.Tests.{le-or-lt, both}
-use Rattle.json.specs.Text.{Digit, digit, digits}
-use Rattle.json.specs.Number.{Trimmed, trimMore}
+use Rattle.laws.proofs.Tests.{le_or_lt, both}
+use Rattle.jsontext.specs.Text.{Digit, digit, digits}
+use Rattle.jsontext.specs.Number.{Trimmed, trim_more}
 use Rattle.strings.proofs.Steps.{Head, head_at}
 use Rattle.numeral.specs.declared.Kept.{Kept}
-use Rattle.numeral.specs.Numeral.{keptMore}
-use Rattle.figures.specs.Figures.{isDigit, head_of, after, DigitsAt}
+use Rattle.numeral.specs.Numeral.{kept_more}
+use Rattle.figures.specs.Figures.{is_digit, head_of, after, DigitsAt}
 
 abbrev trimmed : ℕ → ℕ → Trimmed
 trimmed k z = record { kept = k; zeros = z }
@@ -24,12 +24,12 @@ trimmed k z = record { kept = k; zeros = z }
 pub apart : {A : Type 0} (b : Bool) → b ≡ true → b ≡ false → A
 apart b p q = absurd (let z : ◌≡◌ {A = ℕ} 0 1 = cc in omega arith)
 
-pub digit-is : (d : Digit) → isDigit (digit d) ≡ true
-digit-is d = let l : d.worth < 10 = d.small in both (leb 0x30 (digit d)) (leb (digit d) 0x39) (le-leb 0x30 (digit d) (omega arith)) (le-leb (digit d) 0x39 (omega arith))
+pub digit_is : (d : Digit) → is_digit (digit d) ≡ true
+digit_is d = let l : d.worth < 10 = d.small in both (leb 0x30 (digit d)) (leb (digit d) 0x39) (le-leb 0x30 (digit d) (omega arith)) (le-leb (digit d) 0x39 (omega arith))
 
 -- the first byte from place i on
-pub head-is : (json : List ℕ) (i : ℕ) (l : List ℕ) → l ≡ drop i json → head_of l ≡ get_or json i 0
-head-is json i l e = ap head_of e ∙ go json i
+pub head_is : (json : List ℕ) (i : ℕ) (l : List ℕ) → l ≡ drop i json → head_of l ≡ get_or json i 0
+head_is json i l e = ap head_of e ∙ go json i
   where
     go : (l : List ℕ) (j : ℕ) → get_or (drop j l) 0 0 ≡ get_or l j 0
     go l zero = refl
@@ -37,17 +37,17 @@ head-is json i l e = ap head_of e ∙ go json i
     go (x ∷ l) (suc j) = go l j
 
 -- a digit stands within the text
-pub digit-inside : (json : List ℕ) (i : ℕ) → isDigit (get_or json i 0) ≡ true → i < length json
-digit-inside json i d =
+pub digit_inside : (json : List ℕ) (i : ℕ) → is_digit (get_or json i 0) ≡ true → i < length json
+digit_inside json i d =
     ⊎_elim
-    (λ (l : length json ≤ i). apart (isDigit (get_or json i 0)) d (ap isDigit (get_or-eq_default json 0 {n = i} l)))
+    (λ (l : length json ≤ i). apart (is_digit (get_or json i 0)) d (ap is_digit (get_or-eq_default json 0 {n = i} l)))
     (λ (l : i < length json). l)
-    (le-or-lt (length json) i)
+    (le_or_lt (length json) i)
 
 -- a digit adds one zero or none
-pub kept-few : (k : Kept) (d : ℕ) → (keptMore k d).zeros ≤ k.zeros + 1
-unfolding keptMore trimMore
-kept-few k d = go (eqb d 0) (eqb k.kept 0)
+pub kept_few : (k : Kept) (d : ℕ) → (kept_more k d).zeros ≤ k.zeros + 1
+unfolding kept_more trim_more
+kept_few k d = go (eqb d 0) (eqb k.kept 0)
   where
     go : (b c : Bool)
         → ◌≤◌ (cond b (trimmed k.kept (cond c 0 (k.zeros + 1))) (trimmed (k.kept * 10 ^ (k.zeros + 1) + d) 0)).zeros (k.zeros + 1)
@@ -60,38 +60,38 @@ module _ {S : Type 0} (f : S → ℕ → S) (json : List ℕ) where
   pub record DigitsOn (i : ℕ) (s : S) (q : DigitsAt json i) (j : ℕ) (r : S) : Type 0 where
     pub left : DigitsAt json j
     pub same_end : left.behind ≡ q.behind
-    pub same-held : after f r left.list ≡ after f s q.list
+    pub same_held : after f r left.list ≡ after f s q.list
     pub same_count : j + length left.list ≡ i + length q.list
 
   pub none_read : (i : ℕ) (s : S) (q : DigitsAt json i) → DigitsOn i s q i s
-  none_read i s q = record { left = q; same_end = refl; same-held = refl; same_count = refl }
+  none_read i s q = record { left = q; same_end = refl; same_held = refl; same_count = refl }
 
   module _ (i : ℕ) (s : S) (q : DigitsAt json i) (j : ℕ) (r : S) (o : DigitsOn i s q j r) where
     -- a digit stands there
-    pub one-read : (w : ℕ) → isDigit (get_or json j 0) ≡ true → get_or json j 0 ≡ 0x30 + w → DigitsOn i s q (j + 1) (f r w)
+    pub one_read : (w : ℕ) → is_digit (get_or json j 0) ≡ true → get_or json j 0 ≡ 0x30 + w → DigitsOn i s q (j + 1) (f r w)
     unfolding after digits
-    one-read w d e = go o.left.list o.left.spelled o.same-held o.same_count
+    one_read w d e = go o.left.list o.left.spelled o.same_held o.same_count
       where
         go : (l : List Digit) → digits l o.left.behind ≡ drop j json → after f r l ≡ after f s q.list → j + length l ≡ i + length q.list → DigitsOn i s q (j + 1) (f r w)
-        go [] g h c = apart (isDigit (get_or json j 0)) d (ap isDigit (sym (head-is json j o.left.behind g)) ∙ o.left.stop)
+        go [] g h c = apart (is_digit (get_or json j 0)) d (ap is_digit (sym (head_is json j o.left.behind g)) ∙ o.left.stop)
         go (x ∷ l) g h c =
             let k = head_at json j (digit x) (digits l o.left.behind) g in
             let y : w ≡ x.worth = omega (arith, k.byte) in
             record {
               left = record { list = l; behind = o.left.behind; spelled = k.others; stop = o.left.stop };
               same_end = o.same_end;
-              same-held = ap (λ (v : ℕ). after f (f r v) l) y ∙ h;
+              same_held = ap (λ (v : ℕ). after f (f r v) l) y ∙ h;
               same_count = omega arith;
             }
 
     -- none stands there
-    pub all_read : isDigit (get_or json j 0) ≡ false → (q.behind ≡ drop j json) × (r ≡ after f s q.list) × (j ≡ i + length q.list)
+    pub all_read : is_digit (get_or json j 0) ≡ false → (q.behind ≡ drop j json) × (r ≡ after f s q.list) × (j ≡ i + length q.list)
     unfolding after digits
-    all_read d = go o.left.list o.left.spelled o.same-held o.same_count
+    all_read d = go o.left.list o.left.spelled o.same_held o.same_count
       where
         go : (l : List Digit) → digits l o.left.behind ≡ drop j json → after f r l ≡ after f s q.list → j + length l ≡ i + length q.list
             → (q.behind ≡ drop j json) × (r ≡ after f s q.list) × (j ≡ i + length q.list)
         go [] g h c = (sym o.same_end ∙ g, h, omega arith)
         go (x ∷ l) g h c =
             let k = head_at json j (digit x) (digits l o.left.behind) g in
-            apart (isDigit (get_or json j 0)) (ap isDigit k.byte ∙ digit-is x) d
+            apart (is_digit (get_or json j 0)) (ap is_digit k.byte ∙ digit_is x) d

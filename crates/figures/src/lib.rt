@@ -1,20 +1,22 @@
 // A number of a JSON text, read from the text: the word of its digits and its scale, as a row holds
 // them (`specs/Figures.antt`, which contracts cite).
+#![tactic(auto)]
+
 ghost use Rattle.std.specs.Prelude.{true, false, cond, ◌≡◌, ◌+◌, ◌≤◌, ◌<◌, suc, length, get_or};
-ghost use Rattle.numeral.specs.Numeral.{power-max};
-ghost use Rattle.figures.specs.Figures.{isDigit, isLetter, Sound, DigitsAt, DigitsRead, FractionAt, FractionRead, PowerRead, ExponentAt, ExponentRead, NumberAt, NumberRead};
+ghost use Rattle.numeral.specs.Numeral.{power_max};
+ghost use Rattle.figures.specs.Figures.{is_digit, is_letter, Sound, DigitsAt, DigitsRead, FractionAt, FractionRead, PowerRead, ExponentAt, ExponentRead, NumberAt, NumberRead};
 
 use numeral::{Kept, digit_more, power_more, word_of, write_down};
 
 // What is kept of digits up to a place of the text.
-#[derive(Drop)]
+#[derive(Clone, Copy)]
 struct Run {
     to: usize,
     kept: Kept,
 }
 
 // The same of a number's whole part and its fraction, and how many digits the fraction has.
-#[derive(Drop)]
+#[derive(Clone, Copy)]
 struct Part {
     to: usize,
     places: u32,
@@ -22,14 +24,14 @@ struct Part {
 }
 
 // An exponent up to a place of the text.
-#[derive(Drop)]
+#[derive(Clone, Copy)]
 struct Power {
     to: usize,
     value: u64,
 }
 
 // By how much an exponent moves the point to the right, and to the left.
-#[derive(Drop)]
+#[derive(Clone, Copy)]
 struct Shift {
     to: usize,
     up: u32,
@@ -37,7 +39,7 @@ struct Shift {
 }
 
 // Where a number ends in the text, the word of its digits, and its scale.
-#[derive(Drop)]
+#[derive(Clone, Copy)]
 pub struct Figure {
     pub to: usize,
     pub word: u32,
@@ -56,7 +58,7 @@ pub fn byte_at(json: &[u8], i: usize) -> u8
 
 // Whether a digit stands there.
 fn digit_at(json: &[u8], i: usize) -> bool
-    ensures { result ≡ isDigit (get_or json.now i 0) }
+    ensures { result ≡ is_digit (get_or json.now i 0) }
 {
     let byte = byte_at(json, i);
     byte >= 0x30 && byte <= 0x39
@@ -64,7 +66,7 @@ fn digit_at(json: &[u8], i: usize) -> bool
 
 // What the digit there is worth.
 fn worth_at(json: &[u8], i: usize) -> u64
-    requires { isDigit (get_or json.now i 0) ≡ true }
+    requires { is_digit (get_or json.now i 0) ≡ true }
     ensures { (get_or json.now i 0 ≡ 0x30 + result) × (result < 10) }
 {
     let byte = byte_at(json, i);
@@ -91,7 +93,7 @@ fn digits_from(json: &[u8], start: usize, first: Kept) -> Run
 fn power_from(json: &[u8], start: usize) -> Power
     requires { (start ≤ 65_536) × (length json.now ≤ 65_536) }
     ensures read { (q : DigitsAt json.now start) → PowerRead json.now start 0 q result.to result.value }
-    ensures sound { (result.value ≤ suc power-max) × (start ≤ result.to) × (result.to ≤ 65_536) }
+    ensures sound { (result.value ≤ suc power_max) × (start ≤ result.to) × (result.to ≤ 65_536) }
 {
     let mut i = start;
     let mut p: u64 = 0;
@@ -128,7 +130,7 @@ fn fraction_from(json: &[u8], start: usize, first: Kept) -> Part
 
 // Whether the letter of an exponent stands there.
 fn letter_at(json: &[u8], i: usize) -> bool
-    ensures { result ≡ isLetter (get_or json.now i 0) }
+    ensures { result ≡ is_letter (get_or json.now i 0) }
 {
     let byte = byte_at(json, i);
     byte == 0x45 || byte == 0x65
@@ -138,7 +140,7 @@ fn letter_at(json: &[u8], i: usize) -> bool
 fn exponent_from(json: &[u8], start: usize) -> Shift
     requires { (start ≤ 65_536) × (length json.now ≤ 65_536) }
     ensures read { (q : ExponentAt json.now start) → ExponentRead json.now start q result.to result.up result.down }
-    ensures sound { (start ≤ result.to) × (result.up ≤ suc power-max) × (result.down ≤ suc power-max) }
+    ensures sound { (start ≤ result.to) × (result.up ≤ suc power_max) × (result.down ≤ suc power_max) }
 {
     if letter_at(json, start) {
         let sign = byte_at(json, start + 1);

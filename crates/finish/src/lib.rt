@@ -1,17 +1,19 @@
 // What a clause that applies schemas says in the end, by what is carried, and where a failure leads it if
 // it is cut. No clause is judged here.
 //
-// The contracts cite `endsBy` and `afterMiss` of crate `plan` (`specs/Plan.antt`).
+// The contracts cite `ends_by` and `after_miss` of crate `plan` (`specs/Plan.antt`).
+#![tactic(auto)]
+
 ghost use Rattle.std.specs.Prelude.{List, ◌≡◌, ℕ, ◌-◌, ◌<◌, eqb};
-ghost use Rattle.sheet.specs.Record.{docOf};
+ghost use Rattle.sheet.specs.Record.{doc_of};
 ghost use Rattle.sheet.specs.Accepted.{Laid};
-ghost use Rattle.rulesheet.specs.Sheet.{schemaAt};
+ghost use Rattle.rulesheet.specs.Sheet.{schema_at};
 ghost use Rattle.rulesheet.specs.Read.{RulesLaid};
-ghost use Rattle.rulesheet.specs.Clauses.{clauseMeans, Tested};
+ghost use Rattle.rulesheet.specs.Clauses.{clause_means, Tested};
 ghost use Rattle.meaning.specs.Rules.{Pair as Meant, contained};
-ghost use Rattle.areas.specs.Cells.{pairIs};
-ghost use Rattle.clause.specs.Read.{RulesRead, clauseIn, words_in};
-ghost use Rattle.plan.specs.Plan.{endsBy, afterMiss};
+ghost use Rattle.areas.specs.Cells.{pair_is};
+ghost use Rattle.clause.specs.Read.{RulesRead, clause_in, words_in};
+ghost use Rattle.plan.specs.Plan.{ends_by, after_miss};
 
 use few::{applied_by, sparing_by};
 use looking::sizes::{Measured, elements_of};
@@ -40,7 +42,7 @@ fn enough(
     tally: u32,
 ) -> bool
     requires { Laid «record».now form × (row.0 < form.rows) }
-    ensures { (ts : List ℕ) → result ≡ contained (docOf «record».now ts) row.0 least most tally }
+    ensures { (ts : List ℕ) → result ≡ contained (doc_of «record».now ts) row.0 least most tally }
 {
     match elements_of(record, form, row) {
         Measured::Size(_) => (least <= tally) & (tally <= most),
@@ -60,7 +62,7 @@ fn finish_in(
 ) -> bool
     requires laid { Laid «record».now form × (row.0 < form.rows) }
     requires rules_laid { RulesLaid rules.now rule_form × Tested rules.now rule_form clause }
-    ensures { (ts us : List ℕ) (p : Meant) → p.row ≡ row.0 → result ≡ endsBy (docOf «record».now ts) p (clauseMeans rules.now us clause) tally }
+    ensures { (ts us : List ℕ) (p : Meant) → p.row ≡ row.0 → result ≡ ends_by (doc_of «record».now ts) p (clause_means rules.now us clause) tally }
 {
     match clause {
         Clause::AnyOf(es) => tally < es.count,
@@ -89,9 +91,9 @@ pub fn finish_of<'a>(
     tally: u32,
 ) -> bool
     requires laid { Laid «record».now form × (p.row.0 < form.rows) }
-    requires rules_read { RulesRead rules.now rule_text.now rule_form × (p.rule.0 < rule_form.m) × (i < (schemaAt rules.now p.rule.0).count) }
+    requires rules_read { RulesRead rules.now rule_text.now rule_form × (p.rule.0 < rule_form.m) × (i < (schema_at rules.now p.rule.0).count) }
     requires row_value { row ≡ words_in rules.now p.rule.0 i }
-    ensures { (ts : List ℕ) → result ≡ endsBy (docOf «record».now ts) (pairIs p) (clauseIn rules.now rule_text.now p.rule.0 i) tally }
+    ensures { (ts : List ℕ) → result ≡ ends_by (doc_of «record».now ts) (pair_is p) (clause_in rules.now rule_text.now p.rule.0 i) tally }
 {
     let clause = sparing_by(row);
     finish_in(record, form, rules, rule_form, p.row, clause, tally)
@@ -100,7 +102,7 @@ pub fn finish_of<'a>(
 // The clause, as it was read.
 fn after_in(clause: Clause, step: u32) -> u32
     requires { step < 4294967295 }
-    ensures { (rs us : List ℕ) → result ≡ afterMiss (clauseMeans rs us clause) step }
+    ensures { (rs us : List ℕ) → result ≡ after_miss (clause_means rs us clause) step }
 {
     match clause {
         Clause::AllOf(es) => es.count,
@@ -119,9 +121,9 @@ pub fn after_miss<'a>(
     row: ClauseRow,
     step: u32,
 ) -> u32
-    requires rules_read { RulesRead rules.now rule_text.now form × (s.0 < form.m) × (i < (schemaAt rules.now s.0).count) × (step < 4294967295) }
+    requires rules_read { RulesRead rules.now rule_text.now form × (s.0 < form.m) × (i < (schema_at rules.now s.0).count) × (step < 4294967295) }
     requires row_value { row ≡ words_in rules.now s.0 i }
-    ensures { result ≡ afterMiss (clauseIn rules.now rule_text.now s.0 i) step }
+    ensures { result ≡ after_miss (clause_in rules.now rule_text.now s.0 i) step }
 {
     let clause = applied_by(row);
     after_in(clause, step)

@@ -12,8 +12,8 @@ use native.Mathlib.Numerals.{add-one}
 use native.Mathlib.Omega.{arith}
 use lib.ListN.{length, get_or, drop}
 use lib.Seq.{drop-cons, drop-length}
-use Rattle.json.specs.Automaton.{State, step, run, accepting, accepted}
-use Rattle.json.specs.Refusal.{onward, reach}
+use Rattle.jsontext.specs.Automaton.{State, step, run, accepting, accepted}
+use Rattle.jsontext.specs.Refusal.{onward, reach}
 use Rattle.follow.specs.declared.End.{End}
 use Rattle.follow.specs.Following.{Followed}
 
@@ -22,13 +22,13 @@ pub record Going (json : List ℕ) (from : ℕ) (s₀ : State) (i : ℕ) (s : St
   pub reached : from + reach (drop from json) s₀ ≡ i + reach (drop i json) s
   pub ran : run (drop from json) (some s₀) ≡ run (drop i json) (some s)
 
-pub sets-out : (json : List ℕ) (from : ℕ) (s₀ : State) → from ≤ length json → Going json from s₀ from s₀
-sets-out json from s₀ h = record { inside = h; reached = refl; ran = refl }
+pub sets_out : (json : List ℕ) (from : ℕ) (s₀ : State) → from ≤ length json → Going json from s₀ from s₀
+sets_out json from s₀ h = record { inside = h; reached = refl; ran = refl }
 
-none-on : (bs : List ℕ) → run bs none ≡ none
+none_on : (bs : List ℕ) → run bs none ≡ none
 unfolding run
-none-on [] = refl
-none-on (x ∷ bs) = refl
+none_on [] = refl
+none_on (x ∷ bs) = refl
 
 module _ (json : List ℕ) (from : ℕ) (s₀ : State) (i : ℕ) (s : State) (g : Going json from s₀ i s) where
   -- at a byte
@@ -51,8 +51,8 @@ module _ (json : List ℕ) (from : ℕ) (s₀ : State) (i : ℕ) (s : State) (g 
     breaks e =
         record {
           inside = omega arith;
-          at-is = sym (g.reached ∙ omega (arith, ap (λ (x : List ℕ). reach x s) here ∙ ap (λ (x : Option State). onward x (λ u. reach (drop (suc i) json) u)) e));
-          whole_is = sym (ap accepted (g.ran ∙ ap (λ (x : List ℕ). run x (some s)) here ∙ ap (run (drop (suc i) json)) e ∙ none-on (drop (suc i) json)));
+          at_is = sym (g.reached ∙ omega (arith, ap (λ (x : List ℕ). reach x s) here ∙ ap (λ (x : Option State). onward x (λ u. reach (drop (suc i) json) u)) e));
+          whole_is = sym (ap accepted (g.ran ∙ ap (λ (x : List ℕ). run x (some s)) here ∙ ap (run (drop (suc i) json)) e ∙ none_on (drop (suc i) json)));
         }
 
   pub ends : length json ≤ i → (r : End) → r.at ≡ i → r.whole ≡ accepting s → Followed json from s₀ r
@@ -62,10 +62,10 @@ module _ (json : List ℕ) (from : ℕ) (s₀ : State) (i : ℕ) (s : State) (g 
       let none_left : drop i json ≡ [] = ap (λ (k : ℕ). drop k json) all ∙ drop-length json in
       record {
         inside = omega (arith, g.inside);
-        at-is = p ∙ sym (g.reached ∙ ap (λ (x : List ℕ). i + reach x s) none_left ∙ omega arith);
+        at_is = p ∙ sym (g.reached ∙ ap (λ (x : List ℕ). i + reach x s) none_left ∙ omega arith);
         whole_is = q ∙ sym (ap accepted (g.ran ∙ ap (λ (x : List ℕ). run x (some s)) none_left));
       }
 
   -- what is followed from there is followed from the start
   pub then : (r : End) → Followed json i s r → Followed json from s₀ r
-  then r f = record { inside = f.inside; at-is = f.at-is ∙ sym g.reached; whole_is = f.whole_is ∙ sym (ap accepted g.ran) }
+  then r f = record { inside = f.inside; at_is = f.at_is ∙ sym g.reached; whole_is = f.whole_is ∙ sym (ap accepted g.ran) }

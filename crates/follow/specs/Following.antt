@@ -3,9 +3,9 @@
 -- Assumes nothing.
 use Rattle.std.specs.Prelude.{cond, List, ◌∷◌, ◌≡◌, ℕ, zero, suc, ◌+◌, ◌≤◌, eqb, length, get_or, drop}
 use Rattle.std.proofs.Math.Option.{some}
-use Rattle.json.specs.Automaton.{Bracket, square, curly, State, innermost, changed, run, accepted}
-use Rattle.json.specs.Refusal.{reach}
-use Rattle.grammar.specs.Codes.{bracketAt, changeAt}
+use Rattle.jsontext.specs.Automaton.{Bracket, square, curly, State, innermost, changed, run, accepted}
+use Rattle.jsontext.specs.Refusal.{reach}
+use Rattle.grammar.specs.Codes.{bracket_at, change_at}
 use Rattle.brackets.specs.Brackets.{brackets, Fits}
 use Rattle.follow.specs.declared.Stack.{Stack}
 use Rattle.follow.specs.declared.End.{End}
@@ -15,16 +15,16 @@ unfoldable pub stacked : List ℕ → ℕ → List Bracket → List Bracket
 stacked cells zero below = below
 stacked cells (suc k) below = cond (eqb (get_or cells k 0) 1) square curly ∷ stacked cells k below
 
-abbrev pub allOpen : List ℕ → Stack → List Bracket
-allOpen cells s = stacked cells s.more (brackets s.opened)
+abbrev pub all_open : List ℕ → Stack → List Bracket
+all_open cells s = stacked cells s.more (brackets s.opened)
 
 -- r is the number of the innermost bracket, or 0
 abbrev pub AroundAll : List ℕ → Stack → ℕ → Type 0
-AroundAll cells s r = bracketAt r ≡ innermost (allOpen cells s)
+AroundAll cells s r = bracket_at r ≡ innermost (all_open cells s)
 
 -- the brackets after the change of this number
 pub record Shifted (cells : List ℕ) (s : Stack) (change : ℕ) (cells' : List ℕ) (r : Stack) : Type 0 where
-  pub brackets-are : allOpen cells' r ≡ changed (changeAt change) (allOpen cells s)
+  pub brackets_are : all_open cells' r ≡ changed (change_at change) (all_open cells s)
   pub fits : Fits r.opened
   pub few : r.more ≤ suc s.more
   pub long : length cells' ≡ length cells
@@ -32,5 +32,5 @@ pub record Shifted (cells : List ℕ) (s : Stack) (change : ℕ) (cells' : List 
 -- from a place of the text and a state on
 pub record Followed (json : List ℕ) (from : ℕ) (s : State) (r : End) : Type 0 where
   pub inside : r.at ≤ length json
-  pub at-is : r.at ≡ from + reach (drop from json) s
+  pub at_is : r.at ≡ from + reach (drop from json) s
   pub whole_is : r.whole ≡ accepted (run (drop from json) (some s))

@@ -1,8 +1,10 @@
 // The automaton of JSON texts from a state on: whether the text is one as a whole, and how far it
 // goes if not (`specs/Following.antt`, which contracts cite). What else is at fault is not asked.
+#![tactic(auto)]
+
 ghost use Rattle.std.specs.Prelude.{◌&&◌, ◌≡◌, ◌≤◌, ◌<◌, eqb, length};
-ghost use Rattle.json.specs.Automaton.{at, ended};
-ghost use Rattle.grammar.specs.Codes.{placeAt};
+ghost use Rattle.jsontext.specs.Automaton.{at, ended};
+ghost use Rattle.grammar.specs.Codes.{place_at};
 ghost use Rattle.brackets.specs.Brackets.{brackets, Fits};
 ghost use Rattle.follow.specs.Following.{AroundAll, Shifted, Followed};
 
@@ -10,14 +12,14 @@ use brackets::{Open, around, changed_by, popped};
 use grammar::step;
 
 // How far a text goes, and whether it is one to its end.
-#[derive(Drop)]
+#[derive(Clone, Copy)]
 pub struct End {
     pub at: usize,
     pub whole: bool,
 }
 
 // Open brackets, and how many more of them stand in a table.
-#[derive(Drop)]
+#[derive(Clone, Copy)]
 struct Stack {
     opened: Open,
     more: usize,
@@ -26,7 +28,7 @@ struct Stack {
 // Whether a value was read, or a number that may end here.
 fn may_end(place: u8) -> bool
     requires { place < 50 }
-    ensures { result ≡ ended (placeAt place) }
+    ensures { result ≡ ended (place_at place) }
 {
     match place {
         2 => true,
@@ -41,7 +43,7 @@ fn may_end(place: u8) -> bool
 // The end of a text, where so many brackets are open.
 fn at_end(place: u8, depth: u32) -> bool
     requires { place < 50 }
-    ensures { result ≡ ended (placeAt place) && eqb depth 0 }
+    ensures { result ≡ ended (place_at place) && eqb depth 0 }
 {
     may_end(place) & (depth == 0)
 }
@@ -92,7 +94,7 @@ fn shifted(table: &mut [u8], s: Stack, change: u8) -> Stack
 // The same as `follow`, with any number of brackets.
 fn follow_deep(json: &[u8], from: usize, place: u8, opened: Open) -> End
     requires { (from ≤ length json.now) × (length json.now ≤ 65_536) × (place < 50) × Fits opened }
-    ensures { Followed json.now from (at (placeAt place) (brackets opened)) result }
+    ensures { Followed json.now from (at (place_at place) (brackets opened)) result }
 {
     let mut table = [0u8; 65_536];
     let n = json.len();
@@ -124,7 +126,7 @@ fn follow_deep(json: &[u8], from: usize, place: u8, opened: Open) -> End
 // From a place of the text on, with these brackets open around it.
 pub fn follow(json: &[u8], from: usize, place: u8, opened: Open) -> End
     requires { (from ≤ length json.now) × (length json.now ≤ 65_536) × (place < 50) × Fits opened }
-    ensures { Followed json.now from (at (placeAt place) (brackets opened)) result }
+    ensures { Followed json.now from (at (place_at place) (brackets opened)) result }
 {
     let n = json.len();
     let mut o = opened;

@@ -10,25 +10,25 @@ use borrow.Author.Tests.{eq-eqb, ne_eqb}
 use lib.Dec.{eqb}
 use lib.ListN.{get_or, drop}
 use lib.Seq.{get_or-drop}
-use Rattle.json.specs.Value.{isLow}
-use Rattle.naming.specs.Gathering.{lowAhead}
-use Rattle.gathering.specs.Held.{unitFrom}
+use Rattle.jsontext.specs.Value.{is_low}
+use Rattle.naming.specs.Gathering.{low_ahead}
+use Rattle.gathering.specs.Held.{unit_from}
 
 module _ (json : List ℕ) (i : ℕ) where
-  low-at : lowAhead (drop i json) ≡ (eqb (get_or json i 0) 0x5C && (eqb (get_or json (i + 1) 0) 0x75 && isLow (unitFrom json (i + 2))))
-  unfolding lowAhead
-  low-at =
+  low_at : low_ahead (drop i json) ≡ (eqb (get_or json i 0) 0x5C && (eqb (get_or json (i + 1) 0) 0x75 && is_low (unit_from json (i + 2))))
+  unfolding low_ahead
+  low_at =
       let z : i + 0 ≡ i = omega arith in
       let a : i + 2 + 1 ≡ i + 3 = omega arith in
       let b : i + 2 + 2 ≡ i + 4 = omega arith in
       let c : i + 2 + 3 ≡ i + 5 = omega arith in
       rw (a, b, c, get_or-drop i json 0 0, get_or-drop i json 1 0, get_or-drop i json 2 0, get_or-drop i json 3 0, get_or-drop i json 4 0, get_or-drop i json 5 0, z)
 
-  pub no_slash : get_or json i 0 ≢ 0x5C → false ≡ lowAhead (drop i json)
-  no_slash n = sym (low-at ∙ rw (ne_eqb (get_or json i 0) 0x5C n))
+  pub no_slash : get_or json i 0 ≢ 0x5C → false ≡ low_ahead (drop i json)
+  no_slash n = sym (low_at ∙ rw (ne_eqb (get_or json i 0) 0x5C n))
 
-  pub no-u : get_or json i 0 ≡ 0x5C → get_or json (i + 1) 0 ≢ 0x75 → false ≡ lowAhead (drop i json)
-  no-u e n = sym (low-at ∙ rw (eq-eqb (get_or json i 0) 0x5C e, ne_eqb (get_or json (i + 1) 0) 0x75 n))
+  pub no_u : get_or json i 0 ≡ 0x5C → get_or json (i + 1) 0 ≢ 0x75 → false ≡ low_ahead (drop i json)
+  no_u e n = sym (low_at ∙ rw (eq-eqb (get_or json i 0) 0x5C e, ne_eqb (get_or json (i + 1) 0) 0x75 n))
 
-  pub escape-here : get_or json i 0 ≡ 0x5C → get_or json (i + 1) 0 ≡ 0x75 → isLow (unitFrom json (i + 2)) ≡ lowAhead (drop i json)
-  escape-here e f = sym (low-at ∙ rw (eq-eqb (get_or json i 0) 0x5C e, eq-eqb (get_or json (i + 1) 0) 0x75 f))
+  pub escape_here : get_or json i 0 ≡ 0x5C → get_or json (i + 1) 0 ≡ 0x75 → is_low (unit_from json (i + 2)) ≡ low_ahead (drop i json)
+  escape_here e f = sym (low_at ∙ rw (eq-eqb (get_or json i 0) 0x5C e, eq-eqb (get_or json (i + 1) 0) 0x75 f))

@@ -4,9 +4,9 @@
 -- Assumes nothing.
 use Rattle.std.specs.Prelude.{false, List, ◌≡◌, ℕ, suc, ◌+◌, ◌*◌, ◌≤◌, ◌<◌, length, get_or, drop}
 use Rattle.std.proofs.lemmas.List.Edits.{sets}
-use Rattle.json.specs.Automaton.{Bracket}
-use Rattle.grammar.specs.Codes.{placeAt}
-use Rattle.naming.specs.Gathering.{Gather, digitOf, gather}
+use Rattle.jsontext.specs.Automaton.{Bracket}
+use Rattle.grammar.specs.Codes.{place_at}
+use Rattle.naming.specs.Gathering.{Gather, digit_of, gather}
 use Rattle.gathering.specs.declared.Gathered.{Gathered}
 
 abbrev pub numbers : Gather → Gathered
@@ -15,27 +15,27 @@ numbers g =
 
 -- text₀ and words₀: what was in the slices before the first byte
 pub record Held (text₀ words₀ text words objects : List ℕ) (n : Gathered) (g : Gather) : Type 0 where
-  pub text-is : text ≡ sets text₀ 0 g.text
+  pub text_is : text ≡ sets text₀ 0 g.text
   pub words_are : words ≡ sets words₀ 0 g.words
-  pub objects-are : objects ≡ g.objects
-  pub numbers-are : n ≡ numbers g
+  pub objects_are : objects ≡ g.objects
+  pub numbers_are : n ≡ numbers g
 
 -- after k bytes
 pub record Sound (k : ℕ) (n : Gathered) (objects : List ℕ) : Type 0 where
   pub size_few : n.size ≤ 4 * k
-  pub filled-few : n.filled ≤ 3 * k
-  pub values-few : n.values ≤ k
-  pub objects-few : (i : ℕ) → get_or objects i 0 ≤ k
-  pub begun-low : n.begun ≤ n.size
-  pub waits-low : n.waits < 0xDC00
+  pub filled_few : n.filled ≤ 3 * k
+  pub values_few : n.values ≤ k
+  pub objects_few : (i : ℕ) → get_or objects i 0 ≤ k
+  pub begun_low : n.begun ≤ n.size
+  pub waits_low : n.waits < 0xDC00
 
 -- small enough that nothing wraps
 pub record Small (n : Gathered) : Type 0 where
   pub size_low : n.size < 1_000_000
-  pub filled-low : n.filled < 1_000_000
+  pub filled_low : n.filled < 1_000_000
   pub values_low : n.values < 1_000_000
-  pub begun-low : n.begun ≤ n.size
-  pub waits-low : n.waits < 0xDC00
+  pub begun_low : n.begun ≤ n.size
+  pub waits_low : n.waits < 0xDC00
 
 -- what is done to the slices and the numbers comes to f
 abbrev pub Does : (Gather → Gather) → List ℕ → List ℕ → List ℕ → Gathered → List ℕ → List ℕ → List ℕ → Gathered → Type 0
@@ -66,17 +66,17 @@ rested filled n =
     record { size = n.size; filled = filled; values = n.values; on = false; begun = n.begun; left = n.left; unit = n.unit; waits = n.waits }
 
 -- one value more
-abbrev pub oneMore : Gathered → Gathered
-oneMore n =
+abbrev pub one_more : Gathered → Gathered
+one_more n =
     record { size = n.size; filled = n.filled; values = suc n.values; on = n.on; begun = n.begun; left = n.left; unit = n.unit; waits = n.waits }
 
 -- the number of the four digits from place i on
-abbrev pub unitFrom : List ℕ → ℕ → ℕ
-unitFrom json i = digitOf (digitOf (digitOf (digitOf 0 (get_or json i 0)) (get_or json (i + 1) 0)) (get_or json (i + 2) 0)) (get_or json (i + 3) 0)
+abbrev pub unit_from : List ℕ → ℕ → ℕ
+unit_from json i = digit_of (digit_of (digit_of (digit_of 0 (get_or json i 0)) (get_or json (i + 1) 0)) (get_or json (i + 2) 0)) (get_or json (i + 3) 0)
 
 -- the byte at place `at` of the text is read on, at a place of the grammar within these brackets
 abbrev pub Within : List ℕ → ℕ → ℕ → List Bracket → List ℕ → List ℕ → List ℕ → Gathered → List ℕ → List ℕ → List ℕ → Gathered → Type 0
-Within json at place ks = Does (gather 0 (placeAt place) ks (get_or json at 0) (drop (suc at) json))
+Within json at place ks = Does (gather 0 (place_at place) ks (get_or json at 0) (drop (suc at) json))
 
 -- the same with so many brackets open
 abbrev pub Gathers : List ℕ → ℕ → ℕ → ℕ → List ℕ → List ℕ → List ℕ → Gathered → List ℕ → List ℕ → List ℕ → Gathered → Type 0

@@ -1,9 +1,9 @@
 // What is held, moved: bytes said, a name opened and shut, a value started, an escape under way.
 ghost use Rattle.std.specs.Prelude.{List, [], ◌∷◌, ◌≡◌, ◌-◌, ◌<◌, length, get_or, set, true};
-ghost use Rattle.json.specs.Utf8.{encode};
-ghost use Rattle.json.specs.Automaton.{Bracket};
-ghost use Rattle.naming.specs.Gathering.{says, unitIs, waits_for, opensName, shutsName, starts};
-ghost use Rattle.gathering.specs.Held.{Small, OnNumbers, OnText, OnWords, OnObjects, sized, rested, oneMore};
+ghost use Rattle.jsontext.specs.Utf8.{encode};
+ghost use Rattle.jsontext.specs.Automaton.{Bracket};
+ghost use Rattle.naming.specs.Gathering.{says, unit_is, waits_for, opens_name, shuts_name, starts};
+ghost use Rattle.gathering.specs.Held.{Small, OnNumbers, OnText, OnWords, OnObjects, sized, rested, one_more};
 
 use crate::Gathered;
 use characters::append;
@@ -40,7 +40,7 @@ pub(crate) fn object_at(objects: &[u32], depth: u32) -> u32
 
 // The escape under way has this number so far.
 pub(crate) fn with_unit(unit: u32, n: Gathered) -> Gathered
-    ensures { OnNumbers (unitIs unit) n result }
+    ensures { OnNumbers (unit_is unit) n result }
 {
     Gathered {
         size: n.size,
@@ -115,7 +115,7 @@ pub(crate) fn say_code(code: u32, n: Gathered, text: &mut [u8]) -> Gathered
 // A name of an object starts, with its number, so many bytes before the end.
 pub(crate) fn open_name(object: u32, left: u32, n: Gathered, text: &mut [u8]) -> Gathered
     requires { Small n × (object < 65536) }
-    ensures { OnText (opensName true object left) text.old n text.new result }
+    ensures { OnText (opens_name true object left) text.old n text.new result }
 {
     let size = n.size;
     put(text, size, (object / 256) as u8);
@@ -151,7 +151,7 @@ pub(crate) fn at_rest(filled: usize, n: Gathered) -> Gathered
 // The name under way ends.
 pub(crate) fn shut_name(n: Gathered, words: &mut [u32]) -> Gathered
     requires { Small n }
-    ensures { OnWords shutsName words.old n words.new result }
+    ensures { OnWords shuts_name words.old n words.new result }
 {
     let at = n.filled;
     if n.on {
@@ -166,7 +166,7 @@ pub(crate) fn shut_name(n: Gathered, words: &mut [u32]) -> Gathered
 // One value more.
 pub(crate) fn one_more(n: Gathered) -> Gathered
     requires { Small n }
-    ensures { result ≡ oneMore n }
+    ensures { result ≡ one_more n }
 {
     Gathered {
         size: n.size,

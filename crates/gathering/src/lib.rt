@@ -1,8 +1,10 @@
 // The names of a JSON text, gathered byte by byte into slices that are lent (`specs/Held.antt`, which
 // contracts cite).
+#![tactic(auto)]
+
 ghost use Rattle.std.specs.Prelude.{List, ◌≢◌, ◌≡◌, ℕ, suc, ◌%◌, ◌≤◌, ◌<◌, length, drop};
-ghost use Rattle.json.specs.Automaton.{Bracket, asName};
-ghost use Rattle.naming.specs.Gathering.{textMore, escapeMore, escaped};
+ghost use Rattle.jsontext.specs.Automaton.{Bracket, as_name};
+ghost use Rattle.naming.specs.Gathering.{text_more, escape_more, escaped};
 ghost use Rattle.gathering.specs.Held.{Small, Sound, Does, OnText, Within, Gathers};
 
 use putting::short_of;
@@ -19,7 +21,7 @@ use crate::units::{character, digit_more, low_ahead};
 // How many bytes and words are gathered; how many values have started; whether a name is being
 // gathered, where it begins and how many bytes of text are left from its quote on; the number of an
 // escape so far, and the high surrogate that waits for its low one, or 0.
-#[derive(Drop)]
+#[derive(Clone, Copy)]
 pub struct Gathered {
     pub size: usize,
     pub filled: usize,
@@ -34,7 +36,7 @@ pub struct Gathered {
 // A byte within a name.
 fn in_text(byte: u8, n: Gathered, text: &mut [u8], words: &mut [u32]) -> Gathered
     requires { Small n }
-    ensures { (objects : List ℕ) → Does (textMore asName byte) text.old words.old objects n text.new words.new objects result }
+    ensures { (objects : List ℕ) → Does (text_more as_name byte) text.old words.old objects n text.new words.new objects result }
 {
     if byte == 0x22 {
         return shut_name(n, words);
@@ -48,7 +50,7 @@ fn in_text(byte: u8, n: Gathered, text: &mut [u8], words: &mut [u32]) -> Gathere
 // The byte after a backslash.
 fn in_escape(byte: u8, n: Gathered, text: &mut [u8]) -> Gathered
     requires { Small n }
-    ensures { OnText (escapeMore asName byte) text.old n text.new result }
+    ensures { OnText (escape_more as_name byte) text.old n text.new result }
 {
     if byte == 0x75 {
         return with_unit(0, n);

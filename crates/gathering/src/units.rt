@@ -1,15 +1,15 @@
 // Escapes: their numbers, digit by digit, the escape of a low surrogate that follows, and characters.
 ghost use Rattle.std.specs.Prelude.{◌≡◌, ◌-◌, ◌≤◌, ◌<◌, drop};
-ghost use Rattle.json.specs.Value.{joined};
-ghost use Rattle.naming.specs.Gathering.{digitOf, lowAhead};
-ghost use Rattle.gathering.specs.Held.{unitFrom};
+ghost use Rattle.jsontext.specs.Value.{joined};
+ghost use Rattle.naming.specs.Gathering.{digit_of, low_ahead};
+ghost use Rattle.gathering.specs.Held.{unit_from};
 
 use figures::byte_at;
 use watching::strings::{hex_worth, low};
 
 // The number with a hexadecimal digit more.
 pub(crate) fn digit_more(unit: u32, byte: u8) -> u32
-    ensures { (result ≡ digitOf unit byte) × (result < 0x20000) }
+    ensures { (result ≡ digit_of unit byte) × (result < 0x20000) }
 {
     unit % 0x1000 * 16 + hex_worth(byte)
 }
@@ -17,7 +17,7 @@ pub(crate) fn digit_more(unit: u32, byte: u8) -> u32
 // The number of the four digits from place i on; behind the end they count as 0.
 pub(crate) fn unit_from(json: &[u8], i: usize) -> u32
     requires { i ≤ 100_000 }
-    ensures { result ≡ unitFrom json.now i }
+    ensures { result ≡ unit_from json.now i }
 {
     let a = digit_more(0, byte_at(json, i));
     let b = digit_more(a, byte_at(json, i + 1));
@@ -28,7 +28,7 @@ pub(crate) fn unit_from(json: &[u8], i: usize) -> u32
 // Whether the escape of a low surrogate stands at place i.
 pub(crate) fn low_ahead(json: &[u8], i: usize) -> bool
     requires { i ≤ 90_000 }
-    ensures { result ≡ lowAhead (drop i json.now) }
+    ensures { result ≡ low_ahead (drop i json.now) }
 {
     if byte_at(json, i) != 0x5C {
         return false;

@@ -2,120 +2,120 @@
 -- Assumes nothing.
 use Rattle.std.specs.Prelude.{Bool, cond, ◌&&◌, ◌||◌, List, [], ◌∷◌, ◌≡◌, ℕ, ◌+◌, ◌≤◌, ◌<◌, leb, get_or}
 use Rattle.std.proofs.Math.Option.{Option, none, some}
-use Rattle.json.specs.Automaton.{Bracket, square, curly, Role, asValue, asName, Char, one, two, three, afterE0, afterED, afterF0, afterF4, Left, hex1, hex2, hex3, hex4, Word, n1, n2, n3, t1, t2, t3, f1, f2, f3, f4, Place, ahead, firstElement, after, name, firstName, colon, word, minus, nought, whole, point, part, letter, sign, power, text, escape, unit, char, Change, keep, pop, push, Move, moves, pick}
+use Rattle.jsontext.specs.Automaton.{Bracket, square, curly, Role, as_value, as_name, Char, one, two, three, after_e0, after_ed, after_f0, after_f4, Left, hex1, hex2, hex3, hex4, Word, n1, n2, n3, t1, t2, t3, f1, f2, f3, f4, Place, ahead, first_element, after, name, first_name, colon, word, minus, nought, whole, point, part, letter, sign, power, text, escape, unit, char, Change, keep, pop, push, Move, moves, pick}
 
 -- within a string, by how the string is used
-abbrev pub roleCode : Role → ℕ
-roleCode asValue = 0
-roleCode asName = 1
+abbrev pub role_code : Role → ℕ
+role_code as_value = 0
+role_code as_name = 1
 
-abbrev pub wordCode : Word → ℕ
-wordCode n1 = 6
-wordCode n2 = 7
-wordCode n3 = 8
-wordCode t1 = 9
-wordCode t2 = 10
-wordCode t3 = 11
-wordCode f1 = 12
-wordCode f2 = 13
-wordCode f3 = 14
-wordCode f4 = 15
+abbrev pub word_code : Word → ℕ
+word_code n1 = 6
+word_code n2 = 7
+word_code n3 = 8
+word_code t1 = 9
+word_code t2 = 10
+word_code t3 = 11
+word_code f1 = 12
+word_code f2 = 13
+word_code f3 = 14
+word_code f4 = 15
 
-abbrev pub leftCode : Left → ℕ
-leftCode hex1 = 28
-leftCode hex2 = 30
-leftCode hex3 = 32
-leftCode hex4 = 34
+abbrev pub left_code : Left → ℕ
+left_code hex1 = 28
+left_code hex2 = 30
+left_code hex3 = 32
+left_code hex4 = 34
 
-abbrev pub charCode : Char → ℕ
-charCode one = 36
-charCode two = 38
-charCode three = 40
-charCode afterE0 = 42
-charCode afterED = 44
-charCode afterF0 = 46
-charCode afterF4 = 48
+abbrev pub char_code : Char → ℕ
+char_code one = 36
+char_code two = 38
+char_code three = 40
+char_code after_e0 = 42
+char_code after_ed = 44
+char_code after_f0 = 46
+char_code after_f4 = 48
 
-abbrev pub placeCode : Place → ℕ
-placeCode ahead = 0
-placeCode firstElement = 1
-placeCode after = 2
-placeCode name = 3
-placeCode firstName = 4
-placeCode colon = 5
-placeCode (word w) = wordCode w
-placeCode minus = 16
-placeCode nought = 17
-placeCode whole = 18
-placeCode point = 19
-placeCode part = 20
-placeCode letter = 21
-placeCode sign = 22
-placeCode power = 23
-placeCode (text r) = 24 + roleCode r
-placeCode (escape r) = 26 + roleCode r
-placeCode (unit h r) = leftCode h + roleCode r
-placeCode (char c r) = charCode c + roleCode r
+abbrev pub place_code : Place → ℕ
+place_code ahead = 0
+place_code first_element = 1
+place_code after = 2
+place_code name = 3
+place_code first_name = 4
+place_code colon = 5
+place_code (word w) = word_code w
+place_code minus = 16
+place_code nought = 17
+place_code whole = 18
+place_code point = 19
+place_code part = 20
+place_code letter = 21
+place_code sign = 22
+place_code power = 23
+place_code (text r) = 24 + role_code r
+place_code (escape r) = 26 + role_code r
+place_code (unit h r) = left_code h + role_code r
+place_code (char c r) = char_code c + role_code r
 
-abbrev pub changeCode : Change → ℕ
-changeCode keep = 0
-changeCode (push square) = 64
-changeCode (push curly) = 128
-changeCode pop = 192
+abbrev pub change_code : Change → ℕ
+change_code keep = 0
+change_code (push square) = 64
+change_code (push curly) = 128
+change_code pop = 192
 
 -- no move
 abbrev pub dead : ℕ
 dead = 63
 
-abbrev pub moveCode : Option Move → ℕ
-moveCode none = dead
-moveCode (some m) = placeCode m.place + changeCode m.change
+abbrev pub move_code : Option Move → ℕ
+move_code none = dead
+move_code (some m) = place_code m.place + change_code m.change
 
 -- where the moves lead with a byte
 unfoldable pub leads : List Move → ℕ → ℕ
-leads ms b = moveCode (pick ms b)
+leads ms b = move_code (pick ms b)
 
 -- the byte is one of a range
 abbrev pub inside : ℕ → ℕ → ℕ → Bool
 inside low high b = leb low b && leb b high
 
-abbrev pub isBlank : ℕ → Bool
-isBlank b = ((inside 0x20 0x20 b || inside 0x09 0x09 b) || inside 0x0A 0x0A b) || inside 0x0D 0x0D b
+abbrev pub is_blank : ℕ → Bool
+is_blank b = ((inside 0x20 0x20 b || inside 0x09 0x09 b) || inside 0x0A 0x0A b) || inside 0x0D 0x0D b
 
 -- where a single move leads
-abbrev pub oneMove : ℕ → ℕ → ℕ → ℕ → ℕ
-oneMove low high next b = cond (inside low high b) next dead
+abbrev pub one_move : ℕ → ℕ → ℕ → ℕ → ℕ
+one_move low high next b = cond (inside low high b) next dead
 
 -- numbers read back
 abbrev pub role_at : ℕ → Role
-role_at n = get_or (asValue ∷ asName ∷ []) n asValue
+role_at n = get_or (as_value ∷ as_name ∷ []) n as_value
 
-abbrev pub bracketAt : ℕ → Option Bracket
-bracketAt n = get_or (none ∷ some square ∷ some curly ∷ []) n none
+abbrev pub bracket_at : ℕ → Option Bracket
+bracket_at n = get_or (none ∷ some square ∷ some curly ∷ []) n none
 
 -- the same of the three ranges of hexadecimal digits
-abbrev pub hexMove : ℕ → ℕ → ℕ
-hexMove next b = cond (inside 0x30 0x39 b) next (cond (inside 0x41 0x46 b) next (oneMove 0x61 0x66 next b))
+abbrev pub hex_move : ℕ → ℕ → ℕ
+hex_move next b = cond (inside 0x30 0x39 b) next (cond (inside 0x41 0x46 b) next (one_move 0x61 0x66 next b))
 
 -- the place of a number
 abbrev pub places : List Place
 places =
-    ahead ∷ firstElement ∷ after ∷ name ∷ firstName ∷ colon
+    ahead ∷ first_element ∷ after ∷ name ∷ first_name ∷ colon
     ∷ word n1 ∷ word n2 ∷ word n3 ∷ word t1 ∷ word t2 ∷ word t3 ∷ word f1 ∷ word f2 ∷ word f3 ∷ word f4
     ∷ minus ∷ nought ∷ whole ∷ point ∷ part ∷ letter ∷ sign ∷ power
-    ∷ text asValue ∷ text asName ∷ escape asValue ∷ escape asName
-    ∷ unit hex1 asValue ∷ unit hex1 asName ∷ unit hex2 asValue ∷ unit hex2 asName ∷ unit hex3 asValue ∷ unit hex3 asName ∷ unit hex4 asValue ∷ unit hex4 asName
-    ∷ char one asValue ∷ char one asName ∷ char two asValue ∷ char two asName ∷ char three asValue ∷ char three asName
-    ∷ char afterE0 asValue ∷ char afterE0 asName ∷ char afterED asValue ∷ char afterED asName
-    ∷ char afterF0 asValue ∷ char afterF0 asName ∷ char afterF4 asValue ∷ char afterF4 asName
+    ∷ text as_value ∷ text as_name ∷ escape as_value ∷ escape as_name
+    ∷ unit hex1 as_value ∷ unit hex1 as_name ∷ unit hex2 as_value ∷ unit hex2 as_name ∷ unit hex3 as_value ∷ unit hex3 as_name ∷ unit hex4 as_value ∷ unit hex4 as_name
+    ∷ char one as_value ∷ char one as_name ∷ char two as_value ∷ char two as_name ∷ char three as_value ∷ char three as_name
+    ∷ char after_e0 as_value ∷ char after_e0 as_name ∷ char after_ed as_value ∷ char after_ed as_name
+    ∷ char after_f0 as_value ∷ char after_f0 as_name ∷ char after_f4 as_value ∷ char after_f4 as_name
     ∷ []
 
-abbrev pub placeAt : ℕ → Place
-placeAt n = get_or places n after
+abbrev pub place_at : ℕ → Place
+place_at n = get_or places n after
 
 -- the change of a number
-abbrev pub changeAt : ℕ → Change
-changeAt n = get_or (keep ∷ push square ∷ push curly ∷ pop ∷ []) n keep
+abbrev pub change_at : ℕ → Change
+change_at n = get_or (keep ∷ push square ∷ push curly ∷ pop ∷ []) n keep
 
 -- a place within a word, an escape's digits or a character
 pub record Inner (n : ℕ) : Type 0 where
@@ -125,4 +125,4 @@ pub record Inner (n : ℕ) : Type 0 where
 
 -- r is where the byte leads from there, whatever the bracket
 abbrev pub LeadsWithin : ℕ → ℕ → ℕ → Type 0
-LeadsWithin place b r = (k : Option Bracket) → r ≡ leads (moves (placeAt place) k) b
+LeadsWithin place b r = (k : Option Bracket) → r ≡ leads (moves (place_at place) k) b

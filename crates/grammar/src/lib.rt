@@ -1,10 +1,12 @@
 // One step of the automaton of JSON texts (`specs/Codes.antt`): a place and a byte are numbers, and
 // a contract says where the moves of the place lead with the byte. Each function asks the moves of
 // its place in their order.
+#![tactic(auto)]
+
 ghost use Rattle.std.proofs.Math.Option.{none};
 ghost use Rattle.std.specs.Prelude.{◌≡◌, ◌≤◌, ◌<◌};
-ghost use Rattle.json.specs.Automaton.{moves};
-ghost use Rattle.grammar.specs.Codes.{leads, bracketAt, placeAt, Inner, LeadsWithin};
+ghost use Rattle.jsontext.specs.Automaton.{moves};
+ghost use Rattle.grammar.specs.Codes.{leads, bracket_at, place_at, Inner, LeadsWithin};
 
 mod numbers;
 mod ranges;
@@ -80,7 +82,7 @@ fn inner(place: u8, byte: u8) -> u8
 // One step: where a byte leads from a place, with the innermost open bracket around it (0 none, 1 square, 2 curly).
 pub fn step(place: u8, around: u8, byte: u8) -> u8
     requires { place < 50 }
-    ensures { result ≡ leads (moves (placeAt place) (bracketAt around)) byte }
+    ensures { result ≡ leads (moves (place_at place) (bracket_at around)) byte }
 {
     match place {
         0 => ahead(byte),

@@ -1,9 +1,9 @@
 // Within a number.
 ghost use Rattle.std.proofs.Math.Option.{none};
 ghost use Rattle.std.specs.Prelude.{◌≡◌};
-ghost use Rattle.json.specs.Automaton as Auto;
-ghost use Rattle.json.specs.Automaton.{moves};
-ghost use Rattle.grammar.specs.Codes.{leads, bracketAt};
+ghost use Rattle.jsontext.specs.Automaton as Auto;
+ghost use Rattle.jsontext.specs.Automaton.{moves};
+ghost use Rattle.grammar.specs.Codes.{leads, bracket_at};
 
 use crate::ranges::within;
 use crate::values::at_end;
@@ -23,7 +23,7 @@ pub(crate) fn minus(byte: u8) -> u8
 
 // After a leading 0.
 pub(crate) fn nought(around: u8, byte: u8) -> u8
-    ensures { result ≡ leads (moves Auto.nought (bracketAt around)) byte }
+    ensures { result ≡ leads (moves Auto.nought (bracket_at around)) byte }
 {
     if within(0x2E, 0x2E, byte) {
         return 19;
@@ -39,7 +39,7 @@ pub(crate) fn nought(around: u8, byte: u8) -> u8
 
 // After a digit of the whole part.
 pub(crate) fn whole(around: u8, byte: u8) -> u8
-    ensures { result ≡ leads (moves Auto.whole (bracketAt around)) byte }
+    ensures { result ≡ leads (moves Auto.whole (bracket_at around)) byte }
 {
     if within(0x30, 0x39, byte) {
         return 18;
@@ -58,7 +58,7 @@ pub(crate) fn whole(around: u8, byte: u8) -> u8
 
 // After a digit of the fraction.
 pub(crate) fn part(around: u8, byte: u8) -> u8
-    ensures { result ≡ leads (moves Auto.part (bracketAt around)) byte }
+    ensures { result ≡ leads (moves Auto.part (bracket_at around)) byte }
 {
     if within(0x30, 0x39, byte) {
         return 20;
@@ -90,7 +90,7 @@ pub(crate) fn letter(byte: u8) -> u8
 
 // After a digit of the exponent.
 pub(crate) fn power(around: u8, byte: u8) -> u8
-    ensures { result ≡ leads (moves Auto.power (bracketAt around)) byte }
+    ensures { result ≡ leads (moves Auto.power (bracket_at around)) byte }
 {
     if within(0x30, 0x39, byte) {
         return 23;

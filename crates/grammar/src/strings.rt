@@ -1,8 +1,8 @@
 // Within a string: its characters, the first byte of one that has several, and escapes.
 ghost use Rattle.std.proofs.Math.Option.{none};
 ghost use Rattle.std.specs.Prelude.{◌≡◌, ◌<◌};
-ghost use Rattle.json.specs.Automaton as Auto;
-ghost use Rattle.json.specs.Automaton.{moves};
+ghost use Rattle.jsontext.specs.Automaton as Auto;
+ghost use Rattle.jsontext.specs.Automaton.{moves};
 ghost use Rattle.grammar.specs.Codes.{leads, role_at};
 
 use crate::ranges::within;

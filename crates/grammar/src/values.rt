@@ -1,8 +1,8 @@
 // Where a value or a name is to come, and after them.
 ghost use Rattle.std.specs.Prelude.{◌≡◌, [], ◌∷◌};
-ghost use Rattle.json.specs.Automaton as Auto;
-ghost use Rattle.json.specs.Automaton.{asName, starts, ends, only, shuts, blanks};
-ghost use Rattle.grammar.specs.Codes.{leads, bracketAt};
+ghost use Rattle.jsontext.specs.Automaton as Auto;
+ghost use Rattle.jsontext.specs.Automaton.{as_name, starts, ends, only, shuts, blanks};
+ghost use Rattle.grammar.specs.Codes.{leads, bracket_at};
 
 use crate::ranges::{blank, within};
 
@@ -52,7 +52,7 @@ pub(crate) fn ahead(byte: u8) -> u8
 
 // Where an array was opened.
 pub(crate) fn first_element(byte: u8) -> u8
-    ensures { result ≡ leads (blanks Auto.firstElement (shuts 0x5D ∷ starts)) byte }
+    ensures { result ≡ leads (blanks Auto.first_element (shuts 0x5D ∷ starts)) byte }
 {
     if blank(byte) {
         return 1;
@@ -65,7 +65,7 @@ pub(crate) fn first_element(byte: u8) -> u8
 
 // Where a name is to come.
 pub(crate) fn name(byte: u8) -> u8
-    ensures { result ≡ leads (blanks Auto.name (only 0x22 (Auto.text asName) ∷ [])) byte }
+    ensures { result ≡ leads (blanks Auto.name (only 0x22 (Auto.text as_name) ∷ [])) byte }
 {
     if blank(byte) {
         return 3;
@@ -78,7 +78,7 @@ pub(crate) fn name(byte: u8) -> u8
 
 // Where an object was opened.
 pub(crate) fn first_name(byte: u8) -> u8
-    ensures { result ≡ leads (blanks Auto.firstName (shuts 0x7D ∷ only 0x22 (Auto.text asName) ∷ [])) byte }
+    ensures { result ≡ leads (blanks Auto.first_name (shuts 0x7D ∷ only 0x22 (Auto.text as_name) ∷ [])) byte }
 {
     if blank(byte) {
         return 4;
@@ -149,7 +149,7 @@ pub(crate) fn in_object(byte: u8) -> u8
 
 // After a value, by the innermost open bracket.
 pub(crate) fn at_end(around: u8, byte: u8) -> u8
-    ensures { result ≡ leads (ends (bracketAt around)) byte }
+    ensures { result ≡ leads (ends (bracket_at around)) byte }
 {
     if around == 1 {
         return in_array(byte);

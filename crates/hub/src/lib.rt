@@ -2,11 +2,13 @@
 // judging a record, only the verdict, and judging a queue, each answer as one number.
 //
 // `include/amphorust.h` says the same to a C programmer. The contracts cite `specs/Entry.antt`.
+#![tactic(auto)]
+
 ghost use Rattle.std.specs.Prelude.{[], ◌≡◌};
-ghost use Rattle.sheetcheck.specs.LastWord.{checkOutcome};
+ghost use Rattle.sheetcheck.specs.LastWord.{check_outcome};
 ghost use Rattle.meaning.specs.Rules.{whole, cut};
-ghost use Rattle.meaning.specs.Answer.{numberForC};
-ghost use Rattle.number.specs.Called.{Called, outcomeAnswer};
+ghost use Rattle.meaning.specs.Answer.{number_for_c};
+ghost use Rattle.number.specs.Called.{Called, outcome_answer};
 ghost use Rattle.hub.specs.Entry.{QueueCalled, ReadCalled};
 
 use number::number_of;
@@ -28,7 +30,7 @@ pub extern "C" fn amphorust_read(json: &[u8], words: &mut [u32], text: &mut [u8]
 // rows (of rules, the schemas) or, of a refusal, the place.
 #[unsafe(no_mangle)]
 pub extern "C" fn amphorust_check(words: &[u32], text: &[u8]) -> u64
-    ensures { result ≡ numberForC (outcomeAnswer (checkOutcome words.now text.now)) }
+    ensures { result ≡ number_for_c (outcome_answer (check_outcome words.now text.now)) }
 {
     let found = sheetcheck::check(words, text);
     number_of_kind(found)

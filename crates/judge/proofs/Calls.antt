@@ -1,8 +1,8 @@
 -- What the proof of the whole call asks besides.
---     sheets-read                     accepted sheets are laid out as their readers ask
---     call-roomy                      areas that are long enough
---     call-valid, call-invalid        the call's answer, by the run's verdict
---     verdict-left                    what the call for the verdict only leaves
+--     sheets_read                     accepted sheets are laid out as their readers ask
+--     call_roomy                      areas that are long enough
+--     call_valid, call_invalid        the call's answer, by the run's verdict
+--     verdict_left                    what the call for the verdict only leaves
 -- Assumes nothing.
 use mathlib.Core.Bool.{Bool, true, false}
 use mathlib.Core.List.{List, []}
@@ -13,87 +13,87 @@ use lib.ListN.{length}
 use Rattle.sheet.specs.declared.record.RecordForm.{RecordForm}
 use Rattle.sheet.specs.Refusals.{accepted}
 use Rattle.sheet.specs.Record as D
-use Rattle.sheet.specs.Record.{rowsWord, docOf}
+use Rattle.sheet.specs.Record.{rows_word, doc_of}
 use Rattle.sheet.specs.Faults as F
-use Rattle.sheet.specs.Faults.{recordOutcome}
+use Rattle.sheet.specs.Faults.{record_outcome}
 use Rattle.rulesheet.specs.declared.form.RuleForm.{RuleForm}
 use Rattle.rulesheet.specs.Sheet as C
-use Rattle.rulesheet.specs.Sheet.{schemasWord, rulesOf}
+use Rattle.rulesheet.specs.Sheet.{schemas_word, rules_of}
 use Rattle.rulesheet.specs.Faults as G
-use Rattle.rules.specs.Check.{rulesOutcome}
+use Rattle.rules.specs.Check.{rules_outcome}
 use Rattle.meaning.specs.Rules.{Way, whole, cut}
-use Rattle.meaning.specs.Answer.{valid, invalid, Left, verdict, listRoom, judged, judge}
-use Rattle.meaning.proofs.Answers.{rows_are, schemas-are, call-judged, fits}
-use Rattle.clause.proofs.Reading.{record-read, rules-read}
+use Rattle.meaning.specs.Answer.{valid, invalid, Left, verdict, list_room, judged, judge}
+use Rattle.meaning.proofs.Answers.{rows_are, schemas_are, call_judged, fits}
+use Rattle.clause.proofs.Reading.{record_read, rules_read}
 use Rattle.run.specs.declared.Verdict.{Verdict}
 use Rattle.lent.specs.Lent.{Sheets, case_of}
-use Rattle.run.specs.Whole.{Roomy, leftBy, judgedOf}
+use Rattle.run.specs.Whole.{Roomy, left_by, judged_of}
 use Rattle.meaning.proofs.Verdicts.{cut_list}
 use Rattle.answer.specs.declared.Answer.{Answer}
-use Rattle.answer.specs.Call.{answer_of, leaves, verdictLeaves}
+use Rattle.answer.specs.Call.{answer_of, leaves, verdict_leaves}
 
-module _ (ws ts rs us : List ℕ) (n m : ℕ) (good : recordOutcome ws ts ≡ accepted n) (fine : rulesOutcome rs us ≡ accepted m) where
-  rows : rowsWord ws ≡ n
+module _ (ws ts rs us : List ℕ) (n m : ℕ) (good : record_outcome ws ts ≡ accepted n) (fine : rules_outcome rs us ≡ accepted m) where
+  rows : rows_word ws ≡ n
   rows = rows_are whole ws ts rs us [] [] n good
 
-  schemas : schemasWord rs ≡ m
-  schemas = schemas-are whole ws ts rs us [] [] n good m fine
+  schemas : schemas_word rs ≡ m
+  schemas = schemas_are whole ws ts rs us [] [] n good m fine
 
-  good' : recordOutcome ws ts ≡ accepted (rowsWord ws)
+  good' : record_outcome ws ts ≡ accepted (rows_word ws)
   good' = good ∙ ap accepted (sym rows)
 
-  fine' : rulesOutcome rs us ≡ accepted (schemasWord rs)
+  fine' : rules_outcome rs us ≡ accepted (schemas_word rs)
   fine' = fine ∙ ap accepted (sym schemas)
 
-  form-rows : (D.form_of ws).rows ≡ rowsWord ws
+  form_rows : (D.form_of ws).rows ≡ rows_word ws
   unfolding D.form_of
-  form-rows = refl
+  form_rows = refl
 
-  form-m : (C.form_of rs).m ≡ schemasWord rs
+  form_m : (C.form_of rs).m ≡ schemas_word rs
   unfolding C.form_of
-  form-m = refl
+  form_m = refl
 
-  pub sheets-read : {form : RecordForm} {rform : RuleForm} → form ≡ D.form_of ws → rform ≡ C.form_of rs → Sheets ws ts rs us form rform
-  sheets-read {form} {rform} a b =
+  pub sheets_read : {form : RecordForm} {rform : RuleForm} → form ≡ D.form_of ws → rform ≡ C.form_of rs → Sheets ws ts rs us form rform
+  sheets_read {form} {rform} a b =
       record {
-        record-read = record-read ws ts form (record { same-form = a; accepts = rw (a, form-rows) good' });
-        rules-read = rules-read rs us rform (record { same-form = b; accepts = rw (b, form-m) fine' });
+        record_read = record_read ws ts form (record { same_form = a; accepts = rw (a, form_rows) good' });
+        rules_read = rules_read rs us rform (record { same_form = b; accepts = rw (b, form_m) fine' });
       }
 
-  pub record-trailer : F.wordsOk ws ≡ true
-  record-trailer = (sheets-read refl refl).record-read.laid.formed.trailer
+  pub record_trailer : F.words_ok ws ≡ true
+  record_trailer = (sheets_read refl refl).record_read.laid.formed.trailer
 
-  pub rules-trailer : G.wordsOk rs ≡ true
-  rules-trailer = (sheets-read refl refl).rules-read.laid.clauses-laid.schemas-laid.formed.trailer
+  pub rules_trailer : G.words_ok rs ≡ true
+  rules_trailer = (sheets_read refl refl).rules_read.laid.clauses_laid.schemas_laid.formed.trailer
 
-  pub call-roomy : (w : Way) {size room : ℕ} {cells list : List ℕ} → size ≡ n * m → room ≡ listRoom w size → size ≤ length cells → room ≤ length list
+  pub call_roomy : (w : Way) {size room : ℕ} {cells list : List ℕ} → size ≡ n * m → room ≡ list_room w size → size ≤ length cells → room ≤ length list
       → Roomy (case_of w ws ts rs us) cells list
-  call-roomy w {size} {room} e f a b =
-      let g : room ≡ listRoom w (n * m) = f ∙ ap (listRoom w) e in
+  call_roomy w {size} {room} e f a b =
+      let g : room ≡ list_room w (n * m) = f ∙ ap (list_room w) e in
       record {
-        fit = fits whole ws ts rs us [] [] (rowsWord ws) good' (schemasWord rs) fine';
-        cells-long = rw (rows, schemas) (omega arith);
-        list-long = rw (rows, schemas) (omega arith);
+        fit = fits whole ws ts rs us [] [] (rows_word ws) good' (schemas_word rs) fine';
+        cells_long = rw (rows, schemas) (omega arith);
+        list_long = rw (rows, schemas) (omega arith);
       }
 
   -- what the run leaves is what the call leaves
-  module _ (w : Way) (cs ls : List ℕ) {size room : ℕ} (s : size ≡ n * m) (q : room ≡ listRoom w size) (a : size ≤ length cs) (b : room ≤ length ls) where
-    run-left : {c l : List ℕ} (v : Verdict) → leftBy v c l ≡ judgedOf (case_of w ws ts rs us) cs ls → leftBy v c l ≡ judge w ws ts rs us cs ls
-    run-left v e =
-        let g : room ≡ listRoom w (n * m) = q ∙ ap (listRoom w) s in
-        e ∙ ap (λ k. judged w (docOf ws ts) (rulesOf rs us) k (schemasWord rs) cs ls) rows ∙ ap (λ k. judged w (docOf ws ts) (rulesOf rs us) n k cs ls) schemas
-        ∙ sym (call-judged w ws ts rs us cs ls n good m fine (omega arith) (omega arith))
+  module _ (w : Way) (cs ls : List ℕ) {size room : ℕ} (s : size ≡ n * m) (q : room ≡ list_room w size) (a : size ≤ length cs) (b : room ≤ length ls) where
+    run_left : {c l : List ℕ} (v : Verdict) → left_by v c l ≡ judged_of (case_of w ws ts rs us) cs ls → left_by v c l ≡ judge w ws ts rs us cs ls
+    run_left v e =
+        let g : room ≡ list_room w (n * m) = q ∙ ap (list_room w) s in
+        e ∙ ap (λ k. judged w (doc_of ws ts) (rules_of rs us) k (schemas_word rs) cs ls) rows ∙ ap (λ k. judged w (doc_of ws ts) (rules_of rs us) n k cs ls) schemas
+        ∙ sym (call_judged w ws ts rs us cs ls n good m fine (omega arith) (omega arith))
 
-    pub call-valid : {c l : List ℕ} (v : Verdict) → leftBy v c l ≡ judgedOf (case_of w ws ts rs us) cs ls → v.ok ≡ true
+    pub call_valid : {c l : List ℕ} (v : Verdict) → left_by v c l ≡ judged_of (case_of w ws ts rs us) cs ls → v.ok ≡ true
         → ◌≡◌ {A = Left} (record { answer = valid v.count v.marked; cells = c; list = l }) (judge w ws ts rs us cs ls)
-    call-valid {c} {l} v e t = ap (λ (ok : Bool). record { answer = verdict ok v.count v.marked; cells = c; list = l }) (sym t) ∙ run-left v e
+    call_valid {c} {l} v e t = ap (λ (ok : Bool). record { answer = verdict ok v.count v.marked; cells = c; list = l }) (sym t) ∙ run_left v e
 
-    pub call-invalid : {c l : List ℕ} (v : Verdict) → leftBy v c l ≡ judgedOf (case_of w ws ts rs us) cs ls → v.ok ≡ false
+    pub call_invalid : {c l : List ℕ} (v : Verdict) → left_by v c l ≡ judged_of (case_of w ws ts rs us) cs ls → v.ok ≡ false
         → ◌≡◌ {A = Left} (record { answer = invalid v.count v.marked; cells = c; list = l }) (judge w ws ts rs us cs ls)
-    call-invalid {c} {l} v e t = ap (λ (ok : Bool). record { answer = verdict ok v.count v.marked; cells = c; list = l }) (sym t) ∙ run-left v e
+    call_invalid {c} {l} v e t = ap (λ (ok : Bool). record { answer = verdict ok v.count v.marked; cells = c; list = l }) (sym t) ∙ run_left v e
 
 -- the call for the verdict only lends a list of no places, and leaves it
-pub verdict-left : (ws ts rs us cs : List ℕ) (r : Answer) {c l : List ℕ} → leaves cut ws ts rs us cs [] r c l → verdictLeaves ws ts rs us cs r c
-verdict-left ws ts rs us cs r {c} {l} e =
+pub verdict_left : (ws ts rs us cs : List ℕ) (r : Answer) {c l : List ℕ} → leaves cut ws ts rs us cs [] r c l → verdict_leaves ws ts rs us cs r c
+verdict_left ws ts rs us cs r {c} {l} e =
     let none : [] ≡ l = sym (ap (λ (x : Left). x.list) e ∙ cut_list ws ts rs us cs []) in
     ap (λ (y : List ℕ). record { answer = answer_of r; cells = c; list = y }) none ∙ e

@@ -3,12 +3,14 @@
 // Both calls are checks (`sheet`, `rules`), areas, clearing and judging (crate `run`): `judge` judges
 // in whole, and `verdict`, which has no list, cut. Their contracts cite `specs/Call.antt` of crate
 // `answer`.
+#![tactic(auto)]
+
 ghost use Rattle.std.specs.Prelude.{◌≡◌};
-ghost use Rattle.sheet.specs.Refusals.{accepted, outcomeOf};
-ghost use Rattle.sheet.specs.Faults.{recordOutcome};
-ghost use Rattle.rules.specs.Check.{rulesOutcome};
-ghost use Rattle.lent.specs.Lent.{wayBy};
-ghost use Rattle.answer.specs.Call.{leaves, callLeaves, verdictLeaves};
+ghost use Rattle.sheet.specs.Refusals.{accepted, outcome_of};
+ghost use Rattle.sheet.specs.Faults.{record_outcome};
+ghost use Rattle.rules.specs.Check.{rules_outcome};
+ghost use Rattle.lent.specs.Lent.{way_by};
+ghost use Rattle.answer.specs.Call.{leaves, call_leaves, verdict_leaves};
 
 use answer::Answer;
 use recordcheck::check_record;
@@ -29,7 +31,7 @@ pub fn judge<'a>(
     cells: &mut [u8],
     list: &mut [u32],
 ) -> Answer
-    ensures { callLeaves «record».now text.now rules.now rule_text.now cells.old list.old result cells.new list.new }
+    ensures { call_leaves «record».now text.now rules.now rule_text.now cells.old list.old result cells.new list.new }
 {
     judge_by_record(record, text, rules, rule_text, cells, list, false)
 }
@@ -44,7 +46,7 @@ pub fn verdict<'a>(
     rule_text: &'a [u8],
     cells: &mut [u8],
 ) -> Answer
-    ensures { verdictLeaves «record».now text.now rules.now rule_text.now cells.old result cells.new }
+    ensures { verdict_leaves «record».now text.now rules.now rule_text.now cells.old result cells.new }
 {
     let mut list = [0; 1];
     judge_by_record(record, text, rules, rule_text, cells, &mut list[..0], true)
@@ -60,7 +62,7 @@ fn judge_by_record<'a>(
     list: &mut [u32],
     cut: bool,
 ) -> Answer
-    ensures { leaves (wayBy cut) «record».now text.now rules.now rule_text.now cells.old list.old result cells.new list.new }
+    ensures { leaves (way_by cut) «record».now text.now rules.now rule_text.now cells.old list.old result cells.new list.new }
 {
     match check_record(record, text) {
         Checked::Accepted(n) => {
@@ -83,9 +85,9 @@ pub fn judge_checked<'a>(
     n: u32,
     checked: Checked,
 ) -> Answer
-    requires text_value { recordOutcome «record».now text.now ≡ accepted n }
-    requires checked_value { outcomeOf checked ≡ rulesOutcome rules.now rule_text.now }
-    ensures { leaves (wayBy cut) «record».now text.now rules.now rule_text.now cells.old list.old result cells.new list.new }
+    requires text_value { record_outcome «record».now text.now ≡ accepted n }
+    requires checked_value { outcome_of checked ≡ rules_outcome rules.now rule_text.now }
+    ensures { leaves (way_by cut) «record».now text.now rules.now rule_text.now cells.old list.old result cells.new list.new }
 {
     match checked {
         Checked::Accepted(m) => judge_in_areas(
@@ -107,9 +109,9 @@ fn judge_in_areas<'a>(
     n: u32,
     m: u32,
 ) -> Answer
-    requires text_value { recordOutcome «record».now text.now ≡ accepted n }
-    requires rule_text_value { rulesOutcome rules.now rule_text.now ≡ accepted m }
-    ensures { leaves (wayBy cut) «record».now text.now rules.now rule_text.now cells.old list.old result cells.new list.new }
+    requires text_value { record_outcome «record».now text.now ≡ accepted n }
+    requires rule_text_value { rules_outcome rules.now rule_text.now ≡ accepted m }
+    ensures { leaves (way_by cut) «record».now text.now rules.now rule_text.now cells.old list.old result cells.new list.new }
 {
     let size = wide(n * m);
     if cells.len() < size {

@@ -7,21 +7,21 @@ use mathlib.Core.Option.{none, some}
 use mathlib.Core.Path.{◌≡◌, subst}
 use Prim.Native.Nat.{ℕ, ◌≤◌}
 use lib.ListN.{length}
-use Rattle.sheet.specs.Kinds.{number-max}
-use Rattle.json.specs.Text.{Text, bytes}
-use Rattle.json.specs.Starts.{textStarts}
-use Rattle.json.specs.Automaton.{start}
-use Rattle.json.specs.Along.{along}
-use Rattle.reader.specs.Faults.{firstFault}
-use Rattle.reader.specs.Call.{input-max, Reads, is-text}
+use Rattle.sheet.specs.Kinds.{number_max}
+use Rattle.jsontext.specs.Text.{Text, bytes}
+use Rattle.jsontext.specs.Starts.{text_starts}
+use Rattle.jsontext.specs.Automaton.{start}
+use Rattle.jsontext.specs.Along.{along}
+use Rattle.reader.specs.Faults.{first_fault}
+use Rattle.reader.specs.Call.{input_max, Reads, is_text}
 use Rattle.tally.specs.declared.Units.{Units}
-use Rattle.tally.specs.Tallying.{noTally, tally_of, tallying}
+use Rattle.tally.specs.Tallying.{no_tally, tally_of, tallying}
 use Rattle.tally.proofs.Tallied.{Tallied, tallied}
 use Rattle.laying.specs.declared.Answer.{Answer}
-use Rattle.laying.specs.Laying.{outcomeOf, Countable, Laid}
+use Rattle.laying.specs.Laying.{outcome_of, Countable, Laid}
 
-pub countable : (t : Text) {json : List ℕ} → bytes t ≡ json → firstFault 0 (textStarts number-max t) ≡ none
-    → (u : Units) (values texts : List ℕ) → along tallying json (some start) noTally ≡ tally_of u values texts → Countable json values texts
+pub countable : (t : Text) {json : List ℕ} → bytes t ≡ json → first_fault 0 (text_starts number_max t) ≡ none
+    → (u : Units) (values texts : List ℕ) → along tallying json (some start) no_tally ≡ tally_of u values texts → Countable json values texts
 countable t e clean u values texts h =
     record {
       of = t;
@@ -31,6 +31,6 @@ countable t e clean u values texts h =
       counted = subst (Tallied t) h (rw e at (tallied t));
     }
 
-pub reads : (t : Text) {json words room words' room' : List ℕ} {r : Answer} → length json ≤ input-max → bytes t ≡ json → Laid t words room r words' room'
-    → Reads json words room (record { outcome = outcomeOf r; words = words'; room = room' })
-reads t {words = words} {room = room} l e h = rw (h.answered, h.words_are, h.room-is) (is-text t l e)
+pub reads : (t : Text) {json words room words' room' : List ℕ} {r : Answer} → length json ≤ input_max → bytes t ≡ json → Laid t words room r words' room'
+    → Reads json words room (record { outcome = outcome_of r; words = words'; room = room' })
+reads t {words = words} {room = room} l e h = rw (h.answered, h.words_are, h.room_is) (is_text t l e)

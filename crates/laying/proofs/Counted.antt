@@ -1,6 +1,6 @@
 -- A text without fault whose levels are counted can be written (writing/specs/Reading.antt).
---     rows_all, bytes-all    the counters add up to the rows and the text's bytes
---     rows_few, bytes-few    which are few
+--     rows_all, bytes_all    the counters add up to the rows and the text's bytes
+--     rows_few, bytes_few    which are few
 --     writable, laid         the theorems
 -- Assumes nothing.
 use mathlib.Core.List.{List}
@@ -14,72 +14,72 @@ use Rattle.breadth.specs.Breadth.{depth}
 use Rattle.breadth.specs.Sheet.{rows, text}
 use Rattle.breadth.specs.Counters.{one, size}
 use Rattle.breadth.specs.Tokens.{tokens, tally}
-use Rattle.breadth.proofs.Shape.{rows-counted}
-use Rattle.breadth.proofs.Theorems.{rows-needed, bytes-needed}
+use Rattle.breadth.proofs.Shape.{rows_counted}
+use Rattle.breadth.proofs.Theorems.{rows_needed, bytes_needed}
 use Rattle.placing.specs.Desk as Desk
 use Rattle.writing.specs.Reading.{Writable, Stands}
-use Rattle.reader.specs.Call.{datumOf}
-use Rattle.reader.proofs.Clean.{clean-text}
-use Rattle.reader.proofs.Sayable.{text-sayable}
-use Rattle.reader.proofs.Lengths.{made-short}
+use Rattle.reader.specs.Call.{datum_of}
+use Rattle.reader.proofs.Clean.{clean_text}
+use Rattle.reader.proofs.Sayable.{text_sayable}
+use Rattle.reader.proofs.Lengths.{made_short}
 use Rattle.tally.specs.Tallying.{levels}
 use Rattle.laying.specs.declared.Answer.TheVariants.{Made}
 use Rattle.laying.specs.Laying.{start_at, Started, Countable, Laid}
-use Rattle.laying.proofs.Starts.{start-begins, starts-hold}
+use Rattle.laying.proofs.Starts.{start_begins, starts_hold}
 use Rattle.laying.proofs.Outcomes.{all_made}
 
 module _ (json values texts : List ℕ) (c : Countable json values texts) where
   abbrev f : Forest
-  f = tree (datumOf c.of)
+  f = tree (datum_of c.of)
 
-  pub values-long : length values ≡ levels
-  values-long = c.counted.values-long
+  pub values_long : length values ≡ levels
+  values_long = c.counted.values_long
 
-  pub texts-long : length texts ≡ levels
-  texts-long = c.counted.texts-long
+  pub texts_long : length texts ≡ levels
+  texts_long = c.counted.texts_long
 
   deep : depth f ≤ levels
-  deep = omega (arith, (clean-text c.of c.clean).shallow)
+  deep = omega (arith, (clean_text c.of c.clean).shallow)
 
-  values-are : (j : ℕ) → j < length values → get_or values j 0 ≡ tally one 0 (λ i. 0) (tokens f) j
-  values-are j h = c.counted.values-are j (omega (arith, values-long))
+  values_are : (j : ℕ) → j < length values → get_or values j 0 ≡ tally one 0 (λ i. 0) (tokens f) j
+  values_are j h = c.counted.values_are j (omega (arith, values_long))
 
-  texts-are : (j : ℕ) → j < length texts → get_or texts j 0 ≡ tally size 0 (λ i. 0) (tokens f) j
-  texts-are j h = c.counted.texts-are j (omega (arith, texts-long))
+  texts_are : (j : ℕ) → j < length texts → get_or texts j 0 ≡ tally size 0 (λ i. 0) (tokens f) j
+  texts_are j h = c.counted.texts_are j (omega (arith, texts_long))
 
   pub rows_all : start_at values (length values) ≡ length (rows f)
-  rows_all = start-begins one (tokens f) values (length values) values-are (length values) (omega arith) ∙ rows-needed (datumOf c.of) (length values) (omega (arith, deep, values-long))
+  rows_all = start_begins one (tokens f) values (length values) values_are (length values) (omega arith) ∙ rows_needed (datum_of c.of) (length values) (omega (arith, deep, values_long))
 
-  pub bytes-all : start_at texts (length texts) ≡ length (text f)
-  bytes-all = start-begins size (tokens f) texts (length texts) texts-are (length texts) (omega arith) ∙ bytes-needed (datumOf c.of) (length texts) (omega (arith, deep, texts-long))
+  pub bytes_all : start_at texts (length texts) ≡ length (text f)
+  bytes_all = start_begins size (tokens f) texts (length texts) texts_are (length texts) (omega arith) ∙ bytes_needed (datum_of c.of) (length texts) (omega (arith, deep, texts_long))
 
   pub rows_few : start_at values (length values) ≤ 1_024
-  rows_few = omega (arith, rows_all, rows-counted f, (clean-text c.of c.clean).few)
+  rows_few = omega (arith, rows_all, rows_counted f, (clean_text c.of c.clean).few)
 
-  pub bytes-few : length json ≤ 65_536 → start_at texts (length texts) ≤ 65_536
-  bytes-few l = omega (arith, bytes-all, made-short c.of, ap length c.spelled)
+  pub bytes_few : length json ≤ 65_536 → start_at texts (length texts) ≤ 65_536
+  bytes_few l = omega (arith, bytes_all, made_short c.of, ap length c.spelled)
 
   -- what was added up
   module _
-      (n m : ℕ) (rowStarts byteStarts words room : List ℕ) (rows-sum : n ≡ start_at values (length values)) (bytes-sum : m ≡ start_at texts (length texts))
-      (rows-started : Started values rowStarts (suc (length values))) (bytes-started : Started texts byteStarts (suc (length texts)))
-      (rows_long : length rowStarts ≡ Desk.levels) (bytes-long : length byteStarts ≡ Desk.levels) (words-fit : row_words * n + 4 ≤ length words) (text-fits : m ≤ length room) where
-    pub writable : Writable json n m rowStarts byteStarts words room
+      (n m : ℕ) (row_starts byte_starts words room : List ℕ) (rows_sum : n ≡ start_at values (length values)) (bytes_sum : m ≡ start_at texts (length texts))
+      (rows_started : Started values row_starts (suc (length values))) (bytes_started : Started texts byte_starts (suc (length texts)))
+      (rows_long : length row_starts ≡ Desk.levels) (bytes_long : length byte_starts ≡ Desk.levels) (words_fit : row_words * n + 4 ≤ length words) (text_fits : m ≤ length room) where
+    pub writable : Writable json n m row_starts byte_starts words room
     writable =
         record {
           of = c.of;
           spelled = c.spelled;
-          sayable = text-sayable c.of c.clean;
+          sayable = text_sayable c.of c.clean;
           shallow = omega (arith, deep);
-          rows_start = starts-hold one (tokens f) values rowStarts values-are rows-started Desk.levels (omega (arith, values-long)) rows_long;
-          bytes-start = starts-hold size (tokens f) texts byteStarts texts-are bytes-started Desk.levels (omega (arith, texts-long)) bytes-long;
-          rows-many = rows-sum ∙ rows_all;
-          bytes-many = bytes-sum ∙ bytes-all;
-          words-fit = words-fit;
-          text-fits = text-fits;
+          rows_start = starts_hold one (tokens f) values row_starts values_are rows_started Desk.levels (omega (arith, values_long)) rows_long;
+          bytes_start = starts_hold size (tokens f) texts byte_starts texts_are bytes_started Desk.levels (omega (arith, texts_long)) bytes_long;
+          rows_many = rows_sum ∙ rows_all;
+          bytes_many = bytes_sum ∙ bytes_all;
+          words_fit = words_fit;
+          text_fits = text_fits;
         }
 
-    pub laid : (words' room' : List ℕ) → ((w : Writable json n m rowStarts byteStarts words room) → Stands w.of words room words' room')
+    pub laid : (words' room' : List ℕ) → ((w : Writable json n m row_starts byte_starts words room) → Stands w.of words room words' room')
         → Laid c.of words room (Made n) words' room'
     unfolding writable
-    laid words' room' s = all_made c.of c.clean words room n m (rows-sum ∙ rows_all) (bytes-sum ∙ bytes-all) words-fit text-fits (s writable)
+    laid words' room' s = all_made c.of c.clean words room n m (rows_sum ∙ rows_all) (bytes_sum ∙ bytes_all) words_fit text_fits (s writable)

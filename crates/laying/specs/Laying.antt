@@ -3,12 +3,12 @@
 -- Assumes nothing.
 use Rattle.std.specs.Prelude.{List, ◌≡◌, ℕ, zero, suc, ◌+◌, ◌<◌, length, get_or}
 use Rattle.std.proofs.Math.Option.{none}
-use Rattle.sheet.specs.Kinds.{number-max}
+use Rattle.sheet.specs.Kinds.{number_max}
 use Rattle.sheet.specs.Refusals.{Outcome, accepted, refused}
-use Rattle.json.specs.Text.{Text, bytes}
-use Rattle.json.specs.Starts.{textStarts}
-use Rattle.reader.specs.Faults.{firstFault}
-use Rattle.reader.specs.Call.{textMade, wordsMade, textOutcome, areaAfter}
+use Rattle.jsontext.specs.Text.{Text, bytes}
+use Rattle.jsontext.specs.Starts.{text_starts}
+use Rattle.reader.specs.Faults.{first_fault}
+use Rattle.reader.specs.Call.{text_made, words_made, text_outcome, area_after}
 use Rattle.tally.specs.Tallying.{tally_of}
 use Rattle.tally.specs.declared.Units.{Units}
 use Rattle.tally.proofs.Tallied.{Tallied}
@@ -29,20 +29,20 @@ Started counters cells k = (j : ℕ) → j < k → get_or cells j 0 ≡ start_at
 -- ---- the call
 
 -- an answer, as reader/specs/Call.antt has it
-abbrev pub outcomeOf : Answer → Outcome
-outcomeOf (Made rows) = accepted rows
-outcomeOf (Refused number place) = refused number place
+abbrev pub outcome_of : Answer → Outcome
+outcome_of (Made rows) = accepted rows
+outcome_of (Refused number place) = refused number place
 
 -- these bytes are of a text without fault, and the counters are its levels'
 pub record Countable (json values texts : List ℕ) : Type 0 where
   pub of : Text
   pub spelled : bytes of ≡ json
-  pub clean : firstFault 0 (textStarts number-max of) ≡ none
+  pub clean : first_fault 0 (text_starts number_max of) ≡ none
   pub units : Units
   pub counted : Tallied of (tally_of units values texts)
 
 -- the answer for a text, and the areas at the end
 pub record Laid (t : Text) (words room : List ℕ) (r : Answer) (words' room' : List ℕ) : Type 0 where
-  pub answered : outcomeOf r ≡ textOutcome t (length words) (length room)
-  pub words_are : words' ≡ areaAfter (textOutcome t (length words) (length room)) (wordsMade t) words
-  pub room-is : room' ≡ areaAfter (textOutcome t (length words) (length room)) (textMade t) room
+  pub answered : outcome_of r ≡ text_outcome t (length words) (length room)
+  pub words_are : words' ≡ area_after (text_outcome t (length words) (length room)) (words_made t) words
+  pub room_is : room' ≡ area_after (text_outcome t (length words) (length room)) (text_made t) room

@@ -1,12 +1,14 @@
 // A JSON text without fault becomes a record sheet and its text, if the areas are long enough
 // (`specs/Laying.antt`, which contracts cite).
+#![tactic(auto)]
+
 ghost use Rattle.std.specs.Prelude.{◌≡◌, suc, ◌≤◌, ◌<◌, length};
 ghost use Rattle.laying.specs.Laying.{start_at, Started, Countable, Laid};
 
 use writing::write_sheet;
 
 // What the call that reads JSON answers: the number of rows, or a refusal's number and place.
-#[derive(Drop)]
+#[derive(Clone, Copy)]
 pub enum Answer {
     Made(u32),
     Refused(u32, u32),

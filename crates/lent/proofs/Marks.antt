@@ -1,6 +1,6 @@
 -- The marks of a pair, as they are written.
---     kept-all, kept-none            of one that holds, and of one that fails
---     merged-handed, marked-child    what is handed on: a pair's marks, or the child that it is of
+--     kept_all, kept_none            of one that holds, and of one that fails
+--     merged_handed, marked_child    what is handed on: a pair's marks, or the child that it is of
 --     gives_all, gives_none          it is kept, or it is not
 -- Assumes nothing.
 use mathlib.Core.Bool.{Bool, true, false, or-true, or-false}
@@ -12,29 +12,29 @@ use native.Mathlib.Omega.{arith}
 use borrow.Author.Tests.{eq-eqb, ne_eqb}
 use Rattle.areas.specs.Cells.{bit, column}
 use Rattle.areas.specs.Writers.{Marked, merged}
-use Rattle.areas.proofs.Writers.{marked-same}
-use Rattle.lent.specs.Lent.{kept, handedOn, givenOn}
+use Rattle.areas.proofs.Writers.{marked_same}
+use Rattle.lent.specs.Lent.{kept, handed_on, given_on}
 
 -- a pair that holds keeps its marks, and one that fails has none
 module _ (m : ℕ) (cells : List ℕ) (s : ℕ) (ok : Bool) (k : ℕ) where
-  pub kept-all : ok ≡ true → column m cells s k ≡ kept m cells s ok k
+  pub kept_all : ok ≡ true → column m cells s k ≡ kept m cells s ok k
   unfolding kept
-  kept-all e = rw e
+  kept_all e = rw e
 
-  pub kept-none : ok ≡ false → false ≡ kept m cells s ok k
+  pub kept_none : ok ≡ false → false ≡ kept m cells s ok k
   unfolding kept
-  kept-none e = rw e
+  kept_none e = rw e
 
 -- ---- what is handed on
 
 module _ (m row rule aimed from : ℕ) where
-  pub merged-handed : (cells : List ℕ) (k : ℕ) → aimed ≡ row → merged m cells rule from k ≡ handedOn m cells row rule aimed from k
-  unfolding merged handedOn
-  merged-handed cells k e = rw (eq-eqb aimed row e)
+  pub merged_handed : (cells : List ℕ) (k : ℕ) → aimed ≡ row → merged m cells rule from k ≡ handed_on m cells row rule aimed from k
+  unfolding merged handed_on
+  merged_handed cells k e = rw (eq-eqb aimed row e)
 
-  pub marked-child : (first many : ℕ) {c₀ c₁ : List ℕ} → rule < m → (aimed ≡ row → ⊥) → (first ≤ aimed) × (aimed < first + many) → Marked m aimed 1 rule (λ x. true) c₀ c₁ → Marked m first many rule (handedOn m c₀ row rule aimed from) c₀ c₁
-  unfolding handedOn
-  marked-child first many {c₀} l n w p =
+  pub marked_child : (first many : ℕ) {c₀ c₁ : List ℕ} → rule < m → (aimed ≡ row → ⊥) → (first ≤ aimed) × (aimed < first + many) → Marked m aimed 1 rule (λ x. true) c₀ c₁ → Marked m first many rule (handed_on m c₀ row rule aimed from) c₀ c₁
+  unfolding handed_on
+  marked_child first many {c₀} l n w p =
       let a = w.0 in
       let b = w.1 in
       record {
@@ -51,10 +51,10 @@ module _ (m row rule aimed from : ℕ) where
 -- ---- what is handed on is kept, or it is not
 
 module _ (m first many s row aimed from : ℕ) (keeps : Bool) (c : List ℕ) where
-  pub gives_all : {c' : List ℕ} → keeps ≡ true → Marked m first many s (handedOn m c row s aimed from) c c' → Marked m first many s (givenOn keeps m c row s aimed from) c c'
-  unfolding givenOn
-  gives_all {c'} e M = subst (λ (b : Bool). Marked m first many s (givenOn b m c row s aimed from) c c') (sym e) M
+  pub gives_all : {c' : List ℕ} → keeps ≡ true → Marked m first many s (handed_on m c row s aimed from) c c' → Marked m first many s (given_on keeps m c row s aimed from) c c'
+  unfolding given_on
+  gives_all {c'} e M = subst (λ (b : Bool). Marked m first many s (given_on b m c row s aimed from) c c') (sym e) M
 
-  pub gives_none : keeps ≡ false → Marked m first many s (givenOn keeps m c row s aimed from) c c
-  unfolding givenOn
-  gives_none e = subst (λ (b : Bool). Marked m first many s (givenOn b m c row s aimed from) c c) (sym e) (marked-same c (λ k a b. refl))
+  pub gives_none : keeps ≡ false → Marked m first many s (given_on keeps m c row s aimed from) c c
+  unfolding given_on
+  gives_none e = subst (λ (b : Bool). Marked m first many s (given_on b m c row s aimed from) c c) (sym e) (marked_same c (λ k a b. refl))

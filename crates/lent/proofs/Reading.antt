@@ -13,49 +13,49 @@ use lib.Dec.{eqb}
 use lib.ListN.{length, get_or}
 use Rattle.sheet.specs.declared.record.RecordForm.{RecordForm}
 use Rattle.sheet.specs.declared.record.Children.{Children}
-use Rattle.sheet.specs.Record.{rowsWord, form_of}
+use Rattle.sheet.specs.Record.{rows_word, form_of}
 use Rattle.sheet.specs.Accepted.{ChildrenRead}
-use Rattle.sheet.proofs.Trailers.{form-rows, form-few}
-use Rattle.laws.proofs.Tests.{le-or-lt}
-use Rattle.looking.proofs.Naming.{child-inside}
+use Rattle.sheet.proofs.Trailers.{form_rows, form_few}
+use Rattle.laws.proofs.Tests.{le_or_lt}
+use Rattle.looking.proofs.Naming.{child_inside}
 use Rattle.rulesheet.specs.declared.form.RuleForm.{RuleForm}
 use Rattle.rulesheet.specs.Ruleset as R
 use Rattle.rulesheet.specs.Ruleset.{never, asserts}
 use Rattle.rulesheet.specs.Sheet as RS
-use Rattle.rulesheet.specs.Sheet.{schemasWord, schemaAt}
+use Rattle.rulesheet.specs.Sheet.{schemas_word, schema_at}
 use Rattle.rulesheet.specs.Read.{RulesFormed}
-use Rattle.rulesheet.proofs.Trailers.{facts, form-m, form-c, form-e}
-use Rattle.rulesheet.proofs.Items.{clauses-long}
+use Rattle.rulesheet.proofs.Trailers.{facts, form_m, form_c, form_e}
+use Rattle.rulesheet.proofs.Items.{clauses_long}
 use Rattle.meaning.specs.Rules.{Pair, Way, whole, cut}
-use Rattle.meaning.proofs.Answers.{pairs-few}
-use Rattle.lent.specs.Lent.{Case, Sheets, case_of, lent, wayWord, formsOf, recordFormIn, ruleFormIn, wayLent, FormsFit, Lent, lentCase, Fits, InCase, firstKid, kidCount, clausesOf, clauseAt, Reads, ReadsClause}
+use Rattle.meaning.proofs.Answers.{pairs_few}
+use Rattle.lent.specs.Lent.{Case, Sheets, case_of, lent, way_word, forms_of, record_form_in, rule_form_in, way_lent, FormsFit, Lent, lent_case, Fits, InCase, first_kid, kid_count, clauses_of, clause_at, Reads, ReadsClause}
 
 module _ {ws ts rs us : List ℕ} {form : RecordForm} {rform : RuleForm} (S : Sheets ws ts rs us form rform) where
   abbrev T : Case
   T = case_of whole ws ts rs us
 
   formed : RulesFormed rs rform
-  formed = S.rules-read.laid.clauses-laid.schemas-laid.formed
+  formed = S.rules_read.laid.clauses_laid.schemas_laid.formed
 
-  pub rows_are : form.rows ≡ rowsWord ws
-  rows_are = form-rows ws form S.record-read.laid.formed
+  pub rows_are : form.rows ≡ rows_word ws
+  rows_are = form_rows ws form S.record_read.laid.formed
 
-  pub schemas-are : rform.m ≡ schemasWord rs
-  schemas-are = form-m rs rform formed
+  pub schemas_are : rform.m ≡ schemas_word rs
+  schemas_are = form_m rs rform formed
 
   pub row_low : {p : Pair} → InCase T p → p.row < form.rows
   row_low I = omega (arith, rows_are, I.row_in)
 
-  pub rule-low : {p : Pair} → InCase T p → p.rule < rform.m
-  rule-low I = omega (arith, schemas-are, I.rule-in)
+  pub rule_low : {p : Pair} → InCase T p → p.rule < rform.m
+  rule_low I = omega (arith, schemas_are, I.rule_in)
 
   -- ---- the clauses of a schema
 
-  pub clauses-many : {p : Pair} {many : ℕ} → InCase T p → many ≡ (schemaAt rs p.rule).count → many ≡ length (clausesOf T p)
-  clauses-many {p} I e = e ∙ sym (clauses-long rs us p.rule I.rule-in)
+  pub clauses_many : {p : Pair} {many : ℕ} → InCase T p → many ≡ (schema_at rs p.rule).count → many ≡ length (clauses_of T p)
+  clauses_many {p} I e = e ∙ sym (clauses_long rs us p.rule I.rule_in)
 
-  pub clause-has : {p : Pair} {i : ℕ} → InCase T p → i < (schemaAt rs p.rule).count → Has (clauseAt T p i) (clausesOf T p)
-  clause-has {p} {i} I h = has (clausesOf T p) i (omega (arith, clauses-long rs us p.rule I.rule-in))
+  pub clause_has : {p : Pair} {i : ℕ} → InCase T p → i < (schema_at rs p.rule).count → Has (clause_at T p i) (clauses_of T p)
+  clause_has {p} {i} I h = has (clauses_of T p) i (omega (arith, clauses_long rs us p.rule I.rule_in))
     where
       has : (l : List R.Clause) (k : ℕ) → k < length l → Has (get_or l k (asserts never)) l
       has [] k g = absurd (omega arith)
@@ -65,90 +65,90 @@ module _ {ws ts rs us : List ℕ} {form : RecordForm} {rform : RuleForm} (S : Sh
   -- ---- the children
 
   module _ (p : Pair) {kids : Children} (K : ChildrenRead ws p.row kids) where
-    pub kid-first : {x : ℕ} → x ≡ kids.first → x ≡ firstKid T p
-    kid-first e = e ∙ K.first-is ts
+    pub kid_first : {x : ℕ} → x ≡ kids.first → x ≡ first_kid T p
+    kid_first e = e ∙ K.first_is ts
 
-    pub kid-many : {x : ℕ} → x ≡ kids.count → x ≡ kidCount T p
-    kid-many e = e ∙ K.count-is ts
+    pub kid_many : {x : ℕ} → x ≡ kids.count → x ≡ kid_count T p
+    kid_many e = e ∙ K.count_is ts
 
 -- ---- the sheets by their own forms
 
-pub own-sheets : {ws ts rs us : List ℕ} {form : RecordForm} {rform : RuleForm} → Sheets ws ts rs us form rform → Sheets ws ts rs us (form_of ws) (RS.form_of rs)
-own-sheets S = rw (S.record-read.laid.formed.same-form, (formed S).same-form) at S
+pub own_sheets : {ws ts rs us : List ℕ} {form : RecordForm} {rform : RuleForm} → Sheets ws ts rs us form rform → Sheets ws ts rs us (form_of ws) (RS.form_of rs)
+own_sheets S = rw (S.record_read.laid.formed.same_form, (formed S).same_form) at S
 
-pub lent-sheets : {ws ts rs us : List ℕ} {form : RecordForm} {rform : RuleForm} → Sheets ws ts rs us (form_of ws) (RS.form_of rs) → form ≡ form_of ws → rform ≡ RS.form_of rs
+pub lent_sheets : {ws ts rs us : List ℕ} {form : RecordForm} {rform : RuleForm} → Sheets ws ts rs us (form_of ws) (RS.form_of rs) → form ≡ form_of ws → rform ≡ RS.form_of rs
     → Sheets ws ts rs us form rform
-lent-sheets S e f = rw (e, f) S
+lent_sheets S e f = rw (e, f) S
 
 -- ---- the forms that are lent
 
-pub lent-schemas : {ws ts rs us forms : List ℕ} {form : RecordForm} {rform : RuleForm} (w : Way) → Sheets ws ts rs us form rform → forms ≡ formsOf form rform w → get_or forms 5 0 ≡ schemasWord rs
-lent-schemas w S e = rw e (schemas-are S)
+pub lent_schemas : {ws ts rs us forms : List ℕ} {form : RecordForm} {rform : RuleForm} (w : Way) → Sheets ws ts rs us form rform → forms ≡ forms_of form rform w → get_or forms 5 0 ≡ schemas_word rs
+lent_schemas w S e = rw e (schemas_are S)
 
 -- whether judging is cut, as it is lent
-way-read : (w : Way) → cond (eqb (wayWord w) 0) whole cut ≡ w
-way-read whole = refl
-way-read cut = refl
+way_read : (w : Way) → cond (eqb (way_word w) 0) whole cut ≡ w
+way_read whole = refl
+way_read cut = refl
 
-pub way-lent : {forms : List ℕ} {form : RecordForm} {rform : RuleForm} (w : Way) → forms ≡ formsOf form rform w → wayLent forms ≡ w
-way-lent w e = rw e (way-read w)
+pub way_lent_lem : {forms : List ℕ} {form : RecordForm} {rform : RuleForm} (w : Way) → forms ≡ forms_of form rform w → way_lent forms ≡ w
+way_lent_lem w e = rw e (way_read w)
 
 pub lends : {words texts : List (Bor (List ℕ))} {forms : List ℕ} {form : RecordForm} {rform : RuleForm} (w : Way) → Sheets (lent words 0) (lent texts 0) (lent words 1) (lent texts 1) form rform
-    → forms ≡ formsOf form rform w → Lent words texts forms
-lends w S e = record { sheets = own-sheets S; forms-are = e ∙ rw (S.record-read.laid.formed.same-form, (formed S).same-form, way-lent w e) }
+    → forms ≡ forms_of form rform w → Lent words texts forms
+lends w S e = record { sheets = own_sheets S; forms_are = e ∙ rw (S.record_read.laid.formed.same_form, (formed S).same_form, way_lent_lem w e) }
 
 module _ {words texts : List (Bor (List ℕ))} {forms : List ℕ} (all : Lent words texts forms) where
-  pub schemas-lent : get_or forms 5 0 ≡ (lentCase words texts forms).m
-  schemas-lent = lent-schemas (wayLent forms) all.sheets all.forms-are
+  pub schemas_lent : get_or forms 5 0 ≡ (lent_case words texts forms).m
+  schemas_lent = lent_schemas (way_lent forms) all.sheets all.forms_are
 
-  pub forms-fit : FormsFit forms
-  forms-fit =
+  pub forms_fit : FormsFit forms
+  forms_fit =
       let few = facts (lent words 1) (RS.form_of (lent words 1)) (formed all.sheets) in
-      let rows = form-few (lent words 0) (form_of (lent words 0)) all.sheets.record-read.laid.formed in
-      let c = form-c (lent words 1) (RS.form_of (lent words 1)) (formed all.sheets) in
-      let e = form-e (lent words 1) (RS.form_of (lent words 1)) (formed all.sheets) in
-      rw all.forms-are (omega arith, omega (arith, schemas-are all.sheets, few.few), omega (arith, c, few.few-clauses), omega (arith, e, few.few-entries))
+      let rows = form_few (lent words 0) (form_of (lent words 0)) all.sheets.record_read.laid.formed in
+      let c = form_c (lent words 1) (RS.form_of (lent words 1)) (formed all.sheets) in
+      let e = form_e (lent words 1) (RS.form_of (lent words 1)) (formed all.sheets) in
+      rw all.forms_are (omega arith, omega (arith, schemas_are all.sheets, few.few), omega (arith, c, few.few_clauses), omega (arith, e, few.few_entries))
 
-  pub record-lent : {form : RecordForm} → form ≡ recordFormIn forms → form ≡ form_of (lent words 0)
-  record-lent e = e ∙ rw all.forms-are
+  pub record_lent : {form : RecordForm} → form ≡ record_form_in forms → form ≡ form_of (lent words 0)
+  record_lent e = e ∙ rw all.forms_are
 
-  pub rules-lent : {form : RuleForm} → form ≡ ruleFormIn forms → form ≡ RS.form_of (lent words 1)
-  rules-lent e = e ∙ rw all.forms-are
+  pub rules_lent : {form : RuleForm} → form ≡ rule_form_in forms → form ≡ RS.form_of (lent words 1)
+  rules_lent e = e ∙ rw all.forms_are
 
-  pub formed-lent : RulesFormed (lent words 1) (ruleFormIn forms)
-  formed-lent = rw (rules-lent refl) (formed all.sheets)
+  pub formed_lent : RulesFormed (lent words 1) (rule_form_in forms)
+  formed_lent = rw (rules_lent refl) (formed all.sheets)
 
-  pub reads-by : {p : Pair} → InCase (lentCase words texts forms) p → Reads words texts forms p
-  reads-by inside = record { all = all; inside = inside }
+  pub reads_by : {p : Pair} → InCase (lent_case words texts forms) p → Reads words texts forms p
+  reads_by inside = record { all = all; inside = inside }
 
-  pub reads-clause : {p : Pair} {i : ℕ} → InCase (lentCase words texts forms) p → i < (schemaAt (lent words 1) p.rule).count → ReadsClause words texts forms p i
-  reads-clause inside h = record { reads = reads-by inside; clause-in = h }
+  pub reads_clause : {p : Pair} {i : ℕ} → InCase (lent_case words texts forms) p → i < (schema_at (lent words 1) p.rule).count → ReadsClause words texts forms p i
+  reads_clause inside h = record { reads = reads_by inside; clause_inside = h }
 
 -- ---- the writers, by the numbers that were read
 
 -- the children of a row end within the rows
-pub kids-small : {ws rs us : List ℕ} (ts : List ℕ) {p : Pair} {form : RecordForm} {rform : RuleForm} {kids : Children} → Sheets ws ts rs us form rform → InCase (case_of whole ws ts rs us) p
+pub kids_small : {ws rs us : List ℕ} (ts : List ℕ) {p : Pair} {form : RecordForm} {rform : RuleForm} {kids : Children} → Sheets ws ts rs us form rform → InCase (case_of whole ws ts rs us) p
     → ChildrenRead ws p.row kids → kids.first < 4294967296 → kids.first + kids.count < 4294967296
-kids-small {ws} ts {p} {form} {kids = kids} S inside K fits =
+kids_small {ws} ts {p} {form} {kids = kids} S inside K fits =
     ⊎_elim (λ (z : kids.count ≤ 0). omega arith)
     (λ (z : 0 < kids.count).
-    let last = child-inside ws ts form S.record-read.laid p.row kids.first kids.count (kids.count - 1) (row_low S inside) (K.first-is ts) (K.count-is ts) (omega arith) in
+    let last = child_inside ws ts form S.record_read.laid p.row kids.first kids.count (kids.count - 1) (row_low S inside) (K.first_is ts) (K.count_is ts) (omega arith) in
     omega (arith, last))
-    (le-or-lt kids.count 0)
+    (le_or_lt kids.count 0)
 
 pub lt_by : {i n k : ℕ} → i < n → n ≡ k → i < k
 lt_by h e = omega arith
 
-pub le-by : {i n k : ℕ} → n ≡ i → n ≤ k → i ≤ k
-le-by e h = omega arith
+pub le_by : {i n k : ℕ} → n ≡ i → n ≤ k → i ≤ k
+le_by e h = omega arith
 
 -- ---- the size of the areas
 
 module _ {ws ts rs us : List ℕ} {form : RecordForm} {rform : RuleForm} (S : Sheets ws ts rs us form rform) where
-  pub size_is : {a b : ℕ} → a ≡ form.rows → b ≡ rform.m → a * b ≡ rowsWord ws * schemasWord rs
-  size_is e f = rw (e, f, rows_are S, schemas-are S)
+  pub size_is : {a b : ℕ} → a ≡ form.rows → b ≡ rform.m → a * b ≡ rows_word ws * schemas_word rs
+  size_is e f = rw (e, f, rows_are S, schemas_are S)
 
   pub size_fits : {a b : ℕ} → Fits (case_of whole ws ts rs us) → a ≡ form.rows → b ≡ rform.m → a * b < 18446744073709551616
   size_fits fit e f =
-      let few = pairs-few (rowsWord ws) (schemasWord rs) fit.rows.few fit.few in
+      let few = pairs_few (rows_word ws) (schemas_word rs) fit.rows.few fit.few in
       rw (size_is e f) (omega arith)

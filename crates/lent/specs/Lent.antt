@@ -3,23 +3,23 @@
 -- Assumes nothing.
 use Rattle.std.specs.Prelude.{ℕ, ◌+◌, ◌*◌, ◌≤◌, ◌<◌, Bool, true, false, ◌&&◌, ◌||◌, cond, List, [], ◌∷◌, ◌≡◌, eqb, length, get_or, take}
 use Rattle.std.specs.Borrow.{Bor}
-use Rattle.sheet.specs.Doc.{Doc, firstChild, childCount, Child}
+use Rattle.sheet.specs.Doc.{Doc, first_child, child_count, Child}
 use Rattle.sheet.specs.declared.record.RecordForm.{RecordForm}
-use Rattle.sheet.specs.Record.{rowsWord, form_of, docOf}
+use Rattle.sheet.specs.Record.{rows_word, form_of, doc_of}
 use Rattle.rulesheet.specs.declared.form.RuleForm.{RuleForm}
 use Rattle.rulesheet.specs.declared.form.ClauseRow.{ClauseRow}
-use Rattle.rulesheet.specs.Ruleset.{Test, never, additionalProperties, Clause, asserts, takes, Ruleset}
+use Rattle.rulesheet.specs.Ruleset.{Test, never, additional_properties, Clause, asserts, takes, Ruleset}
 use Rattle.rulesheet.specs.Sheet as S
-use Rattle.rulesheet.specs.Sheet.{schemasWord, schemaAt, rulesOf}
+use Rattle.rulesheet.specs.Sheet.{schemas_word, schema_at, rules_of}
 use Rattle.meaning.specs.Rules.{Pair, Marks, Way, whole, cut}
 use Rattle.meaning.specs.Fit.{Fit, Inside}
 use Rattle.areas.specs.Cells.{Unsettled, column}
 use Rattle.areas.specs.Writers.{Writes, Marked}
 use Rattle.looking.specs.Read.{RecordRead}
 use Rattle.clause.specs.Read.{RulesRead, words_in, PassedFirst}
-use Rattle.plan.specs.Plan.{finishOf, stopsBy, afterMiss}
+use Rattle.plan.specs.Plan.{finish_of, stops_by, after_miss}
 use Rattle.steps.specs.declared.turn.Turn.{Turn}
-use Rattle.told.specs.Read.{byMarks, Started}
+use Rattle.told.specs.Read.{by_marks, Started}
 use Rattle.steps.specs.Turns.{NamesMarked, Turned}
 
 -- what is judged: a record and rules, and how many rows each has; and whether in whole, or cut
@@ -35,46 +35,46 @@ pair j s = record { row = j; rule = s }
 
 -- both sheets are laid out as their readers ask
 pub record Sheets (ws ts rs us : List ℕ) (form : RecordForm) (rules : RuleForm) : Type 0 where
-  pub record-read : RecordRead ws ts form
-  pub rules-read : RulesRead rs us rules
+  pub record_read : RecordRead ws ts form
+  pub rules_read : RulesRead rs us rules
 
 -- that of two sheets
 abbrev pub case_of : Way → (ws ts rs us : List ℕ) → Case
-case_of w ws ts rs us = record { doc = docOf ws ts; rules = rulesOf rs us; n = rowsWord ws; m = schemasWord rs; way = w }
+case_of w ws ts rs us = record { doc = doc_of ws ts; rules = rules_of rs us; n = rows_word ws; m = schemas_word rs; way = w }
 
 -- whether judging is cut, as it is asked
-abbrev pub wayBy : Bool → Way
-wayBy true = cut
-wayBy false = whole
+abbrev pub way_by : Bool → Way
+way_by true = cut
+way_by false = whole
 
 -- number k of two slices that are lent in an array: the record's, then the rules'
 abbrev pub lent : List (Bor (List ℕ)) → ℕ → List ℕ
 lent slices k = (get_or slices k (record { ref_ptr = (0, 0); now = [] })).now
 
 -- 1 if judging is cut
-abbrev pub wayWord : Way → ℕ
-wayWord whole = 0
-wayWord cut = 1
+abbrev pub way_word : Way → ℕ
+way_word whole = 0
+way_word cut = 1
 
 -- where the parts of both sheets lie, as one array lends it: what a form of the record says, then what one of the rules says; and last whether judging is cut
-abbrev pub formsOf : RecordForm → RuleForm → Way → List ℕ
-formsOf r f w = r.start ∷ r.rows ∷ f.schemas ∷ f.clauses ∷ f.entries ∷ f.m ∷ f.c ∷ f.e ∷ wayWord w ∷ []
+abbrev pub forms_of : RecordForm → RuleForm → Way → List ℕ
+forms_of r f w = r.start ∷ r.rows ∷ f.schemas ∷ f.clauses ∷ f.entries ∷ f.m ∷ f.c ∷ f.e ∷ way_word w ∷ []
 
 -- and the forms as they are read from it
-abbrev pub recordFormIn : List ℕ → RecordForm
-recordFormIn forms = record { start = get_or forms 0 0; rows = get_or forms 1 0 }
+abbrev pub record_form_in : List ℕ → RecordForm
+record_form_in forms = record { start = get_or forms 0 0; rows = get_or forms 1 0 }
 
-abbrev pub ruleFormIn : List ℕ → RuleForm
-ruleFormIn forms =
+abbrev pub rule_form_in : List ℕ → RuleForm
+rule_form_in forms =
     record { schemas = get_or forms 2 0; clauses = get_or forms 3 0; entries = get_or forms 4 0; m = get_or forms 5 0; c = get_or forms 6 0; e = get_or forms 7 0 }
 
-abbrev pub wayLent : List ℕ → Way
-wayLent forms = cond (eqb (get_or forms 8 0) 0) whole cut
+abbrev pub way_lent : List ℕ → Way
+way_lent forms = cond (eqb (get_or forms 8 0) 0) whole cut
 
 -- whether judging goes on after what holds or fails
-abbrev pub goesOn : Way → Bool → Bool
-goesOn whole ok = true
-goesOn cut ok = ok
+abbrev pub goes_on : Way → Bool → Bool
+goes_on whole ok = true
+goes_on cut ok = ok
 
 -- the numbers that are words of a sheet are words
 abbrev pub FormsFit : List ℕ → Type 0
@@ -83,10 +83,10 @@ FormsFit forms = (get_or forms 1 0 < 4294967296) × (get_or forms 5 0 < 42949672
 -- both sheets are read by their own forms, which `forms` lends
 pub record Lent (words texts : List (Bor (List ℕ))) (forms : List ℕ) : Type 0 where
   pub sheets : Sheets (lent words 0) (lent texts 0) (lent words 1) (lent texts 1) (form_of (lent words 0)) (S.form_of (lent words 1))
-  pub forms-are : forms ≡ formsOf (form_of (lent words 0)) (S.form_of (lent words 1)) (wayLent forms)
+  pub forms_are : forms ≡ forms_of (form_of (lent words 0)) (S.form_of (lent words 1)) (way_lent forms)
 
-abbrev pub lentCase : (words texts : List (Bor (List ℕ))) → List ℕ → Case
-lentCase words texts forms = case_of (wayLent forms) (lent words 0) (lent texts 0) (lent words 1) (lent texts 1)
+abbrev pub lent_case : (words texts : List (Bor (List ℕ))) → List ℕ → Case
+lent_case words texts forms = case_of (way_lent forms) (lent words 0) (lent texts 0) (lent words 1) (lent texts 1)
 
 abbrev pub Fits : Case → Type 0
 Fits T = Fit T.doc T.rules T.n T.m
@@ -99,21 +99,21 @@ abbrev pub Kid : Case → ℕ → ℕ → Type 0
 Kid T j k = Child T.doc j k
 
 -- the children of p's row
-abbrev pub firstKid : Case → Pair → ℕ
-firstKid T p = firstChild (T.doc.value p.row)
+abbrev pub first_kid : Case → Pair → ℕ
+first_kid T p = first_child (T.doc.value p.row)
 
-abbrev pub kidCount : Case → Pair → ℕ
-kidCount T p = childCount (T.doc.value p.row)
+abbrev pub kid_count : Case → Pair → ℕ
+kid_count T p = child_count (T.doc.value p.row)
 
 -- the clauses of p's schema: all, number i, and those before it
-abbrev pub clausesOf : Case → Pair → List Clause
-clausesOf T p = T.rules.clauses p.rule
+abbrev pub clauses_of : Case → Pair → List Clause
+clauses_of T p = T.rules.clauses p.rule
 
-abbrev pub clauseAt : Case → Pair → ℕ → Clause
-clauseAt T p i = get_or (clausesOf T p) i (asserts never)
+abbrev pub clause_at : Case → Pair → ℕ → Clause
+clause_at T p i = get_or (clauses_of T p) i (asserts never)
 
-abbrev pub beforeOf : Case → Pair → ℕ → List Clause
-beforeOf T p i = take i (clausesOf T p)
+abbrev pub before_of : Case → Pair → ℕ → List Clause
+before_of T p i = take i (clauses_of T p)
 
 -- the words of clause i of p's schema
 abbrev pub row_of : List (Bor (List ℕ)) → Pair → ℕ → ClauseRow
@@ -121,19 +121,19 @@ row_of words p i = words_in (lent words 1) p.rule i
 
 -- the first r of the n clauses of p's schema are tests that its row passes
 abbrev pub PassesFirst : Case → Pair → ℕ → ℕ → Type 0
-PassesFirst T p n r = PassedFirst T.doc p.row (clauseAt T p) n r
+PassesFirst T p n r = PassedFirst T.doc p.row (clause_at T p) n r
 
 -- ---- what is read of a pair
 
 -- both sheets are lent with their forms, and p is one of their pairs
 pub record Reads (words texts : List (Bor (List ℕ))) (forms : List ℕ) (p : Pair) : Type 0 where
   pub all : Lent words texts forms
-  pub inside : InCase (lentCase words texts forms) p
+  pub inside : InCase (lent_case words texts forms) p
 
 -- and i is a clause of its schema
 pub record ReadsClause (words texts : List (Bor (List ℕ))) (forms : List ℕ) (p : Pair) (i : ℕ) : Type 0 where
   pub reads : Reads words texts forms p
-  pub clause-in : i < (schemaAt (lent words 1) p.rule).count
+  pub clause_inside : i < (schema_at (lent words 1) p.rule).count
 
 -- none of the n rows from q's on is settled by its schema, and each passes all its `many` clauses, which are tests
 pub record RowsPass (T : Case) (q : Pair) (many n : ℕ) (cells : List ℕ) : Type 0 where
@@ -142,36 +142,36 @@ pub record RowsPass (T : Case) (q : Pair) (many n : ℕ) (cells : List ℕ) : Ty
 
 -- clause i of p applies schemas
 abbrev pub Applying : Case → Pair → ℕ → Type 0
-Applying T p i = (t : Test) → clauseAt T p i ≡ asserts t → ⊥
+Applying T p i = (t : Test) → clause_at T p i ≡ asserts t → ⊥
 
 -- what is asked of the cells, and of what the clauses before tell, where clause i of p stands after x steps
 pub record Turns (T : Case) (p : Pair) (i from x : ℕ) (cells : List ℕ) : Type 0 where
-  pub started : Started (beforeOf T p i) (clauseAt T p i) from
-  pub marked : (s : ℕ) → clauseAt T p i ≡ takes (additionalProperties s) → from ≡ byMarks → NamesMarked T.doc p (beforeOf T p i) x (column T.m cells p.rule)
+  pub started : Started (before_of T p i) (clause_at T p i) from
+  pub marked : (s : ℕ) → clause_at T p i ≡ takes (additional_properties s) → from ≡ by_marks → NamesMarked T.doc p (before_of T p i) x (column T.m cells p.rule)
   pub room : T.n * T.m ≤ length cells
   pub unsettled : Unsettled T.m p cells
 
 -- where it stands once its first x steps are taken and t is carried
 abbrev pub TurnsTo : Case → Pair → ℕ → ℕ → ℕ → List ℕ → Turn → Type 0
-TurnsTo T p i x t cells r = Turned T.doc p (beforeOf T p i) (clauseAt T p i) x (column T.m cells p.rule) t r
+TurnsTo T p i x t cells r = Turned T.doc p (before_of T p i) (clause_at T p i) x (column T.m cells p.rule) t r
 
 -- what it says in the end, by what is carried
-abbrev pub finishAt : Case → Pair → ℕ → ℕ → Bool
-finishAt T p i tally = finishOf T.doc p (clauseAt T p i) tally
+abbrev pub finish_at : Case → Pair → ℕ → ℕ → Bool
+finish_at T p i tally = finish_of T.doc p (clause_at T p i) tally
 
 -- the step that it goes on with after one of its steps, where it stops or not by what is carried
 abbrev pub next_at : Case → Pair → ℕ → ℕ → ℕ → ℕ
-next_at T p i step tally = cond (stopsBy T.way tally) (afterMiss (clauseAt T p i) step) (step + 1)
+next_at T p i step tally = cond (stops_by T.way tally) (after_miss (clause_at T p i) step) (step + 1)
 
 -- ---- what is written of marks
 
 -- before: the marks of p may be written, those of its row's children
 abbrev pub WritesMarks : Case → Pair → List ℕ → Type 0
-WritesMarks T p cells = Writes T.m (firstKid T p) (kidCount T p) p.rule p.rule cells
+WritesMarks T p cells = Writes T.m (first_kid T p) (kid_count T p) p.rule p.rule cells
 
 -- after: they are κ. No verdict has changed, and no other mark
 abbrev pub MarksWritten : Case → Pair → Marks → (cells₀ cells : List ℕ) → Type 0
-MarksWritten T p κ cells₀ cells = Marked T.m (firstKid T p) (kidCount T p) p.rule κ cells₀ cells
+MarksWritten T p κ cells₀ cells = Marked T.m (first_kid T p) (kid_count T p) p.rule κ cells₀ cells
 
 -- the marks of a pair that was judged: none if it failed
 unfoldable pub kept : ℕ → List ℕ → ℕ → Bool → Marks
@@ -179,8 +179,8 @@ kept m cells s ok k = ok && column m cells s k
 
 -- the marks of the pair (row, rule) once it has applied the pair (aimed, from): more by that pair's, if it is of the row itself, and else by
 -- the child that it is of
-unfoldable pub handedOn : ℕ → List ℕ → ℕ → ℕ → ℕ → ℕ → Marks
-handedOn m cells row rule aimed from k = column m cells rule k || cond (eqb aimed row) (column m cells from k) (eqb k aimed)
+unfoldable pub handed_on : ℕ → List ℕ → ℕ → ℕ → ℕ → ℕ → Marks
+handed_on m cells row rule aimed from k = column m cells rule k || cond (eqb aimed row) (column m cells from k) (eqb k aimed)
 
 -- before: as above for the children of the row, and `aimed` is the row or one of them
 pub record HandsOn (m first many row rule aimed from : ℕ) (cells : List ℕ) : Type 0 where
@@ -189,8 +189,8 @@ pub record HandsOn (m first many row rule aimed from : ℕ) (cells : List ℕ) :
 
 -- of p, which has applied q
 abbrev pub Hands : Case → Pair → Pair → List ℕ → Type 0
-Hands T p q cells = HandsOn T.m (firstKid T p) (kidCount T p) p.row p.rule q.row q.rule cells
+Hands T p q cells = HandsOn T.m (first_kid T p) (kid_count T p) p.row p.rule q.row q.rule cells
 
 -- the marks of p once it has applied q: those handed on, or as they were
-unfoldable pub givenOn : Bool → ℕ → List ℕ → ℕ → ℕ → ℕ → ℕ → Marks
-givenOn keeps m cells row rule aimed from k = cond keeps (handedOn m cells row rule aimed from k) (column m cells rule k)
+unfoldable pub given_on : Bool → ℕ → List ℕ → ℕ → ℕ → ℕ → ℕ → Marks
+given_on keeps m cells row rule aimed from k = cond keeps (handed_on m cells row rule aimed from k) (column m cells rule k)

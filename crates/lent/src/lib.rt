@@ -6,11 +6,13 @@
 // no stack.
 //
 // The contracts cite `specs/Lent.antt`.
+#![tactic(auto)]
+
 ghost use Rattle.std.specs.Prelude.{◌≡◌, cond, ◌+◌, ◌≤◌, ◌<◌, get_or};
 ghost use Rattle.rulesheet.specs.Read.{RulesFormed};
-ghost use Rattle.rulesheet.specs.Sheet.{schemaAt};
-ghost use Rattle.areas.specs.Cells.{pairIs};
-ghost use Rattle.lent.specs.Lent.{wayBy, wayWord, formsOf, recordFormIn, ruleFormIn, wayLent, goesOn, FormsFit, row_of, ReadsClause};
+ghost use Rattle.rulesheet.specs.Sheet.{schema_at};
+ghost use Rattle.areas.specs.Cells.{pair_is};
+ghost use Rattle.lent.specs.Lent.{way_by, way_word, forms_of, record_form_in, rule_form_in, way_lent, goes_on, FormsFit, row_of, ReadsClause};
 
 use rulesheet::form::{ClauseRow, RuleForm, clause_at, schema_at};
 use sheet::record::{Pair, RecordForm, RuleRow, wide};
@@ -24,14 +26,14 @@ pub const RULES: usize = 1;
 
 // 1 if judging is cut.
 fn way_number(cut: bool) -> usize
-    ensures { result ≡ wayWord (wayBy cut) }
+    ensures { result ≡ way_word (way_by cut) }
 {
     if cut { 1 } else { 0 }
 }
 
 // Both forms as numbers, and whether judging is cut.
 pub fn forms_of(form: RecordForm, rule_form: RuleForm, cut: bool) -> [usize; 9]
-    ensures { result ≡ formsOf form rule_form (wayBy cut) }
+    ensures { result ≡ forms_of form rule_form (way_by cut) }
 {
     [
         form.start,
@@ -49,7 +51,7 @@ pub fn forms_of(form: RecordForm, rule_form: RuleForm, cut: bool) -> [usize; 9]
 // The record's form.
 pub fn record_form(forms: &[usize; 9]) -> RecordForm
     requires { FormsFit forms.now }
-    ensures { result ≡ recordFormIn forms.now }
+    ensures { result ≡ record_form_in forms.now }
 {
     RecordForm {
         start: forms[0],
@@ -60,7 +62,7 @@ pub fn record_form(forms: &[usize; 9]) -> RecordForm
 // The rules' form.
 pub fn rules_form(forms: &[usize; 9]) -> RuleForm
     requires { FormsFit forms.now }
-    ensures { result ≡ ruleFormIn forms.now }
+    ensures { result ≡ rule_form_in forms.now }
 {
     RuleForm {
         schemas: forms[2],
@@ -83,8 +85,8 @@ pub fn schemas_of(forms: &[usize; 9]) -> usize
 
 // How many clauses the schema has.
 pub fn clauses_of(rules: &[u32], forms: &[usize; 9], s: RuleRow) -> u32
-    requires { FormsFit forms.now × (s.0 < get_or forms.now 5 0) × RulesFormed rules.now (ruleFormIn forms.now) }
-    ensures { result ≡ (schemaAt rules.now s.0).count }
+    requires { FormsFit forms.now × (s.0 < get_or forms.now 5 0) × RulesFormed rules.now (rule_form_in forms.now) }
+    ensures { result ≡ (schema_at rules.now s.0).count }
 {
     schema_at(rules, rules_form(forms), s).count
 }
@@ -97,8 +99,8 @@ pub fn clause_row<'a, 'b>(
     p: Pair,
     i: u32,
 ) -> ClauseRow
-    requires { ReadsClause sheets.now texts.now forms.now (pairIs p) i }
-    ensures { result ≡ row_of sheets.now (pairIs p) i }
+    requires { ReadsClause sheets.now texts.now forms.now (pair_is p) i }
+    ensures { result ≡ row_of sheets.now (pair_is p) i }
 {
     let rule_form = rules_form(forms);
     let rules = sheets[RULES];
@@ -114,7 +116,7 @@ pub fn clause_row<'a, 'b>(
 // Whether judging goes on after what is `ok` or not: always in whole, and else where it is. Here alone
 // it is asked whether judging is cut.
 pub fn goes_on(forms: &[usize; 9], ok: bool) -> bool
-    ensures { result ≡ goesOn (wayLent forms.now) ok }
+    ensures { result ≡ goes_on (way_lent forms.now) ok }
 {
     if ok {
         return true;
@@ -125,7 +127,7 @@ pub fn goes_on(forms: &[usize; 9], ok: bool) -> bool
 // The clause after clause i of `many`, where those up to it hold or not; none if judging stops.
 pub fn next_clause(forms: &[usize; 9], many: u32, i: u32, ok: bool) -> u32
     requires { i < many }
-    ensures value { result ≡ cond (goesOn (wayLent forms.now) ok) (i + 1) many }
+    ensures value { result ≡ cond (goes_on (way_lent forms.now) ok) (i + 1) many }
     ensures lower_bound { (i < result) × (result ≤ many) }
 {
     if goes_on(forms, ok) { i + 1 } else { many }

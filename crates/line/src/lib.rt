@@ -2,16 +2,18 @@
 // members and elements a row has is counted here too (`counts`).
 //
 // Its contracts cite `specs/Lines.antt`.
+#![tactic(auto)]
+
 pub mod counts;
 
 ghost use Rattle.std.specs.Prelude.{List, ◌≡◌, ℕ, ◌+◌, ◌≤◌, ◌<◌};
-ghost use Rattle.sheet.specs.Doc.{childCount};
-ghost use Rattle.sheet.specs.Record.{docOf};
+ghost use Rattle.sheet.specs.Doc.{child_count};
+ghost use Rattle.sheet.specs.Record.{doc_of};
 ghost use Rattle.sheet.specs.Accepted.{Laid};
 ghost use Rattle.rulesheet.specs.declared.form.RuleForm.{RuleForm};
-ghost use Rattle.rulesheet.specs.Clauses.{clauseMeans};
+ghost use Rattle.rulesheet.specs.Clauses.{clause_means};
 ghost use Rattle.few.specs.Asked.{applying};
-ghost use Rattle.clause.specs.Read.{clauseIn, words_in, ClauseRead};
+ghost use Rattle.clause.specs.Read.{clause_in, words_in, ClauseRead};
 ghost use Rattle.line.specs.Lines.{ChildrenLine, LineAsked, LinedIn};
 
 use crate::counts::{elements_in, members_in};
@@ -21,7 +23,7 @@ use rulesheet::form::ClauseRow;
 use sheet::record::{Pair, RecordForm, RecordRow, RuleRow, children_of};
 
 // The first `count` steps of a clause: step x applies schema `rule` to row `first + x`.
-#[derive(Drop)]
+#[derive(Clone, Copy)]
 pub struct Line {
     pub first: u32,
     pub count: u32,
@@ -48,7 +50,7 @@ fn children_line(
     from: u32,
     many: u32,
 ) -> Line
-    requires { Laid «record».now form × (row.0 < form.rows) × ((ts : List ℕ) → many ≤ childCount ((docOf «record».now ts).value row.0)) }
+    requires { Laid «record».now form × (row.0 < form.rows) × ((ts : List ℕ) → many ≤ child_count ((doc_of «record».now ts).value row.0)) }
     ensures children_line { ChildrenLine «record».now row.0 rule.0 from many result }
     ensures count_bound { result.first + result.count ≤ form.rows }
 {
@@ -68,7 +70,7 @@ fn children_line(
 // `from` is i itself: it takes all of them then.
 fn line_in(record: &[u32], form: RecordForm, p: Pair, i: u32, from: u32, clause: Clause) -> Line
     requires { Laid «record».now form × (p.row.0 < form.rows) }
-    ensures by_index { (ts rs us : List ℕ) (rule-form : RuleForm) → LineAsked rs us rule-form p i (words_in rs p.rule.0 i) from → ClauseRead applying rs us rule-form p.rule.0 i clause → LinedIn «record».now ts rs us p i (clauseMeans rs us clause) result }
+    ensures by_index { (ts rs us : List ℕ) (rule_form : RuleForm) → LineAsked rs us rule_form p i (words_in rs p.rule.0 i) from → ClauseRead applying rs us rule_form p.rule.0 i clause → LinedIn «record».now ts rs us p i (clause_means rs us clause) result }
     ensures count_bound { result.first + result.count ≤ form.rows }
 {
     let row = p.row;
@@ -94,7 +96,7 @@ fn line_in(record: &[u32], form: RecordForm, p: Pair, i: u32, from: u32, clause:
 // rows of the sheet.
 pub fn line_of(record: &[u32], form: RecordForm, p: Pair, i: u32, row: ClauseRow, from: u32) -> Line
     requires { Laid «record».now form × (p.row.0 < form.rows) }
-    ensures by_index { (ts rs us : List ℕ) (rule-form : RuleForm) → LineAsked rs us rule-form p i row from → LinedIn «record».now ts rs us p i (clauseIn rs us p.rule.0 i) result }
+    ensures by_index { (ts rs us : List ℕ) (rule_form : RuleForm) → LineAsked rs us rule_form p i row from → LinedIn «record».now ts rs us p i (clause_in rs us p.rule.0 i) result }
     ensures count_bound { result.first + result.count ≤ form.rows }
 {
     let clause = applied_by(row);

@@ -4,12 +4,14 @@
 //
 // The contracts cite `specs/State.antt` and `specs/Steps.antt` of `progress`, and of what is lent
 // `specs/Lent.antt` of `lent`.
+#![tactic(auto)]
+
 ghost use Rattle.std.specs.Prelude.{◌≡◌, ◌+◌, ◌≤◌, ◌<◌};
-ghost use Rattle.rulesheet.specs.Sheet.{schemaAt};
-ghost use Rattle.areas.specs.Cells.{pairIs, Unsettled};
+ghost use Rattle.rulesheet.specs.Sheet.{schema_at};
+ghost use Rattle.areas.specs.Cells.{pair_is, Unsettled};
 ghost use Rattle.told.specs.Read.{Started};
 ghost use Rattle.line.specs.Lines.{InLine};
-ghost use Rattle.lent.specs.Lent.{lent, Lent, lentCase, clauseAt, beforeOf, row_of, RowsPass};
+ghost use Rattle.lent.specs.Lent.{lent, Lent, lent_case, clause_at, before_of, row_of, RowsPass};
 ghost use Rattle.progress.specs.State.{rank_of, Ready};
 ghost use Rattle.progress.specs.Steps.{StandsAt};
 
@@ -36,11 +38,11 @@ fn settle_line<'a, 'b>(
     n: u32,
 )
     requires lent { Lent sheets.now texts.now forms.now }
-    requires ready { Ready (lentCase sheets.now texts.now forms.now) (rank_of (lentCase sheets.now texts.now forms.now) (pairIs p)) (pairIs p) cells.old list.old count }
-    requires unsettled { Unsettled (lentCase sheets.now texts.now forms.now).m (pairIs p) cells.old × (i < (schemaAt (lent sheets.now 1) p.rule.0).count) }
-    requires in_line { InLine (lentCase sheets.now texts.now forms.now).doc (pairIs p) (beforeOf (lentCase sheets.now texts.now forms.now) (pairIs p) i) (clauseAt (lentCase sheets.now texts.now forms.now) (pairIs p) i) q.row.0 n q.rule.0 }
-    requires rows_pass { RowsPass (lentCase sheets.now texts.now forms.now) (pairIs q) (schemaAt (lent sheets.now 1) q.rule.0).count n cells.old × (q.row.0 + n ≤ (lentCase sheets.now texts.now forms.now).n) }
-    ensures { StandsAt (lentCase sheets.now texts.now forms.now) (pairIs p) i cells.old list.old count n cells.new list.new }
+    requires ready { Ready (lent_case sheets.now texts.now forms.now) (rank_of (lent_case sheets.now texts.now forms.now) (pair_is p)) (pair_is p) cells.old list.old count }
+    requires unsettled { Unsettled (lent_case sheets.now texts.now forms.now).m (pair_is p) cells.old × (i < (schema_at (lent sheets.now 1) p.rule.0).count) }
+    requires in_line { InLine (lent_case sheets.now texts.now forms.now).doc (pair_is p) (before_of (lent_case sheets.now texts.now forms.now) (pair_is p) i) (clause_at (lent_case sheets.now texts.now forms.now) (pair_is p) i) q.row.0 n q.rule.0 }
+    requires rows_pass { RowsPass (lent_case sheets.now texts.now forms.now) (pair_is q) (schema_at (lent sheets.now 1) q.rule.0).count n cells.old × (q.row.0 + n ≤ (lent_case sheets.now texts.now forms.now).n) }
+    ensures { StandsAt (lent_case sheets.now texts.now forms.now) (pair_is p) i cells.old list.old count n cells.new list.new }
 {
     let m = schemas_of(forms);
     let first = q.row.0;
@@ -73,10 +75,10 @@ pub fn in_line<'a, 'b>(
     from: u32,
 ) -> u32
     requires lent { Lent sheets.now texts.now forms.now }
-    requires ready { Ready (lentCase sheets.now texts.now forms.now) (rank_of (lentCase sheets.now texts.now forms.now) (pairIs p)) (pairIs p) cells.old list.old count }
-    requires unsettled { Unsettled (lentCase sheets.now texts.now forms.now).m (pairIs p) cells.old × (i < (schemaAt (lent sheets.now 1) p.rule.0).count) }
-    requires row_value { (row ≡ row_of sheets.now (pairIs p) i) × Started (beforeOf (lentCase sheets.now texts.now forms.now) (pairIs p) i) (clauseAt (lentCase sheets.now texts.now forms.now) (pairIs p) i) from }
-    ensures { StandsAt (lentCase sheets.now texts.now forms.now) (pairIs p) i cells.old list.old count result cells.new list.new }
+    requires ready { Ready (lent_case sheets.now texts.now forms.now) (rank_of (lent_case sheets.now texts.now forms.now) (pair_is p)) (pair_is p) cells.old list.old count }
+    requires unsettled { Unsettled (lent_case sheets.now texts.now forms.now).m (pair_is p) cells.old × (i < (schema_at (lent sheets.now 1) p.rule.0).count) }
+    requires row_value { (row ≡ row_of sheets.now (pair_is p) i) × Started (before_of (lent_case sheets.now texts.now forms.now) (pair_is p) i) (clause_at (lent_case sheets.now texts.now forms.now) (pair_is p) i) from }
+    ensures { StandsAt (lent_case sheets.now texts.now forms.now) (pair_is p) i cells.old list.old count result cells.new list.new }
 {
     let at = line(sheets, texts, forms, p, i, row, from);
     if at.count == 0 {

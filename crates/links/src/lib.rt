@@ -2,8 +2,10 @@
 // what one step more makes of a length.
 //
 // Its contracts cite `Graph` and `Lengths` of `unguarded`.
+#![tactic(auto)]
+
 ghost use Rattle.std.specs.Prelude.{◌≤◌, ◌<◌};
-ghost use Rattle.rulesheet.specs.Sheet.{schemasWord, clausesWord};
+ghost use Rattle.rulesheet.specs.Sheet.{schemas_word, clauses_word};
 ghost use Rattle.rulesheet.specs.Read.{RulesLaid};
 ghost use Rattle.unguarded.specs.Graph.{chain_steps};
 ghost use Rattle.unguarded.specs.Lengths.{Quiet, StartAfter, Takes, Longer};
@@ -17,7 +19,7 @@ pub const CHAIN_STEPS: u8 = 32;
 
 // One past the last of the first `to` clauses that has a step; 0 if none has.
 pub fn last_step(words: &[u32], form: RuleForm, to: u32) -> u32
-    requires { RulesLaid words.now form × (to ≤ clausesWord words.now) }
+    requires { RulesLaid words.now form × (to ≤ clauses_word words.now) }
     ensures { Quiet words.now result to }
 {
     let mut k = to;
@@ -32,7 +34,7 @@ pub fn last_step(words: &[u32], form: RuleForm, to: u32) -> u32
 
 // The schema that takes clause k, if those after `last` start after it.
 pub fn taker(words: &[u32], form: RuleForm, last: RuleRow, k: u32) -> RuleRow
-    requires { RulesLaid words.now form × (last.0 < schemasWord words.now) × (k < clausesWord words.now) × StartAfter words.now last.0 k }
+    requires { RulesLaid words.now form × (last.0 < schemas_word words.now) × (k < clauses_word words.now) × StartAfter words.now last.0 k }
     ensures { Takes words.now result.0 k }
 {
     let mut s = last.0;

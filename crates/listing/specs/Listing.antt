@@ -5,49 +5,49 @@
 use Rattle.std.specs.Prelude.{ℕ, ◌+◌, ◌*◌, ◌/◌, ◌%◌, ◌≤◌, ◌<◌, Bool, false, not, ◌||◌, List, [], ◌∷◌, ◌≡◌, eqb, ltb, length, get_or}
 use Rattle.text.specs.declared.Range.{Range}
 use Rattle.text.specs.Part.{fits}
-use Rattle.sheet.specs.Refusals.{Outcome, accepted, refused, Line, lowestLine, firstLine}
+use Rattle.sheet.specs.Refusals.{Outcome, accepted, refused, Line, lowest_line, first_line}
 use Rattle.listing.specs.declared.Queued.{Queued}
 use Rattle.listing.specs.declared.Queued.TheVariants.{Answered, BadListing, Outside, FewAnswers}
 
-abbrev pub most-records : ℕ
-most-records = 512
+abbrev pub most_records : ℕ
+most_records = 512
 
 -- how many records are given
-abbrev pub recordsIn : List ℕ → ℕ
-recordsIn listing = length listing / 4
+abbrev pub records_in : List ℕ → ℕ
+records_in listing = length listing / 4
 
 -- where the words and the text of record k stand
-abbrev pub wordsAt : List ℕ → ℕ → Range
-wordsAt listing k = record { start = get_or listing (4 * k) 0; length = get_or listing (4 * k + 1) 0 }
+abbrev pub words_at : List ℕ → ℕ → Range
+words_at listing k = record { start = get_or listing (4 * k) 0; length = get_or listing (4 * k + 1) 0 }
 
-abbrev pub textAt : List ℕ → ℕ → Range
-textAt listing k = record { start = get_or listing (4 * k + 2) 0; length = get_or listing (4 * k + 3) 0 }
+abbrev pub text_at : List ℕ → ℕ → Range
+text_at listing k = record { start = get_or listing (4 * k + 2) 0; length = get_or listing (4 * k + 3) 0 }
 
 -- record k does not lie in slices of so many words and bytes: each range's end is exact
 unfoldable pub outside : ℕ → ℕ → List ℕ → ℕ → Bool
-outside words bytes listing k = not (fits words (wordsAt listing k)) || not (fits bytes (textAt listing k))
+outside words bytes listing k = not (fits words (words_at listing k)) || not (fits bytes (text_at listing k))
 
-abbrev pub badListing : List ℕ → Bool
-badListing listing = not (eqb (length listing % 4) 0) || ltb (4 * most-records) (length listing)
+abbrev pub bad_listing : List ℕ → Bool
+bad_listing listing = not (eqb (length listing % 4) 0) || ltb (4 * most_records) (length listing)
 
 -- the refusal table of the call, for slices and an answer area of so many elements
-abbrev pub queueLines : (words bytes answers : ℕ) → List ℕ → List Line
-queueLines words bytes answers listing =
-    record { number = 30; applies = badListing listing; place = 0 } ∷ lowestLine 31 0 (recordsIn listing) (outside words bytes listing)
-    ∷ record { number = 32; applies = ltb answers (recordsIn listing); place = recordsIn listing } ∷ []
+abbrev pub queue_lines : (words bytes answers : ℕ) → List ℕ → List Line
+queue_lines words bytes answers listing =
+    record { number = 30; applies = bad_listing listing; place = 0 } ∷ lowest_line 31 0 (records_in listing) (outside words bytes listing)
+    ∷ record { number = 32; applies = ltb answers (records_in listing); place = records_in listing } ∷ []
 
 -- what the call gives: how many records were answered, or a refusal
-unfoldable pub queueOutcome : (words bytes answers : ℕ) → List ℕ → Outcome
-queueOutcome words bytes answers listing = firstLine (queueLines words bytes answers listing) (recordsIn listing)
+unfoldable pub queue_outcome : (words bytes answers : ℕ) → List ℕ → Outcome
+queue_outcome words bytes answers listing = first_line (queue_lines words bytes answers listing) (records_in listing)
 
 -- an answer of the call, in 02's numbers
-abbrev pub queuedOutcome : Queued → Outcome
-queuedOutcome (Answered many) = accepted many
-queuedOutcome BadListing = refused 30 0
-queuedOutcome (Outside place) = refused 31 place
-queuedOutcome (FewAnswers place) = refused 32 place
+abbrev pub queued_outcome : Queued → Outcome
+queued_outcome (Answered many) = accepted many
+queued_outcome BadListing = refused 30 0
+queued_outcome (Outside place) = refused 31 place
+queued_outcome (FewAnswers place) = refused 32 place
 
 -- every record lies in the slices, and there is an answer for each
 pub record Tested (words bytes answers : ℕ) (listing : List ℕ) : Type 0 where
-  pub all-within : (i : ℕ) → i < recordsIn listing → outside words bytes listing i ≡ false
-  pub answers-enough : recordsIn listing ≤ answers
+  pub all_within : (i : ℕ) → i < records_in listing → outside words bytes listing i ≡ false
+  pub answers_enough : records_in listing ≤ answers

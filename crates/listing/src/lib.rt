@@ -1,9 +1,11 @@
 // The listing of a queue: four words for each record. It is read here, and tested against the slices that
 // the records stand in and the area for their answers; nothing is judged. The contracts cite
 // `specs/Listing.antt`.
+#![tactic(auto)]
+
 ghost use Rattle.std.specs.Prelude.{◌≡◌, ◌*◌, ◌<◌, length};
 ghost use Rattle.laws.specs.Lowest.{lowest};
-ghost use Rattle.listing.specs.Listing.{recordsIn, wordsAt, textAt, outside, queueOutcome, queuedOutcome};
+ghost use Rattle.listing.specs.Listing.{records_in, words_at, text_at, outside, queue_outcome, queued_outcome};
 
 use text::{Range, range_fits};
 
@@ -12,7 +14,7 @@ const MOST_WORDS: usize = 2048;
 
 // What a queue is answered: how many records are answered; or why it is refused, with the place: the
 // lowest record outside the slices, or the records given. A listing that is none has place 0.
-#[derive(Drop)]
+#[derive(Clone, Copy)]
 pub enum Queued {
     Answered(u32),
     BadListing,
@@ -23,7 +25,7 @@ pub enum Queued {
 // What a queue is answered that has this listing, slices of so many words and bytes, and an area for so
 // many answers.
 pub fn test_listing(words: usize, bytes: usize, listing: &[u32], answers: usize) -> Queued
-    ensures { queuedOutcome result ≡ queueOutcome words bytes answers listing.now }
+    ensures { queued_outcome result ≡ queue_outcome words bytes answers listing.now }
 {
     let size = listing.len();
     if (size % 4 != 0) | (size > MOST_WORDS) {
@@ -42,15 +44,15 @@ pub fn test_listing(words: usize, bytes: usize, listing: &[u32], answers: usize)
 
 // How many records are given.
 pub fn records_in(listing: &[u32]) -> usize
-    ensures { result ≡ recordsIn listing.now }
+    ensures { result ≡ records_in listing.now }
 {
     listing.len() / 4
 }
 
 // Where the words of record k stand.
 pub fn words_at(listing: &[u32], k: usize) -> Range
-    requires { k < recordsIn listing.now }
-    ensures { result ≡ wordsAt listing.now k }
+    requires { k < records_in listing.now }
+    ensures { result ≡ words_at listing.now k }
 {
     Range {
         start: listing[4 * k],
@@ -60,8 +62,8 @@ pub fn words_at(listing: &[u32], k: usize) -> Range
 
 // Where the text of record k stands.
 pub fn text_at(listing: &[u32], k: usize) -> Range
-    requires { k < recordsIn listing.now }
-    ensures { result ≡ textAt listing.now k }
+    requires { k < records_in listing.now }
+    ensures { result ≡ text_at listing.now k }
 {
     Range {
         start: listing[4 * k + 2],
@@ -71,7 +73,7 @@ pub fn text_at(listing: &[u32], k: usize) -> Range
 
 // Whether record k does not lie in slices of so many words and bytes.
 fn is_outside(words: usize, bytes: usize, listing: &[u32], k: usize) -> bool
-    requires { k < recordsIn listing.now }
+    requires { k < records_in listing.now }
     ensures { result ≡ outside words bytes listing.now k }
 {
     !range_fits(words, words_at(listing, k)) | !range_fits(bytes, text_at(listing, k))
@@ -79,7 +81,7 @@ fn is_outside(words: usize, bytes: usize, listing: &[u32], k: usize) -> bool
 
 // The lowest record that does not lie in slices of so many words and bytes, or how many there are.
 fn first_outside(words: usize, bytes: usize, listing: &[u32]) -> usize
-    ensures { result ≡ lowest (outside words bytes listing.now) (recordsIn listing.now) }
+    ensures { result ≡ lowest (outside words bytes listing.now) (records_in listing.now) }
 {
     let many = records_in(listing);
     let mut place = many;

@@ -1,8 +1,8 @@
 -- What a value has, by its kind.
---     number-found, none_found       its number, if it is one
---     bytes-found, string-in, no_bytes     its bytes, if it is a string
---     elements-found, no-elements    its elements' rows, if it is an array
---     members-found, no-members      its members' rows, if it is an object
+--     number_found, none_found       its number, if it is one
+--     bytes_found, string_in, no_bytes     its bytes, if it is a string
+--     elements_found, no_elements    its elements' rows, if it is an array
+--     members_found, no_members      its members' rows, if it is an object
 -- Assumes nothing.
 use mathlib.Core.Bool.{Bool, true, false}
 use mathlib.Core.List.{List}
@@ -16,9 +16,9 @@ use Rattle.decimal.specs.declared.Decimal.{Decimal}
 use Rattle.decimal.specs.Value.{value, Plain}
 use Rattle.text.specs.declared.Range.{Range}
 use Rattle.text.specs.Part.{fits}
-use Rattle.sheet.specs.Kinds.{kindNumber}
-use Rattle.sheet.specs.Doc.{Value, null, bool, number, string, array, object, valueKind, firstChild, childCount}
-use Rattle.sheet.specs.Record.{textWord, docOf}
+use Rattle.sheet.specs.Kinds.{kind_number}
+use Rattle.sheet.specs.Doc.{Value, null, bool, number, string, array, object, value_kind, first_child, child_count}
+use Rattle.sheet.specs.Record.{text_word, doc_of}
 use Rattle.sheet.specs.Accepted.{StringRead}
 use Rattle.meaning.specs.Lists.{range}
 use Rattle.meaning.specs.Tests.{number?, bytes?, elements?, members?}
@@ -27,61 +27,61 @@ use Rattle.looking.specs.Read.{NumberFound}
 
 -- a value is of the kind that has this number
 abbrev pub is_of : ℕ → Value → Bool
-is_of kind v = eqb (kindNumber (valueKind v)) kind
+is_of kind v = eqb (kind_number (value_kind v)) kind
 
 pub never : false ≡ true → ⊥
 never e = let z : ◌≡◌ {A = ℕ} 0 1 = cc in omega arith
 
-pub never-not : true ≡ false → ⊥
-never-not e = never (sym e)
+pub never_not : true ≡ false → ⊥
+never_not e = never (sym e)
 
 -- ---- numbers
 
 module _ (d : Decimal) where
-  pub number-found : (v : Value) → is_of 3 v ≡ true → ((z : ℤ) → v ≡ number z → value d ≡ z) → ((z : ℤ) → v ≡ number z → Plain d) → NumberFound v (Number d)
+  pub number_found : (v : Value) → is_of 3 v ≡ true → ((z : ℤ) → v ≡ number z → value d ≡ z) → ((z : ℤ) → v ≡ number z → Plain d) → NumberFound v (Number d)
   unfolding number?
-  number-found null t is fine = absurd (never t)
-  number-found (bool true) t is fine = absurd (never t)
-  number-found (bool false) t is fine = absurd (never t)
-  number-found (number z) t is fine = record { number_is = ap some (sym (is z refl)); plain = fine z refl }
-  number-found (string bytes) t is fine = absurd (never t)
-  number-found (array first k) t is fine = absurd (never t)
-  number-found (object first k) t is fine = absurd (never t)
+  number_found null t is fine = absurd (never t)
+  number_found (bool true) t is fine = absurd (never t)
+  number_found (bool false) t is fine = absurd (never t)
+  number_found (number z) t is fine = record { number_is = ap some (sym (is z refl)); plain = fine z refl }
+  number_found (string bytes) t is fine = absurd (never t)
+  number_found (array first k) t is fine = absurd (never t)
+  number_found (object first k) t is fine = absurd (never t)
 
 pub none_found : (v : Value) → is_of 3 v ≡ false → NumberFound v Other
 unfolding number?
 none_found null t = record { number_is = refl; plain = tt }
 none_found (bool b) t = record { number_is = refl; plain = tt }
-none_found (number z) t = absurd (never-not t)
+none_found (number z) t = absurd (never_not t)
 none_found (string bytes) t = record { number_is = refl; plain = tt }
 none_found (array first k) t = record { number_is = refl; plain = tt }
 none_found (object first k) t = record { number_is = refl; plain = tt }
 
 -- ---- strings
 
-pub bytes-found : (bs : List ℕ) (v : Value) → is_of 4 v ≡ true → ((bytes : List ℕ) → v ≡ string bytes → bs ≡ bytes) → bytes? v ≡ some bs
+pub bytes_found : (bs : List ℕ) (v : Value) → is_of 4 v ≡ true → ((bytes : List ℕ) → v ≡ string bytes → bs ≡ bytes) → bytes? v ≡ some bs
 unfolding bytes?
-bytes-found bs null t is = absurd (never t)
-bytes-found bs (bool true) t is = absurd (never t)
-bytes-found bs (bool false) t is = absurd (never t)
-bytes-found bs (number z) t is = absurd (never t)
-bytes-found bs (string bytes) t is = ap some (sym (is bytes refl))
-bytes-found bs (array first k) t is = absurd (never t)
-bytes-found bs (object first k) t is = absurd (never t)
+bytes_found bs null t is = absurd (never t)
+bytes_found bs (bool true) t is = absurd (never t)
+bytes_found bs (bool false) t is = absurd (never t)
+bytes_found bs (number z) t is = absurd (never t)
+bytes_found bs (string bytes) t is = ap some (sym (is bytes refl))
+bytes_found bs (array first k) t is = absurd (never t)
+bytes_found bs (object first k) t is = absurd (never t)
 
 pub no_bytes : (v : Value) → is_of 4 v ≡ false → bytes? v ≡ none
 unfolding bytes?
 no_bytes null t = refl
 no_bytes (bool b) t = refl
 no_bytes (number z) t = refl
-no_bytes (string bytes) t = absurd (never-not t)
+no_bytes (string bytes) t = absurd (never_not t)
 no_bytes (array first k) t = refl
 no_bytes (object first k) t = refl
 
-pub string-in : {ws : List ℕ} {j : ℕ} {r : Range} → StringRead ws j r → (ts : List ℕ) → is_of 4 ((docOf ws ts).value j) ≡ true → fits (textWord ws) r ≡ true
-string-in {ws} {j} {r} read ts t = within ((docOf ws ts).value j) t (read.string-fits ts)
+pub string_in : {ws : List ℕ} {j : ℕ} {r : Range} → StringRead ws j r → (ts : List ℕ) → is_of 4 ((doc_of ws ts).value j) ≡ true → fits (text_word ws) r ≡ true
+string_in {ws} {j} {r} read ts t = within ((doc_of ws ts).value j) t (read.string_fits ts)
   where
-    within : (v : Value) → is_of 4 v ≡ true → ((bytes : List ℕ) → v ≡ string bytes → fits (textWord ws) r ≡ true) → fits (textWord ws) r ≡ true
+    within : (v : Value) → is_of 4 v ≡ true → ((bytes : List ℕ) → v ≡ string bytes → fits (text_word ws) r ≡ true) → fits (text_word ws) r ≡ true
     within null t inside = absurd (never t)
     within (bool true) t inside = absurd (never t)
     within (bool false) t inside = absurd (never t)
@@ -92,40 +92,40 @@ string-in {ws} {j} {r} read ts t = within ((docOf ws ts).value j) t (read.string
 
 -- ---- children
 
-pub elements-found : (v : Value) → is_of 5 v ≡ true → elements? v ≡ some (range (firstChild v) (childCount v))
+pub elements_found : (v : Value) → is_of 5 v ≡ true → elements? v ≡ some (range (first_child v) (child_count v))
 unfolding elements?
-elements-found null t = absurd (never t)
-elements-found (bool true) t = absurd (never t)
-elements-found (bool false) t = absurd (never t)
-elements-found (number z) t = absurd (never t)
-elements-found (string bytes) t = absurd (never t)
-elements-found (array first k) t = refl
-elements-found (object first k) t = absurd (never t)
+elements_found null t = absurd (never t)
+elements_found (bool true) t = absurd (never t)
+elements_found (bool false) t = absurd (never t)
+elements_found (number z) t = absurd (never t)
+elements_found (string bytes) t = absurd (never t)
+elements_found (array first k) t = refl
+elements_found (object first k) t = absurd (never t)
 
-pub no-elements : (v : Value) → is_of 5 v ≡ false → elements? v ≡ none
+pub no_elements : (v : Value) → is_of 5 v ≡ false → elements? v ≡ none
 unfolding elements?
-no-elements null t = refl
-no-elements (bool b) t = refl
-no-elements (number z) t = refl
-no-elements (string bytes) t = refl
-no-elements (array first k) t = absurd (never-not t)
-no-elements (object first k) t = refl
+no_elements null t = refl
+no_elements (bool b) t = refl
+no_elements (number z) t = refl
+no_elements (string bytes) t = refl
+no_elements (array first k) t = absurd (never_not t)
+no_elements (object first k) t = refl
 
-pub members-found : (v : Value) → is_of 6 v ≡ true → members? v ≡ some (range (firstChild v) (childCount v))
+pub members_found : (v : Value) → is_of 6 v ≡ true → members? v ≡ some (range (first_child v) (child_count v))
 unfolding members?
-members-found null t = absurd (never t)
-members-found (bool true) t = absurd (never t)
-members-found (bool false) t = absurd (never t)
-members-found (number z) t = absurd (never t)
-members-found (string bytes) t = absurd (never t)
-members-found (array first k) t = absurd (never t)
-members-found (object first k) t = refl
+members_found null t = absurd (never t)
+members_found (bool true) t = absurd (never t)
+members_found (bool false) t = absurd (never t)
+members_found (number z) t = absurd (never t)
+members_found (string bytes) t = absurd (never t)
+members_found (array first k) t = absurd (never t)
+members_found (object first k) t = refl
 
-pub no-members : (v : Value) → is_of 6 v ≡ false → members? v ≡ none
+pub no_members : (v : Value) → is_of 6 v ≡ false → members? v ≡ none
 unfolding members?
-no-members null t = refl
-no-members (bool b) t = refl
-no-members (number z) t = refl
-no-members (string bytes) t = refl
-no-members (array first k) t = refl
-no-members (object first k) t = absurd (never-not t)
+no_members null t = refl
+no_members (bool b) t = refl
+no_members (number z) t = refl
+no_members (string bytes) t = refl
+no_members (array first k) t = refl
+no_members (object first k) t = absurd (never_not t)

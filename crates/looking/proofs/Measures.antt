@@ -14,20 +14,20 @@ use Rattle.meaning.specs.Tests.{bytes?, length_of}
 use Rattle.meaning.proofs.Members.{range_length}
 use Rattle.looking.specs.declared.sizes.Spelled.{Spelled}
 use Rattle.looking.specs.declared.sizes.Spelled.TheVariants.{Bytes, Other}
-use Rattle.looking.specs.Read.{FitsIn, StringFound, sizeBy, size_of}
+use Rattle.looking.specs.Read.{FitsIn, StringFound, size_by, size_of}
 
-pub string-inside : (n : ℕ) (s : Spelled) (r : Range) → s ≡ Bytes r → FitsIn n s → fits n r ≡ true
-string-inside n s r e inside = rw e at inside
+pub string_inside : (n : ℕ) (s : Spelled) (r : Range) → s ≡ Bytes r → FitsIn n s → fits n r ≡ true
+string_inside n s r e inside = rw e at inside
 
-pub string-size : {ts : List ℕ} {v : Value} {s : Spelled} → StringFound ts v s → (n : ℕ) (r : Range) → s ≡ Bytes r → n ≡ length_of (part ts r)
-    → some n ≡ sizeBy length_of (bytes? v)
-string-size found n r e size = rw (found.bytes-is, e) (ap some size)
+pub string_size : {ts : List ℕ} {v : Value} {s : Spelled} → StringFound ts v s → (n : ℕ) (r : Range) → s ≡ Bytes r → n ≡ length_of (part ts r)
+    → some n ≡ size_by length_of (bytes? v)
+string_size found n r e size = rw (found.bytes_is, e) (ap some size)
 
-pub no-string : {ts : List ℕ} {v : Value} {s : Spelled} → StringFound ts v s → s ≡ Other → none ≡ sizeBy length_of (bytes? v)
-no-string found e = rw (found.bytes-is, e)
+pub no_string : {ts : List ℕ} {v : Value} {s : Spelled} → StringFound ts v s → s ≡ Other → none ≡ size_by length_of (bytes? v)
+no_string found e = rw (found.bytes_is, e)
 
-pub rows-size : (first count n : ℕ) (xs : Option (List ℕ)) → n ≡ count → xs ≡ some (range first count) → some n ≡ size_of xs
-rows-size first count n xs e f = ap some (e ∙ sym (range_length first count)) ∙ sym (ap (sizeBy length) f)
+pub rows_size : (first count n : ℕ) (xs : Option (List ℕ)) → n ≡ count → xs ≡ some (range first count) → some n ≡ size_of xs
+rows_size first count n xs e f = ap some (e ∙ sym (range_length first count)) ∙ sym (ap (size_by length) f)
 
-pub no_size : (size : List ℕ → ℕ) (xs : Option (List ℕ)) → xs ≡ none → none ≡ sizeBy size xs
-no_size size xs f = sym (ap (sizeBy size) f)
+pub no_size : (size : List ℕ → ℕ) (xs : Option (List ℕ)) → xs ≡ none → none ≡ size_by size xs
+no_size size xs f = sym (ap (size_by size) f)

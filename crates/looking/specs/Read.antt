@@ -6,8 +6,8 @@ use Rattle.laws.specs.Lowest.{lowest}
 use Rattle.decimal.specs.Value.{value, Plain}
 use Rattle.text.specs.Part.{fits, part}
 use Rattle.sheet.specs.declared.record.RecordForm.{RecordForm}
-use Rattle.sheet.specs.Doc.{Value, Doc, Child, firstChild, childCount, isObject}
-use Rattle.sheet.specs.Record.{textWord, docOf}
+use Rattle.sheet.specs.Doc.{Value, Doc, Child, first_child, child_count, is_object}
+use Rattle.sheet.specs.Record.{text_word, doc_of}
 use Rattle.sheet.specs.Accepted.{Laid}
 use Rattle.meaning.specs.Tests.{number?, bytes?}
 use Rattle.meaning.specs.Rules.{called}
@@ -18,9 +18,9 @@ use Rattle.looking.specs.declared.sizes.Spelled as S
 -- no row of the record breaks the layout, the text has the length that its trailer says, and no two children of an object share a name
 pub record RecordRead (ws ts : List ℕ) (form : RecordForm) : Type 0 where
   pub laid : Laid ws form
-  pub text-length : length ts ≡ textWord ws
-  pub differ : (j k l : ℕ) → j < form.rows → isObject ((docOf ws ts).value j) ≡ true → Child (docOf ws ts) j k → Child (docOf ws ts) j l → k < l
-      → (docOf ws ts).name k ≡ (docOf ws ts).name l → ⊥
+  pub text_length : length ts ≡ text_word ws
+  pub differ : (j k l : ℕ) → j < form.rows → is_object ((doc_of ws ts).value j) ≡ true → Child (doc_of ws ts) j k → Child (doc_of ws ts) j l → k < l
+      → (doc_of ws ts).name k ≡ (doc_of ws ts).name l → ⊥
 
 -- ---- numbers, strings and sizes
 
@@ -37,9 +37,9 @@ pub record NumberFound (v : Value) (r : N.Numbered) : Type 0 where
   pub number_is : number? v ≡ number_in r
   pub plain : PlainIn r
 
-abbrev pub bytesIn : List ℕ → S.Spelled → Option (List ℕ)
-bytesIn ts (S.TheVariants.Bytes r) = some (part ts r)
-bytesIn ts S.TheVariants.Other = none
+abbrev pub bytes_in : List ℕ → S.Spelled → Option (List ℕ)
+bytes_in ts (S.TheVariants.Bytes r) = some (part ts r)
+bytes_in ts S.TheVariants.Other = none
 
 abbrev pub FitsIn : ℕ → S.Spelled → Type 0
 FitsIn n (S.TheVariants.Bytes r) = fits n r ≡ true
@@ -47,28 +47,28 @@ FitsIn n S.TheVariants.Other = Unit
 
 -- r holds where in this text the bytes of a value stand that is a string
 pub record StringFound (ts : List ℕ) (v : Value) (r : S.Spelled) : Type 0 where
-  pub bytes-is : bytes? v ≡ bytesIn ts r
+  pub bytes_is : bytes? v ≡ bytes_in ts r
   pub inside : FitsIn (length ts) r
 
-abbrev pub sizeIn : M.Measured → Option ℕ
-sizeIn (M.TheVariants.Size n) = some n
-sizeIn M.TheVariants.Other = none
+abbrev pub size_in : M.Measured → Option ℕ
+size_in (M.TheVariants.Size n) = some n
+size_in M.TheVariants.Other = none
 
 -- 0 where there is none
-abbrev pub orNone : Option ℕ → ℕ
-orNone none = 0
-orNone (some n) = n
+abbrev pub or_none : Option ℕ → ℕ
+or_none none = 0
+or_none (some n) = n
 
 -- how many there are by this measure, if there can be any
-abbrev pub sizeBy : (List ℕ → ℕ) → Option (List ℕ) → Option ℕ
-sizeBy size none = none
-sizeBy size (some xs) = some (size xs)
+abbrev pub size_by : (List ℕ → ℕ) → Option (List ℕ) → Option ℕ
+size_by size none = none
+size_by size (some xs) = some (size xs)
 
 abbrev pub size_of : Option (List ℕ) → Option ℕ
-size_of xs = sizeBy length xs
+size_of xs = size_by length xs
 
 -- ---- names
 
 -- which child of row j, counted from 0, is the first that has this name; the number of children if none has it
-abbrev pub childNamed : Doc → ℕ → List ℕ → ℕ
-childNamed d j name = lowest (λ i. called d name (firstChild (d.value j) + i)) (childCount (d.value j))
+abbrev pub child_named : Doc → ℕ → List ℕ → ℕ
+child_named d j name = lowest (λ i. called d name (first_child (d.value j) + i)) (child_count (d.value j))

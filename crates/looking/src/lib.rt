@@ -4,6 +4,8 @@
 //
 // Its contracts cite what a value has by the tests of `meaning` (`specs/Tests.antt`), when a row is
 // called by a name (`specs/Rules.antt`), and `specs/Read.antt`.
+#![tactic(auto)]
+
 pub mod members;
 pub mod numbers;
 pub mod sizes;

@@ -1,10 +1,10 @@
 // The children of a row by name.
 ghost use Rattle.std.specs.Prelude.{true, not, ◌≡◌, ◌<◌, eqb, length};
 ghost use Rattle.text.specs.Part.{fits, part};
-ghost use Rattle.sheet.specs.Doc.{childCount, isObject};
-ghost use Rattle.sheet.specs.Record.{docOf};
+ghost use Rattle.sheet.specs.Doc.{child_count, is_object};
+ghost use Rattle.sheet.specs.Record.{doc_of};
 ghost use Rattle.meaning.specs.Rules.{called};
-ghost use Rattle.looking.specs.Read.{RecordRead, childNamed};
+ghost use Rattle.looking.specs.Read.{RecordRead, child_named};
 
 use sheet::record::{RecordForm, RecordRow, children_of, name_of};
 use text::{Range, same_part};
@@ -20,7 +20,7 @@ fn has_name<'a>(
 ) -> bool
     requires record_read { RecordRead «record».now text.now form × (row.0 < form.rows) }
     requires name_value { fits (length rule_text.now) name ≡ true }
-    ensures { result ≡ called (docOf «record».now text.now) (part rule_text.now name) row.0 }
+    ensures { result ≡ called (doc_of «record».now text.now) (part rule_text.now name) row.0 }
 {
     same_part(text, name_of(record, form, row), rule_text, name)
 }
@@ -35,9 +35,9 @@ fn named_at<'a>(
     name: Range,
     at: u32,
 ) -> bool
-    requires record_read { RecordRead «record».now text.now form × (row.0 < form.rows) × (isObject ((docOf «record».now text.now).value row.0) ≡ true) }
+    requires record_read { RecordRead «record».now text.now form × (row.0 < form.rows) × (is_object ((doc_of «record».now text.now).value row.0) ≡ true) }
     requires name_value { fits (length rule_text.now) name ≡ true }
-    ensures { result ≡ true → (at < childCount ((docOf «record».now text.now).value row.0)) × (at ≡ childNamed (docOf «record».now text.now) row.0 (part rule_text.now name)) }
+    ensures { result ≡ true → (at < child_count ((doc_of «record».now text.now).value row.0)) × (at ≡ child_named (doc_of «record».now text.now) row.0 (part rule_text.now name)) }
 {
     let children = children_of(record, form, row);
     if at < children.count {
@@ -65,7 +65,7 @@ fn first_named<'a>(
 ) -> u32
     requires record_read { RecordRead «record».now text.now form × (row.0 < form.rows) }
     requires name_value { fits (length rule_text.now) name ≡ true }
-    ensures { result ≡ childNamed (docOf «record».now text.now) row.0 (part rule_text.now name) }
+    ensures { result ≡ child_named (doc_of «record».now text.now) row.0 (part rule_text.now name) }
 {
     let children = children_of(record, form, row);
     let first = children.first;
@@ -97,9 +97,9 @@ fn named_elsewhere<'a>(
     name: Range,
     hint: u32,
 ) -> u32
-    requires record_read { RecordRead «record».now text.now form × (row.0 < form.rows) × (isObject ((docOf «record».now text.now).value row.0) ≡ true) }
+    requires record_read { RecordRead «record».now text.now form × (row.0 < form.rows) × (is_object ((doc_of «record».now text.now).value row.0) ≡ true) }
     requires name_value { fits (length rule_text.now) name ≡ true }
-    ensures { result ≡ childNamed (docOf «record».now text.now) row.0 (part rule_text.now name) }
+    ensures { result ≡ child_named (doc_of «record».now text.now) row.0 (part rule_text.now name) }
 {
     let other = mirrored(children_of(record, form, row).count, hint);
     if named_at(record, text, form, row, rule_text, name, other) {
@@ -118,9 +118,9 @@ pub fn child_named<'a>(
     name: Range,
     hint: u32,
 ) -> u32
-    requires record_read { RecordRead «record».now text.now form × (row.0 < form.rows) × (isObject ((docOf «record».now text.now).value row.0) ≡ true) }
+    requires record_read { RecordRead «record».now text.now form × (row.0 < form.rows) × (is_object ((doc_of «record».now text.now).value row.0) ≡ true) }
     requires name_value { fits (length rule_text.now) name ≡ true }
-    ensures { result ≡ childNamed (docOf «record».now text.now) row.0 (part rule_text.now name) }
+    ensures { result ≡ child_named (doc_of «record».now text.now) row.0 (part rule_text.now name) }
 {
     if named_at(record, text, form, row, rule_text, name, hint) {
         return hint;
@@ -139,9 +139,9 @@ pub fn has_member<'a>(
     hint: u32,
     members: u32,
 ) -> bool
-    requires record_read { RecordRead «record».now text.now form × (row.0 < form.rows) × (isObject ((docOf «record».now text.now).value row.0) ≡ true) }
-    requires name_value { (fits (length rule_text.now) name ≡ true) × (members ≡ childCount ((docOf «record».now text.now).value row.0)) }
-    ensures { result ≡ not (eqb (childNamed (docOf «record».now text.now) row.0 (part rule_text.now name)) members) }
+    requires record_read { RecordRead «record».now text.now form × (row.0 < form.rows) × (is_object ((doc_of «record».now text.now).value row.0) ≡ true) }
+    requires name_value { (fits (length rule_text.now) name ≡ true) × (members ≡ child_count ((doc_of «record».now text.now).value row.0)) }
+    ensures { result ≡ not (eqb (child_named (doc_of «record».now text.now) row.0 (part rule_text.now name)) members) }
 {
     if named_at(record, text, form, row, rule_text, name, hint) {
         return true;

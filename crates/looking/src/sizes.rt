@@ -2,10 +2,10 @@
 // and where the bytes of a string stand.
 ghost use Rattle.std.specs.Prelude.{List, ◌≡◌, ℕ, ◌<◌, length};
 ghost use Rattle.sheet.specs.Doc.{Value};
-ghost use Rattle.sheet.specs.Record.{textWord, docOf};
+ghost use Rattle.sheet.specs.Record.{text_word, doc_of};
 ghost use Rattle.sheet.specs.Accepted.{Laid};
 ghost use Rattle.meaning.specs.Tests.{bytes?, elements?, members?, length_of};
-ghost use Rattle.looking.specs.Read.{FitsIn, sizeIn, sizeBy, size_of, StringFound};
+ghost use Rattle.looking.specs.Read.{FitsIn, size_in, size_by, size_of, StringFound};
 
 use crate::numbers::is_kind;
 use sheet::kind::RowKind;
@@ -13,14 +13,14 @@ use sheet::record::{RecordForm, RecordRow, children_of, string_of};
 use text::Range;
 
 // A row's size, or that it has none of the sort that is asked for.
-#[derive(Drop)]
+#[derive(Clone, Copy)]
 pub enum Measured {
     Size(u32),
     Other,
 }
 
 // A string's bytes, as a range of the text, or that a row is no string.
-#[derive(Drop)]
+#[derive(Clone, Copy)]
 pub enum Spelled {
     Bytes(Range),
     Other,
@@ -29,7 +29,7 @@ pub enum Spelled {
 // The row's bytes, if it is a string.
 pub fn string_in(record: &[u32], form: RecordForm, row: RecordRow) -> Spelled
     requires { Laid «record».now form × (row.0 < form.rows) }
-    ensures { (ts : List ℕ) → length ts ≡ textWord «record».now → StringFound ts ((docOf «record».now ts).value row.0) result }
+    ensures { (ts : List ℕ) → length ts ≡ text_word «record».now → StringFound ts ((doc_of «record».now ts).value row.0) result }
 {
     if !is_kind(record, form, row, RowKind::STRING) {
         return Spelled::Other;
@@ -40,7 +40,7 @@ pub fn string_in(record: &[u32], form: RecordForm, row: RecordRow) -> Spelled
 // How many characters a string has that was found.
 pub fn length_of(text: &[u8], found: Spelled) -> Measured
     requires { FitsIn (length text.now) found }
-    ensures { (v : Value) → StringFound text.now v found → sizeIn result ≡ sizeBy length_of (bytes? v) }
+    ensures { (v : Value) → StringFound text.now v found → size_in result ≡ size_by length_of (bytes? v) }
 {
     match found {
         Spelled::Bytes(bytes) => Measured::Size(counting::characters(text, bytes)),
@@ -51,7 +51,7 @@ pub fn length_of(text: &[u8], found: Spelled) -> Measured
 // How many elements an array has.
 pub fn elements_of(record: &[u32], form: RecordForm, row: RecordRow) -> Measured
     requires { Laid «record».now form × (row.0 < form.rows) }
-    ensures { (ts : List ℕ) → sizeIn result ≡ size_of (elements? ((docOf «record».now ts).value row.0)) }
+    ensures { (ts : List ℕ) → size_in result ≡ size_of (elements? ((doc_of «record».now ts).value row.0)) }
 {
     if !is_kind(record, form, row, RowKind::ARRAY) {
         return Measured::Other;
@@ -62,7 +62,7 @@ pub fn elements_of(record: &[u32], form: RecordForm, row: RecordRow) -> Measured
 // How many members an object has.
 pub fn members_of(record: &[u32], form: RecordForm, row: RecordRow) -> Measured
     requires { Laid «record».now form × (row.0 < form.rows) }
-    ensures { (ts : List ℕ) → sizeIn result ≡ size_of (members? ((docOf «record».now ts).value row.0)) }
+    ensures { (ts : List ℕ) → size_in result ≡ size_of (members? ((doc_of «record».now ts).value row.0)) }
 {
     if !is_kind(record, form, row, RowKind::OBJECT) {
         return Measured::Other;

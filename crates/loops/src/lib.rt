@@ -1,12 +1,14 @@
 // Refusal 8: the lowest schema on an unguarded loop. Then 8 and 9 together.
 //
 // Its contracts cite `Graph`, `Places` and `Worklist` of `unguarded`.
+#![tactic(auto)]
+
 ghost use Rattle.std.specs.Prelude.{◌∷◌, [], ◌≡◌, ◌<◌};
-ghost use Rattle.rulesheet.specs.Sheet.{schemasWord, clausesWord, targetsOf, next_of};
-ghost use Rattle.rulesheet.specs.Faults.{schemas-max};
+ghost use Rattle.rulesheet.specs.Sheet.{schemas_word, clauses_word, targets_of, next_of};
+ghost use Rattle.rulesheet.specs.Faults.{schemas_max};
 ghost use Rattle.rulesheet.specs.Read.{RulesLaid};
-ghost use Rattle.unguarded.specs.Graph.{onLoop};
-ghost use Rattle.unguarded.specs.Places.{loopPlace, Placed};
+ghost use Rattle.unguarded.specs.Graph.{on_loop};
+ghost use Rattle.unguarded.specs.Places.{loop_place, Placed};
 ghost use Rattle.unguarded.specs.Worklist.{Tidy, Visited};
 
 use chains::long_place;
@@ -23,7 +25,7 @@ fn visit(
     tail: usize,
     t: RuleRow,
 ) -> usize
-    requires { Tidy seen.old queue.old tail × (t.0 < schemas-max) }
+    requires { Tidy seen.old queue.old tail × (t.0 < schemas_max) }
     ensures { Visited (t.0 ∷ []) seen.old queue.old tail seen.new queue.new result }
 {
     let at = wide(t.0);
@@ -44,8 +46,8 @@ fn visit_clause(
     queue: &mut [u32; RuleForm::SCHEMAS_MAX],
     tail: usize,
 ) -> usize
-    requires { RulesLaid words.now form × (k < clausesWord words.now) × Tidy seen.old queue.old tail }
-    ensures { Visited (targetsOf words.now k) seen.old queue.old tail seen.new queue.new result }
+    requires { RulesLaid words.now form × (k < clauses_word words.now) × Tidy seen.old queue.old tail }
+    ensures { Visited (targets_of words.now k) seen.old queue.old tail seen.new queue.new result }
 {
     let n = steps_of(words, form, k);
     let mut end = tail;
@@ -66,7 +68,7 @@ fn visit_next(
     queue: &mut [u32; RuleForm::SCHEMAS_MAX],
     tail: usize,
 ) -> usize
-    requires { RulesLaid words.now form × (s.0 < schemasWord words.now) × Tidy seen.old queue.old tail }
+    requires { RulesLaid words.now form × (s.0 < schemas_word words.now) × Tidy seen.old queue.old tail }
     ensures { Visited (next_of words.now s.0) seen.old queue.old tail seen.new queue.new result }
 {
     let row = schema_at(words, form, s);
@@ -84,8 +86,8 @@ fn visit_next(
 // Whether schema s is on a loop: each schema that s reaches is visited once, and s is on a loop if
 // it was among them.
 fn on_loop(words: &[u32], form: RuleForm, s: RuleRow) -> bool
-    requires { RulesLaid words.now form × (s.0 < schemasWord words.now) }
-    ensures { result ≡ onLoop (schemasWord words.now) (next_of words.now) s.0 }
+    requires { RulesLaid words.now form × (s.0 < schemas_word words.now) }
+    ensures { result ≡ on_loop (schemas_word words.now) (next_of words.now) s.0 }
 {
     let mut seen = [0u8; RuleForm::SCHEMAS_MAX];
     let mut queue = [0u32; RuleForm::SCHEMAS_MAX];
@@ -103,7 +105,7 @@ fn on_loop(words: &[u32], form: RuleForm, s: RuleRow) -> bool
 // The lowest schema on a loop, or the number of schemas.
 fn first_loop(words: &[u32], form: RuleForm) -> u32
     requires { RulesLaid words.now form }
-    ensures { result ≡ loopPlace (schemasWord words.now) (next_of words.now) }
+    ensures { result ≡ loop_place (schemas_word words.now) (next_of words.now) }
 {
     let m = form.m;
     let mut s = 0;

@@ -2,9 +2,11 @@
 // open here, so what these functions keep costs no stack.
 //
 // The contracts cite `specs/Lent.antt` of `lent`.
+#![tactic(auto)]
+
 ghost use Rattle.std.specs.Prelude.{◌≡◌, ◌<◌, length, get_or};
-ghost use Rattle.areas.specs.Cells.{pairIs, cell_at, verd};
-ghost use Rattle.lent.specs.Lent.{lentCase, Reads, WritesMarks, MarksWritten, kept, Hands, givenOn};
+ghost use Rattle.areas.specs.Cells.{pair_is, cell_at, verd};
+ghost use Rattle.lent.specs.Lent.{lent_case, Reads, WritesMarks, MarksWritten, kept, Hands, given_on};
 
 use areas::write_mark;
 use columns::{add_marks, take_marks};
@@ -13,8 +15,8 @@ use sheet::record::{Pair, children_of};
 
 // The verdict in the pair's cell.
 pub fn verdict_of(forms: &[usize; 9], cells: &[u8], p: Pair) -> u8
-    requires { (cell_at (get_or forms.now 5 0) (pairIs p) < length cells.now) × (length cells.now < 4294967296) }
-    ensures { result ≡ verd (get_or cells.now (cell_at (get_or forms.now 5 0) (pairIs p)) 0) }
+    requires { (cell_at (get_or forms.now 5 0) (pair_is p) < length cells.now) × (length cells.now < 4294967296) }
+    ensures { result ≡ verd (get_or cells.now (cell_at (get_or forms.now 5 0) (pair_is p)) 0) }
 {
     areas::verdict_of(cells, schemas_of(forms), p)
 }
@@ -29,9 +31,9 @@ pub fn give<'a, 'b>(
     q: Pair,
     keeps: bool,
 )
-    requires reads { Reads sheets.now texts.now forms.now (pairIs p) }
-    requires hands { Hands (lentCase sheets.now texts.now forms.now) (pairIs p) (pairIs q) cells.old }
-    ensures { MarksWritten (lentCase sheets.now texts.now forms.now) (pairIs p) (givenOn keeps (lentCase sheets.now texts.now forms.now).m cells.old p.row.0 p.rule.0 q.row.0 q.rule.0) cells.old cells.new }
+    requires reads { Reads sheets.now texts.now forms.now (pair_is p) }
+    requires hands { Hands (lent_case sheets.now texts.now forms.now) (pair_is p) (pair_is q) cells.old }
+    ensures { MarksWritten (lent_case sheets.now texts.now forms.now) (pair_is p) (given_on keeps (lent_case sheets.now texts.now forms.now).m cells.old p.row.0 p.rule.0 q.row.0 q.rule.0) cells.old cells.new }
 {
     if !keeps {
         return;
@@ -55,9 +57,9 @@ pub fn shut<'a, 'b>(
     p: Pair,
     ok: bool,
 )
-    requires reads { Reads sheets.now texts.now forms.now (pairIs p) }
-    requires writes_marks { WritesMarks (lentCase sheets.now texts.now forms.now) (pairIs p) cells.old }
-    ensures { MarksWritten (lentCase sheets.now texts.now forms.now) (pairIs p) (kept (lentCase sheets.now texts.now forms.now).m cells.old p.rule.0 ok) cells.old cells.new }
+    requires reads { Reads sheets.now texts.now forms.now (pair_is p) }
+    requires writes_marks { WritesMarks (lent_case sheets.now texts.now forms.now) (pair_is p) cells.old }
+    ensures { MarksWritten (lent_case sheets.now texts.now forms.now) (pair_is p) (kept (lent_case sheets.now texts.now forms.now).m cells.old p.rule.0 ok) cells.old cells.new }
 {
     if ok {
         return;

@@ -14,72 +14,72 @@ use lib.Dec.{ltb}
 use lib.ListN.{length, get_or, take, drop, length-map, length-append, length-drop, get_or-append}
 use lib.Seq.{take_at, drop_at}
 use borrow.Author.Tests.{ltb-true, ltb-false, le-ltb}
-use Rattle.laws.proofs.Tests.{le-or-lt}
-use Rattle.sheet.specs.Refusals.{accepted, refused, Line, firstLine}
-use Rattle.sheet.specs.Doc.{null, string, Doc, firstChild, childCount}
-use Rattle.sheet.specs.Record.{rowsWord, docOf}
-use Rattle.sheet.specs.Faults.{recordLines, recordOutcome}
-use Rattle.sheet.proofs.Shape.{well-formed}
+use Rattle.laws.proofs.Tests.{le_or_lt}
+use Rattle.sheet.specs.Refusals.{accepted, refused, Line, first_line}
+use Rattle.sheet.specs.Doc.{null, string, Doc, first_child, child_count}
+use Rattle.sheet.specs.Record.{rows_word, doc_of}
+use Rattle.sheet.specs.Faults.{record_lines, record_outcome}
+use Rattle.sheet.proofs.Shape.{well_formed}
 use Rattle.rulesheet.specs.Ruleset.{Ruleset}
-use Rattle.rulesheet.specs.Sheet.{schemasWord, rulesOf}
-use Rattle.rules.specs.Check.{ruleLines, rulesOutcome}
-use Rattle.meaning.specs.Lists.{range, keep, concatMap}
+use Rattle.rulesheet.specs.Sheet.{schemas_word, rules_of}
+use Rattle.rules.specs.Check.{rule_lines, rules_outcome}
+use Rattle.meaning.specs.Lists.{range, keep, concat_map}
 use Rattle.meaning.specs.Rules.{Pair, Result, Way, whole, cut, truth}
 use Rattle.meaning.specs.Derivation.{Schema}
 use Rattle.meaning.specs.Settling.{listed, root, settled, word, list, cell, cells, marked, shown}
 use Rattle.meaning.specs.Keywords.{WellSpelled}
 use Rattle.meaning.specs.Fit.{Fit}
 use Rattle.meaning.specs.Once.{Distinct}
-use Rattle.meaning.specs.Answer.{verdict, Left, areaLines, table, judged, judge}
-use Rattle.meaning.specs.Demands.{NoneOf, Shows, unsettled, held, failed, Adds, marked as is-marked, at-root, owner-unsettled, unmarked, CellIs, markedOf, Right, Listed, Reaching, Settles, Demands}
-use Rattle.meaning.proofs.Rows.{rows_at, rows-length}
-use Rattle.meaning.proofs.Words.{word-inside}
+use Rattle.meaning.specs.Answer.{verdict, Left, area_lines, table, judged, judge}
+use Rattle.meaning.specs.Demands.{NoneOf, Shows, unsettled, held, failed, Adds, marked as is_marked, at_root, owner_unsettled, unmarked, CellIs, marked_of, Right, Listed, Reaching, Settles, Demands}
+use Rattle.meaning.proofs.Rows.{rows_at, rows_length}
+use Rattle.meaning.proofs.Words.{word_inside}
 use Rattle.meaning.proofs.Assertions.{assertions}
 use Rattle.meaning.proofs.Reaches.{reaches}
 use Rattle.meaning.proofs.Joinings.{joinings}
-use Rattle.meaning.proofs.Truth.{truth-derived, truth-only}
-use Rattle.meaning.proofs.Marks.{marks-children, failed-none}
-use Rattle.meaning.proofs.Settled.{listed_in, not_listed, words-distinct}
+use Rattle.meaning.proofs.Truth.{truth_derived, truth_only}
+use Rattle.meaning.proofs.Marks.{marks_children, failed_none}
+use Rattle.meaning.proofs.Settled.{listed_in, not_listed, words_distinct}
 use Rattle.meaning.proofs.Trees.{once, cuts}
-use Rattle.meaning.proofs.Shown.{cells-shown}
+use Rattle.meaning.proofs.Shown.{cells_shown}
 use Rattle.meaning.proofs.Answers.{by_lines, fits}
-use Rattle.meaning.proofs.Refused.{none-given, total}
+use Rattle.meaning.proofs.Refused.{none_given, total}
 
 -- ---- a cell
 
-shows-by : (done : List Pair) (p : Pair) (r : Result) (b h : Bool) → listed p done ≡ b → r.holds ≡ h → Shows done p r (cond b (cond h 1 2) 0)
-shows-by done p r true true e f = held (listed_in p done e) f
-shows-by done p r true false e f = failed (listed_in p done e) f
-shows-by done p r false h e f = unsettled (not_listed p done e)
+shows_by : (done : List Pair) (p : Pair) (r : Result) (b h : Bool) → listed p done ≡ b → r.holds ≡ h → Shows done p r (cond b (cond h 1 2) 0)
+shows_by done p r true true e f = held (listed_in p done e) f
+shows_by done p r true false e f = failed (listed_in p done e) f
+shows_by done p r false h e f = unsettled (not_listed p done e)
 
-adds-by : (done : List Pair) (j : ℕ) (up : Pair) (r : Result) (a b c : Bool) → ltb 0 j ≡ a → listed up done ≡ b → r.marks j ≡ c
+adds_by : (done : List Pair) (j : ℕ) (up : Pair) (r : Result) (a b c : Bool) → ltb 0 j ≡ a → listed up done ≡ b → r.marks j ≡ c
     → Adds done j up r (cond (a && b && c) 4 0)
-adds-by done j up r true true true e f g = is-marked (ltb-true 0 j e) (listed_in up done f) g
-adds-by done j up r true true false e f g = unmarked g
-adds-by done j up r true false c e f g = owner-unsettled (not_listed up done f)
-adds-by done j up r false b c e f g = at-root (no_row (ltb-false 0 j e))
+adds_by done j up r true true true e f g = is_marked (ltb-true 0 j e) (listed_in up done f) g
+adds_by done j up r true true false e f g = unmarked g
+adds_by done j up r true false c e f g = owner_unsettled (not_listed up done f)
+adds_by done j up r false b c e f g = at_root (no_row (ltb-false 0 j e))
   where
     no_row : j ≤ 0 → j ≡ 0
     no_row h = omega arith
 
-cell-by : (D : Doc) (R : Ruleset) (n m : ℕ) (done : List Pair) (t : Pair → Result) → ((p : Pair) → t p ≡ truth D R p)
+cell_by : (D : Doc) (R : Ruleset) (n m : ℕ) (done : List Pair) (t : Pair → Result) → ((p : Pair) → t p ≡ truth D R p)
     → (j s : ℕ) → CellIs done (record { row = j; rule = s }) (record { row = D.owner j; rule = s }) t (cell D R n m done (record { row = j; rule = s }))
 unfolding cell
-cell-by D R n m done t same j s =
+cell_by D R n m done t same j s =
     let own : Pair = record { row = j; rule = s } in
     let up : Pair = record { row = D.owner j; rule = s } in
     record {
-      verdict-part = cond (listed own done) (cond (truth D R own).holds 1 2) 0;
-      mark-part = cond (ltb 0 j && listed up done && (truth D R up).marks j) 4 0;
-      shows = shows-by done own (t own) (listed own done) (truth D R own).holds refl (ap (λ (r : Result). r.holds) (same own));
-      adds = adds-by done j up (t up) (ltb 0 j) (listed up done) ((truth D R up).marks j) refl refl (ap (λ (r : Result). r.marks j) (same up));
+      verdict_part = cond (listed own done) (cond (truth D R own).holds 1 2) 0;
+      mark_part = cond (ltb 0 j && listed up done && (truth D R up).marks j) 4 0;
+      shows = shows_by done own (t own) (listed own done) (truth D R own).holds refl (ap (λ (r : Result). r.holds) (same own));
+      adds = adds_by done j up (t up) (ltb 0 j) (listed up done) ((truth D R up).marks j) refl refl (ap (λ (r : Result). r.marks j) (same up));
       together = refl;
     }
 
 -- past the rows there are nulls
-past-rows : (ws ts : List ℕ) (j : ℕ) → rowsWord ws ≤ j → WellSpelled ((docOf ws ts).value j)
-unfolding docOf
-past-rows ws ts j h = λ bytes e. absurd (never bytes (rw (le-ltb j (rowsWord ws) h) at e))
+past_rows : (ws ts : List ℕ) (j : ℕ) → rows_word ws ≤ j → WellSpelled ((doc_of ws ts).value j)
+unfolding doc_of
+past_rows ws ts j h = λ bytes e. absurd (never bytes (rw (le-ltb j (rows_word ws) h) at e))
   where
     never : (bytes : List ℕ) → null ≡ string bytes → ⊥
     never bytes f = let z : ◌≡◌ {A = ℕ} 0 1 = cc in omega arith
@@ -91,44 +91,44 @@ module _ (w : Way) (ws ts rs us cs ls : List ℕ) where
   lines = table w ws ts rs us cs ls
 
   abbrev D : Doc
-  D = docOf ws ts
+  D = doc_of ws ts
 
   abbrev R : Ruleset
-  R = rulesOf rs us
+  R = rules_of rs us
 
   abbrev n : ℕ
-  n = rowsWord ws
+  n = rows_word ws
 
   abbrev m : ℕ
-  m = schemasWord rs
+  m = schemas_word rs
 
   module _ (none : NoneOf lines) where
-    good : recordOutcome ws ts ≡ accepted n
-    unfolding recordOutcome firstLine
-    good = none-given (recordLines ws ts) [] n (λ l i. none l (Memᴰ.append_left (ruleLines rs us ++ areaLines w (n * m) (length cs) (length ls)) i))
+    good : record_outcome ws ts ≡ accepted n
+    unfolding record_outcome first_line
+    good = none_given (record_lines ws ts) [] n (λ l i. none l (Memᴰ.append_left (rule_lines rs us ++ area_lines w (n * m) (length cs) (length ls)) i))
 
-    fine : rulesOutcome rs us ≡ accepted m
-    unfolding rulesOutcome firstLine
+    fine : rules_outcome rs us ≡ accepted m
+    unfolding rules_outcome first_line
     fine =
-        none-given (ruleLines rs us) [] m
-        (λ l i. none l (Memᴰ.append_right (recordLines ws ts) (Memᴰ.append_left (areaLines w (n * m) (length cs) (length ls)) i)))
+        none_given (rule_lines rs us) [] m
+        (λ l i. none l (Memᴰ.append_right (record_lines ws ts) (Memᴰ.append_left (area_lines w (n * m) (length cs) (length ls)) i)))
 
     fit : Fit D R n m
     fit = fits w ws ts rs us cs ls n good m fine
 
     roomy : n * m ≤ length cs
-    roomy = ltb-false (length cs) (n * m) (none _ (Memᴰ.append_right (recordLines ws ts) (Memᴰ.append_right (ruleLines rs us) (at_head refl))))
+    roomy = ltb-false (length cs) (n * m) (none _ (Memᴰ.append_right (record_lines ws ts) (Memᴰ.append_right (rule_lines rs us) (at_head refl))))
 
     goes_on : judge w ws ts rs us cs ls ≡ judged w D R n m cs ls
-    unfolding firstLine
-    goes_on = by_lines w ws ts rs us cs ls (accepted 0) (none-given lines [] 0 none)
+    unfolding first_line
+    goes_on = by_lines w ws ts rs us cs ls (accepted 0) (none_given lines [] 0 none)
 
     abbrev all : List Pair
     all = settled D R w
 
-    cells-size : length (cells D R n m w) ≡ n * m
+    cells_size : length (cells D R n m w) ≡ n * m
     unfolding cells
-    cells-size = rows-length (λ j s. cell D R n m all (record { row = j; rule = s })) m 0 n
+    cells_size = rows_length (λ j s. cell D R n m all (record { row = j; rule = s })) m 0 n
 
     module _ (left : Left) (e : left ≡ judged w D R n m cs ls) where
       cells_are : left.cells ≡ cells D R n m w ++ drop (n * m) cs
@@ -140,41 +140,41 @@ module _ (w : Way) (ws ts rs us cs ls : List ℕ) where
       cell_at j s h g =
           let z : 0 + j ≡ j = omega arith in
           ap (λ l. get_or l (j * m + s) 0) cells_are
-          ∙ get_or-append (cells D R n m w) (drop (n * m) cs) 0 (j * m + s) (rw cells-size (word-inside n m j s h g))
+          ∙ get_or-append (cells D R n m w) (drop (n * m) cs) 0 (j * m + s) (rw cells_size (word_inside n m j s h g))
           ∙ rows_at (λ i k. cell D R n m all (record { row = i; rule = k })) m 0 n j s h g
           ∙ ap (λ (i : ℕ). cell D R n m all (record { row = i; rule = s })) z
 
       right : (t : Pair → Result) → ((p : Pair) → Schema D R p (t p)) → Right w ws ts rs us cs ls left t all
       unfolding judged marked
       right t d =
-          let same : (p : Pair) → t p ≡ truth D R p = λ p. truth-only D R n m fit p (t p) (d p) in
+          let same : (p : Pair) → t p ≡ truth D R p = λ p. truth_only D R n m fit p (t p) (d p) in
           record {
-            verdict-is = ap (λ (x : Left). x.answer) e ∙ ap (λ (r : Result). verdict r.holds (length all) (markedOf D 0 r.marks)) (sym (same root));
-            cell-is = λ j s h g.
-                subst (CellIs all (record { row = j; rule = s }) (record { row = D.owner j; rule = s }) t) (sym (cell_at j s h g)) (cell-by D R n m all t same j s);
-            cells-after = ap (drop (n * m)) cells_are ∙ drop_at (cells D R n m w) (drop (n * m) cs) (n * m) cells-size;
-            cells-long = ap length cells_are ∙ length-append (cells D R n m w) (drop (n * m) cs) ∙ omega (arith, cells-size, length-drop (n * m) cs, roomy);
+            verdict_is = ap (λ (x : Left). x.answer) e ∙ ap (λ (r : Result). verdict r.holds (length all) (marked_of D 0 r.marks)) (sym (same root));
+            cell_is = λ j s h g.
+                subst (CellIs all (record { row = j; rule = s }) (record { row = D.owner j; rule = s }) t) (sym (cell_at j s h g)) (cell_by D R n m all t same j s);
+            cells_after = ap (drop (n * m)) cells_are ∙ drop_at (cells D R n m w) (drop (n * m) cs) (n * m) cells_size;
+            cells_long = ap length cells_are ∙ length-append (cells D R n m w) (drop (n * m) cs) ∙ omega (arith, cells_size, length-drop (n * m) cs, roomy);
           }
 
       counted : shown (take (n * m) left.cells) ≡ length all
-      counted = ap shown (ap (take (n * m)) cells_are ∙ take_at (cells D R n m w) (drop (n * m) cs) (n * m) cells-size) ∙ cells-shown D R n m fit w
+      counted = ap shown (ap (take (n * m)) cells_are ∙ take_at (cells D R n m w) (drop (n * m) cs) (n * m) cells_size) ∙ cells_shown D R n m fit w
 
-  demands-by : (left : Left) → left ≡ judge w ws ts rs us cs ls
+  demands_by : (left : Left) → left ≡ judge w ws ts rs us cs ls
       → ((none : NoneOf lines) → Settles w ws ts rs us cs ls w left (settled D R w)) → Demands w ws ts rs us cs ls left
-  demands-by left e settles =
+  demands_by left e settles =
       record {
         total = total w ws ts rs us cs ls left e;
         assertions = assertions D;
-        readable = λ none j. ⊎_elim (λ (h : n ≤ j). past-rows ws ts j h) (λ (h : j < n). (well-formed ws ts n (good none)).readable j h) (le-or-lt n j);
+        readable = λ none j. ⊎_elim (λ (h : n ≤ j). past_rows ws ts j h) (λ (h : j < n). (well_formed ws ts n (good none)).readable j h) (le_or_lt n j);
         reaches = reaches D;
         joinings = joinings;
         derived = λ none p.
             record {
               result = truth D R p;
-              tree = truth-derived D R n m (fit none) p;
-              one-result = truth-only D R n m (fit none) p;
-              of-children = marks-children D R p;
-              none-failed = failed-none D R p;
+              tree = truth_derived D R n m (fit none) p;
+              one_result = truth_only D R n m (fit none) p;
+              of_children = marks_children D R p;
+              none_failed = failed_none D R p;
             };
         judged = λ none. (settled D R w, settles none, right none left (e ∙ goes_on none));
       }
@@ -183,16 +183,16 @@ module _ (w : Way) (ws ts rs us cs ls : List ℕ) where
 
 module _ (ws ts rs us cs ls : List ℕ) where
   abbrev D₀ : Doc
-  D₀ = docOf ws ts
+  D₀ = doc_of ws ts
 
   abbrev R₀ : Ruleset
-  R₀ = rulesOf rs us
+  R₀ = rules_of rs us
 
   abbrev n₀ : ℕ
-  n₀ = rowsWord ws
+  n₀ = rows_word ws
 
   abbrev m₀ : ℕ
-  m₀ = schemasWord rs
+  m₀ = schemas_word rs
 
   -- of a full call, its list
   listing : (left : Left) → left ≡ judge whole ws ts rs us cs ls → NoneOf (table whole ws ts rs us cs ls) → Listed whole ws ts rs us cs ls left (settled D₀ R₀ whole)
@@ -200,13 +200,13 @@ module _ (ws ts rs us cs ls : List ℕ) where
   listing left e none =
       let all = settled D₀ R₀ whole in
       let fit₀ = fit whole ws ts rs us cs ls none in
-      let list-is : left.list ≡ map (word D₀ R₀ n₀ m₀) all ++ drop (length all) ls = ap (λ (x : Left). x.list) (e ∙ goes_on whole ws ts rs us cs ls none) in
+      let list_is : left.list ≡ map (word D₀ R₀ n₀ m₀) all ++ drop (length all) ls = ap (λ (x : Left). x.list) (e ∙ goes_on whole ws ts rs us cs ls none) in
       let long : length (map (word D₀ R₀ n₀ m₀) all) ≡ length all = length-map all (word D₀ R₀ n₀ m₀) in
-      let first = ap (take (length all)) list-is ∙ take_at (map (word D₀ R₀ n₀ m₀) all) (drop (length all) ls) (length all) long in
+      let first = ap (take (length all)) list_is ∙ take_at (map (word D₀ R₀ n₀ m₀) all) (drop (length all) ls) (length all) long in
       record {
         words = first;
-        words-after = ap (drop (length all)) list-is ∙ drop_at (map (word D₀ R₀ n₀ m₀) all) (drop (length all) ls) (length all) long;
-        words-distinct = subst Distinct (sym first) (words-distinct D₀ R₀ whole n₀ m₀ fit₀);
+        words_after = ap (drop (length all)) list_is ∙ drop_at (map (word D₀ R₀ n₀ m₀) all) (drop (length all) ls) (length all) long;
+        words_distinct = subst Distinct (sym first) (words_distinct D₀ R₀ whole n₀ m₀ fit₀);
         pairs = once D₀ R₀ n₀ m₀ fit₀;
       }
 
@@ -216,11 +216,11 @@ module _ (ws ts rs us cs ls : List ℕ) where
   reaching left e none =
       let f = e ∙ goes_on cut ws ts rs us cs ls none in
       record {
-        cells-counted = counted cut ws ts rs us cs ls none left f;
-        no-list = ap (λ (x : Left). x.list) f;
+        cells_counted = counted cut ws ts rs us cs ls none left f;
+        no_list = ap (λ (x : Left). x.list) f;
         pairs = cuts D₀ R₀ n₀ m₀ (fit cut ws ts rs us cs ls none);
       }
 
 pub demands : (w : Way) (ws ts rs us cs ls : List ℕ) (left : Left) → left ≡ judge w ws ts rs us cs ls → Demands w ws ts rs us cs ls left
-demands whole ws ts rs us cs ls left e = demands-by whole ws ts rs us cs ls left e (listing ws ts rs us cs ls left e)
-demands cut ws ts rs us cs ls left e = demands-by cut ws ts rs us cs ls left e (reaching ws ts rs us cs ls left e)
+demands whole ws ts rs us cs ls left e = demands_by whole ws ts rs us cs ls left e (listing ws ts rs us cs ls left e)
+demands cut ws ts rs us cs ls left e = demands_by cut ws ts rs us cs ls left e (reaching ws ts rs us cs ls left e)

@@ -9,20 +9,20 @@ use Prim.Native.Nat.{ℕ}
 use mathlib.Core.Path.{◌≡◌, refl}
 use mathlib.Core.List.{List, [], ◌∷◌, map}
 use lib.ListN.{replicate}
-use Rattle.laws.specs.Lowest.{lowestFrom}
+use Rattle.laws.specs.Lowest.{lowest_from}
 use Rattle.text.specs.Part
 use Rattle.utf8.specs.Automaton
 use Rattle.decimal.specs.Value
-use Rattle.names.specs.Names.{repeatsBy}
+use Rattle.names.specs.Names.{repeats_by}
 use Rattle.sheet.specs.Kinds.{kind_of}
 use Rattle.sheet.specs.Doc.{levels, level}
 use Rattle.sheet.specs.Record as D
 use Rattle.sheet.specs.Faults as F
 use Rattle.rulesheet.specs.Ruleset as R
-use Rattle.rulesheet.specs.Codes.{lineIn}
+use Rattle.rulesheet.specs.Codes.{line_in}
 use Rattle.rulesheet.specs.Sheet as S
 use Rattle.rulesheet.specs.Faults as C
-use Rattle.unguarded.specs.Graph.{someOf, chain, via, onLoop}
+use Rattle.unguarded.specs.Graph.{some_of, chain, via, on_loop}
 use Rattle.meaning.specs.Lists
 use Rattle.meaning.specs.Tests
 use Rattle.meaning.specs.Rules
@@ -33,8 +33,8 @@ use Rattle.meaning.specs.Answer.{valid, invalid, refuses, Left, judge}
 pub record Sample : Type 0 where
   pub words : List ℕ
   pub text : List ℕ
-  pub ruleWords : List ℕ
-  pub ruleText : List ℕ
+  pub rule_words : List ℕ
+  pub rule_text : List ℕ
   pub cells : ℕ
   pub list : ℕ
   pub leaves : Left
@@ -48,8 +48,8 @@ s1 =
     record {
       words = 6 ∷ 1 ∷ 1 ∷ 0 ∷ 0 ∷ 0 ∷ 3 ∷ 7 ∷ 0 ∷ 0 ∷ 0 ∷ 1 ∷ 2 ∷ 12 ∷ 1 ∷ 1 ∷ [];
       text = 112 ∷ [];
-      ruleWords = A-rules;
-      ruleText = 112 ∷ [];
+      rule_words = A-rules;
+      rule_text = 112 ∷ [];
       cells = 7;
       list = 7;
       leaves = record { answer = valid 2 1; cells = 1 ∷ 0 ∷ 0 ∷ 4 ∷ 1 ∷ 0 ∷ 9 ∷ []; list = 4 ∷ 0 ∷ 77 ∷ 77 ∷ 77 ∷ 77 ∷ 77 ∷ [] };
@@ -61,8 +61,8 @@ s2 =
     record {
       words = 6 ∷ 1 ∷ 2 ∷ 0 ∷ 0 ∷ 0 ∷ 3 ∷ 7 ∷ 0 ∷ 0 ∷ 0 ∷ 1 ∷ 3 ∷ 8 ∷ 0 ∷ 0 ∷ 1 ∷ 1 ∷ 3 ∷ 18 ∷ 2 ∷ 1 ∷ [];
       text = 112 ∷ 113 ∷ [];
-      ruleWords = A-rules;
-      ruleText = 112 ∷ [];
+      rule_words = A-rules;
+      rule_text = 112 ∷ [];
       cells = 10;
       list = 10;
       leaves = record { answer = invalid 3 0; cells = 2 ∷ 0 ∷ 0 ∷ 0 ∷ 1 ∷ 0 ∷ 0 ∷ 0 ∷ 2 ∷ 9 ∷ []; list = 4 ∷ 8 ∷ 0 ∷ 77 ∷ 77 ∷ 77 ∷ 77 ∷ 77 ∷ 77 ∷ 77 ∷ [] };
@@ -74,8 +74,8 @@ s3 =
     record {
       words = 6 ∷ 0 ∷ 0 ∷ 0 ∷ 0 ∷ 0 ∷ 1 ∷ 6 ∷ 0 ∷ 1 ∷ [];
       text = [];
-      ruleWords = A-rules;
-      ruleText = 112 ∷ [];
+      rule_words = A-rules;
+      rule_text = 112 ∷ [];
       cells = 4;
       list = 4;
       leaves = record { answer = valid 1 0; cells = 1 ∷ 0 ∷ 0 ∷ 9 ∷ []; list = 0 ∷ 77 ∷ 77 ∷ 77 ∷ [] };
@@ -87,8 +87,8 @@ s4 =
     record {
       words = 3 ∷ 7 ∷ 0 ∷ 0 ∷ 0 ∷ 0 ∷ 1 ∷ 6 ∷ 0 ∷ 1 ∷ [];
       text = [];
-      ruleWords = A-rules;
-      ruleText = 112 ∷ [];
+      rule_words = A-rules;
+      rule_text = 112 ∷ [];
       cells = 4;
       list = 4;
       leaves = record { answer = valid 1 0; cells = 1 ∷ 0 ∷ 0 ∷ 9 ∷ []; list = 0 ∷ 77 ∷ 77 ∷ 77 ∷ [] };
@@ -100,8 +100,8 @@ s5 =
     record {
       words = 3 ∷ 10 ∷ 1 ∷ 0 ∷ 0 ∷ 0 ∷ 1 ∷ 6 ∷ 0 ∷ 1 ∷ [];
       text = [];
-      ruleWords = 0 ∷ 1 ∷ 2 ∷ 4 ∷ 0 ∷ 1 ∷ 1 ∷ 0 ∷ 5 ∷ 0 ∷ 2 ∷ [];
-      ruleText = [];
+      rule_words = 0 ∷ 1 ∷ 2 ∷ 4 ∷ 0 ∷ 1 ∷ 1 ∷ 0 ∷ 5 ∷ 0 ∷ 2 ∷ [];
+      rule_text = [];
       cells = 2;
       list = 2;
       leaves = record { answer = valid 1 0; cells = 1 ∷ 9 ∷ []; list = 0 ∷ 77 ∷ [] };
@@ -112,8 +112,8 @@ s6 =
     record {
       words = 3 ∷ 15 ∷ 1 ∷ 0 ∷ 0 ∷ 0 ∷ 1 ∷ 6 ∷ 0 ∷ 1 ∷ [];
       text = [];
-      ruleWords = 0 ∷ 1 ∷ 2 ∷ 4 ∷ 0 ∷ 1 ∷ 1 ∷ 0 ∷ 5 ∷ 0 ∷ 2 ∷ [];
-      ruleText = [];
+      rule_words = 0 ∷ 1 ∷ 2 ∷ 4 ∷ 0 ∷ 1 ∷ 1 ∷ 0 ∷ 5 ∷ 0 ∷ 2 ∷ [];
+      rule_text = [];
       cells = 2;
       list = 2;
       leaves = record { answer = invalid 1 0; cells = 2 ∷ 9 ∷ []; list = 0 ∷ 77 ∷ [] };
@@ -125,8 +125,8 @@ s7 =
     record {
       words = 3 ∷ 4294967290 ∷ 0 ∷ 0 ∷ 0 ∷ 0 ∷ 1 ∷ 6 ∷ 0 ∷ 1 ∷ [];
       text = [];
-      ruleWords = 0 ∷ 1 ∷ 14 ∷ 4 ∷ 0 ∷ 1 ∷ 1 ∷ 0 ∷ 5 ∷ 0 ∷ 2 ∷ [];
-      ruleText = [];
+      rule_words = 0 ∷ 1 ∷ 14 ∷ 4 ∷ 0 ∷ 1 ∷ 1 ∷ 0 ∷ 5 ∷ 0 ∷ 2 ∷ [];
+      rule_text = [];
       cells = 2;
       list = 2;
       leaves = record { answer = invalid 1 0; cells = 2 ∷ 9 ∷ []; list = 0 ∷ 77 ∷ [] };
@@ -138,8 +138,8 @@ s8 =
     record {
       words = 3 ∷ 7 ∷ 0 ∷ 0 ∷ 0 ∷ 0 ∷ 1 ∷ 6 ∷ 0 ∷ 1 ∷ [];
       text = [];
-      ruleWords = 0 ∷ 1 ∷ 1 ∷ 0 ∷ 32 ∷ 0 ∷ 2 ∷ 1 ∷ 0 ∷ 0 ∷ 1 ∷ 0 ∷ 0 ∷ 2 ∷ 1 ∷ 2 ∷ 13 ∷ 0 ∷ 2 ∷ [];
-      ruleText = [];
+      rule_words = 0 ∷ 1 ∷ 1 ∷ 0 ∷ 32 ∷ 0 ∷ 2 ∷ 1 ∷ 0 ∷ 0 ∷ 1 ∷ 0 ∷ 0 ∷ 2 ∷ 1 ∷ 2 ∷ 13 ∷ 0 ∷ 2 ∷ [];
+      rule_text = [];
       cells = 3;
       list = 3;
       leaves = record { answer = invalid 2 0; cells = 2 ∷ 1 ∷ 9 ∷ []; list = 1 ∷ 0 ∷ 77 ∷ [] };
@@ -151,8 +151,8 @@ s9 =
     record {
       words = 3 ∷ 7 ∷ 0 ∷ 0 ∷ 0 ∷ 0 ∷ 1 ∷ 6 ∷ 0 ∷ 1 ∷ [];
       text = [];
-      ruleWords = 0 ∷ 1 ∷ 34 ∷ 0 ∷ 0 ∷ 1 ∷ 1 ∷ 0 ∷ 5 ∷ 0 ∷ 2 ∷ [];
-      ruleText = [];
+      rule_words = 0 ∷ 1 ∷ 34 ∷ 0 ∷ 0 ∷ 1 ∷ 1 ∷ 0 ∷ 5 ∷ 0 ∷ 2 ∷ [];
+      rule_text = [];
       cells = 2;
       list = 2;
       leaves = record { answer = refuses 8 0; cells = 9 ∷ 9 ∷ []; list = 77 ∷ 77 ∷ [] };
@@ -164,8 +164,8 @@ s10 =
     record {
       words = 3 ∷ 7 ∷ 0 ∷ 0 ∷ 0 ∷ 0 ∷ 1 ∷ 6 ∷ 0 ∷ 1 ∷ [];
       text = [];
-      ruleWords = 0 ∷ 0 ∷ 0 ∷ 1 ∷ 34 ∷ 1 ∷ 0 ∷ 2 ∷ 1 ∷ 0 ∷ 7 ∷ 0 ∷ 2 ∷ [];
-      ruleText = [];
+      rule_words = 0 ∷ 0 ∷ 0 ∷ 1 ∷ 34 ∷ 1 ∷ 0 ∷ 2 ∷ 1 ∷ 0 ∷ 7 ∷ 0 ∷ 2 ∷ [];
+      rule_text = [];
       cells = 3;
       list = 3;
       leaves = record { answer = refuses 8 1; cells = 9 ∷ 9 ∷ 9 ∷ []; list = 77 ∷ 77 ∷ 77 ∷ [] };
@@ -177,8 +177,8 @@ s11 =
     record {
       words = 6 ∷ 1 ∷ 1 ∷ 0 ∷ 0 ∷ 0 ∷ 6 ∷ 2 ∷ 1 ∷ 0 ∷ 0 ∷ 1 ∷ 6 ∷ 0 ∷ 0 ∷ 1 ∷ 0 ∷ 1 ∷ 3 ∷ 18 ∷ 1 ∷ 1 ∷ [];
       text = 112 ∷ [];
-      ruleWords = 0 ∷ 1 ∷ 40 ∷ 0 ∷ 1 ∷ 0 ∷ 1 ∷ 0 ∷ 1 ∷ 1 ∷ 1 ∷ 8 ∷ 1 ∷ 2 ∷ [];
-      ruleText = 112 ∷ [];
+      rule_words = 0 ∷ 1 ∷ 40 ∷ 0 ∷ 1 ∷ 0 ∷ 1 ∷ 0 ∷ 1 ∷ 1 ∷ 1 ∷ 8 ∷ 1 ∷ 2 ∷ [];
+      rule_text = 112 ∷ [];
       cells = 4;
       list = 4;
       leaves = record { answer = valid 3 1; cells = 1 ∷ 5 ∷ 5 ∷ 9 ∷ []; list = 2 ∷ 1 ∷ 0 ∷ 77 ∷ [] };
@@ -190,8 +190,8 @@ s12 =
     record {
       words = 6 ∷ 1 ∷ 1 ∷ 0 ∷ 0 ∷ 0 ∷ 3 ∷ 1 ∷ 0 ∷ 0 ∷ 0 ∷ 1 ∷ 2 ∷ 12 ∷ 1 ∷ 1 ∷ [];
       text = 113 ∷ [];
-      ruleWords = 0 ∷ 2 ∷ 2 ∷ 2 ∷ 4 ∷ 0 ∷ 4 ∷ 1 ∷ 31 ∷ 0 ∷ 2 ∷ 60 ∷ 3 ∷ 0 ∷ 26 ∷ 2 ∷ 1 ∷ 40 ∷ 3 ∷ 1 ∷ 1 ∷ 0 ∷ 0 ∷ 1 ∷ 0 ∷ 0 ∷ 2 ∷ 0 ∷ 0 ∷ 0 ∷ 1 ∷ 0 ∷ 1 ∷ 1 ∷ 2 ∷ 4 ∷ 5 ∷ 4 ∷ 35 ∷ 2 ∷ 2 ∷ [];
-      ruleText = 114 ∷ 113 ∷ [];
+      rule_words = 0 ∷ 2 ∷ 2 ∷ 2 ∷ 4 ∷ 0 ∷ 4 ∷ 1 ∷ 31 ∷ 0 ∷ 2 ∷ 60 ∷ 3 ∷ 0 ∷ 26 ∷ 2 ∷ 1 ∷ 40 ∷ 3 ∷ 1 ∷ 1 ∷ 0 ∷ 0 ∷ 1 ∷ 0 ∷ 0 ∷ 2 ∷ 0 ∷ 0 ∷ 0 ∷ 1 ∷ 0 ∷ 1 ∷ 1 ∷ 2 ∷ 4 ∷ 5 ∷ 4 ∷ 35 ∷ 2 ∷ 2 ∷ [];
+      rule_text = 114 ∷ 113 ∷ [];
       cells = 9;
       list = 9;
       leaves = record { answer = invalid 5 0; cells = 2 ∷ 2 ∷ 1 ∷ 0 ∷ 0 ∷ 0 ∷ 1 ∷ 2 ∷ 9 ∷ []; list = 6 ∷ 1 ∷ 2 ∷ 7 ∷ 0 ∷ 77 ∷ 77 ∷ 77 ∷ 77 ∷ [] };
@@ -203,8 +203,8 @@ t1 =
     record {
       words = 3 ∷ 7 ∷ 0 ∷ 0 ∷ 0 ∷ 0 ∷ 1 ∷ 6 ∷ 0 ∷ 1 ∷ [];
       text = [];
-      ruleWords = 0 ∷ 1 ∷ 1 ∷ 0 ∷ 33 ∷ 1 ∷ 0 ∷ 2 ∷ 1 ∷ 0 ∷ 7 ∷ 0 ∷ 2 ∷ [];
-      ruleText = [];
+      rule_words = 0 ∷ 1 ∷ 1 ∷ 0 ∷ 33 ∷ 1 ∷ 0 ∷ 2 ∷ 1 ∷ 0 ∷ 7 ∷ 0 ∷ 2 ∷ [];
+      rule_text = [];
       cells = 3;
       list = 3;
       leaves = record { answer = invalid 2 0; cells = 2 ∷ 1 ∷ 9 ∷ []; list = 1 ∷ 0 ∷ 77 ∷ [] };
@@ -216,8 +216,8 @@ t2 =
     record {
       words = 3 ∷ 7 ∷ 0 ∷ 0 ∷ 0 ∷ 0 ∷ 1 ∷ 6 ∷ 0 ∷ 1 ∷ [];
       text = [];
-      ruleWords = 0 ∷ 1 ∷ 1 ∷ 1 ∷ 33 ∷ 1 ∷ 0 ∷ 1 ∷ 0 ∷ 0 ∷ 2 ∷ 2 ∷ 0 ∷ 10 ∷ 0 ∷ 2 ∷ [];
-      ruleText = [];
+      rule_words = 0 ∷ 1 ∷ 1 ∷ 1 ∷ 33 ∷ 1 ∷ 0 ∷ 1 ∷ 0 ∷ 0 ∷ 2 ∷ 2 ∷ 0 ∷ 10 ∷ 0 ∷ 2 ∷ [];
+      rule_text = [];
       cells = 3;
       list = 3;
       leaves = record { answer = valid 2 0; cells = 1 ∷ 2 ∷ 9 ∷ []; list = 1 ∷ 0 ∷ 77 ∷ [] };
@@ -229,8 +229,8 @@ t3 =
     record {
       words = 6 ∷ 1 ∷ 1 ∷ 0 ∷ 0 ∷ 0 ∷ 3 ∷ 7 ∷ 0 ∷ 0 ∷ 0 ∷ 1 ∷ 2 ∷ 12 ∷ 1 ∷ 1 ∷ [];
       text = 112 ∷ [];
-      ruleWords = 0 ∷ 1 ∷ 1 ∷ 1 ∷ 2 ∷ 1 ∷ 3 ∷ 0 ∷ 3 ∷ 1 ∷ 30 ∷ 0 ∷ 2 ∷ 40 ∷ 2 ∷ 1 ∷ 60 ∷ 4 ∷ 0 ∷ 1 ∷ 0 ∷ 0 ∷ 1 ∷ 0 ∷ 0 ∷ 2 ∷ 0 ∷ 0 ∷ 0 ∷ 1 ∷ 3 ∷ 5 ∷ 4 ∷ 3 ∷ 31 ∷ 1 ∷ 2 ∷ [];
-      ruleText = 112 ∷ [];
+      rule_words = 0 ∷ 1 ∷ 1 ∷ 1 ∷ 2 ∷ 1 ∷ 3 ∷ 0 ∷ 3 ∷ 1 ∷ 30 ∷ 0 ∷ 2 ∷ 40 ∷ 2 ∷ 1 ∷ 60 ∷ 4 ∷ 0 ∷ 1 ∷ 0 ∷ 0 ∷ 1 ∷ 0 ∷ 0 ∷ 2 ∷ 0 ∷ 0 ∷ 0 ∷ 1 ∷ 3 ∷ 5 ∷ 4 ∷ 3 ∷ 31 ∷ 1 ∷ 2 ∷ [];
+      rule_text = 112 ∷ [];
       cells = 11;
       list = 11;
       leaves = record { answer = invalid 5 0; cells = 2 ∷ 1 ∷ 2 ∷ 0 ∷ 0 ∷ 0 ∷ 4 ∷ 0 ∷ 1 ∷ 2 ∷ 9 ∷ []; list = 8 ∷ 1 ∷ 9 ∷ 2 ∷ 0 ∷ 77 ∷ 77 ∷ 77 ∷ 77 ∷ 77 ∷ 77 ∷ [] };
@@ -242,8 +242,8 @@ t4 =
     record {
       words = 5 ∷ 1 ∷ 1 ∷ 0 ∷ 0 ∷ 0 ∷ 3 ∷ 7 ∷ 0 ∷ 0 ∷ 0 ∷ 0 ∷ 2 ∷ 12 ∷ 0 ∷ 1 ∷ [];
       text = [];
-      ruleWords = 0 ∷ 2 ∷ 2 ∷ 1 ∷ 3 ∷ 1 ∷ 4 ∷ 0 ∷ 30 ∷ 0 ∷ 1 ∷ 44 ∷ 2 ∷ 0 ∷ 43 ∷ 1 ∷ 1 ∷ 1 ∷ 0 ∷ 0 ∷ 1 ∷ 0 ∷ 0 ∷ 3 ∷ 0 ∷ 0 ∷ 4 ∷ 4 ∷ 2 ∷ 26 ∷ 0 ∷ 2 ∷ [];
-      ruleText = [];
+      rule_words = 0 ∷ 2 ∷ 2 ∷ 1 ∷ 3 ∷ 1 ∷ 4 ∷ 0 ∷ 30 ∷ 0 ∷ 1 ∷ 44 ∷ 2 ∷ 0 ∷ 43 ∷ 1 ∷ 1 ∷ 1 ∷ 0 ∷ 0 ∷ 1 ∷ 0 ∷ 0 ∷ 3 ∷ 0 ∷ 0 ∷ 4 ∷ 4 ∷ 2 ∷ 26 ∷ 0 ∷ 2 ∷ [];
+      rule_text = [];
       cells = 9;
       list = 9;
       leaves = record { answer = invalid 4 0; cells = 2 ∷ 1 ∷ 0 ∷ 0 ∷ 0 ∷ 4 ∷ 2 ∷ 1 ∷ 9 ∷ []; list = 7 ∷ 1 ∷ 6 ∷ 0 ∷ 77 ∷ 77 ∷ 77 ∷ 77 ∷ 77 ∷ [] };
@@ -255,8 +255,8 @@ t5 =
     record {
       words = 5 ∷ 1 ∷ 2 ∷ 0 ∷ 0 ∷ 0 ∷ 3 ∷ 7 ∷ 0 ∷ 0 ∷ 0 ∷ 0 ∷ 3 ∷ 8 ∷ 0 ∷ 0 ∷ 0 ∷ 0 ∷ 3 ∷ 18 ∷ 0 ∷ 1 ∷ [];
       text = [];
-      ruleWords = 0 ∷ 2 ∷ 2 ∷ 0 ∷ 2 ∷ 1 ∷ 43 ∷ 0 ∷ 1 ∷ 44 ∷ 2 ∷ 0 ∷ 1 ∷ 0 ∷ 0 ∷ 1 ∷ 0 ∷ 0 ∷ 3 ∷ 3 ∷ 1 ∷ 18 ∷ 0 ∷ 2 ∷ [];
-      ruleText = [];
+      rule_words = 0 ∷ 2 ∷ 2 ∷ 0 ∷ 2 ∷ 1 ∷ 43 ∷ 0 ∷ 1 ∷ 44 ∷ 2 ∷ 0 ∷ 1 ∷ 0 ∷ 0 ∷ 1 ∷ 0 ∷ 0 ∷ 3 ∷ 3 ∷ 1 ∷ 18 ∷ 0 ∷ 2 ∷ [];
+      rule_text = [];
       cells = 10;
       list = 10;
       leaves = record { answer = invalid 3 0; cells = 2 ∷ 0 ∷ 0 ∷ 0 ∷ 1 ∷ 0 ∷ 0 ∷ 0 ∷ 2 ∷ 9 ∷ []; list = 4 ∷ 8 ∷ 0 ∷ 77 ∷ 77 ∷ 77 ∷ 77 ∷ 77 ∷ 77 ∷ 77 ∷ [] };
@@ -268,8 +268,8 @@ t6 =
     record {
       words = 6 ∷ 1 ∷ 1 ∷ 0 ∷ 0 ∷ 0 ∷ 3 ∷ 7 ∷ 0 ∷ 0 ∷ 0 ∷ 1 ∷ 2 ∷ 12 ∷ 1 ∷ 1 ∷ [];
       text = 112 ∷ [];
-      ruleWords = 0 ∷ 2 ∷ 2 ∷ 1 ∷ 3 ∷ 0 ∷ 3 ∷ 1 ∷ 4 ∷ 0 ∷ 32 ∷ 0 ∷ 2 ∷ 60 ∷ 3 ∷ 0 ∷ 40 ∷ 2 ∷ 1 ∷ 1 ∷ 0 ∷ 0 ∷ 1 ∷ 0 ∷ 0 ∷ 2 ∷ 0 ∷ 0 ∷ 0 ∷ 1 ∷ 4 ∷ 5 ∷ 4 ∷ 3 ∷ 31 ∷ 1 ∷ 2 ∷ [];
-      ruleText = 112 ∷ [];
+      rule_words = 0 ∷ 2 ∷ 2 ∷ 1 ∷ 3 ∷ 0 ∷ 3 ∷ 1 ∷ 4 ∷ 0 ∷ 32 ∷ 0 ∷ 2 ∷ 60 ∷ 3 ∷ 0 ∷ 40 ∷ 2 ∷ 1 ∷ 1 ∷ 0 ∷ 0 ∷ 1 ∷ 0 ∷ 0 ∷ 2 ∷ 0 ∷ 0 ∷ 0 ∷ 1 ∷ 4 ∷ 5 ∷ 4 ∷ 3 ∷ 31 ∷ 1 ∷ 2 ∷ [];
+      rule_text = 112 ∷ [];
       cells = 11;
       list = 11;
       leaves = record { answer = invalid 4 0; cells = 2 ∷ 1 ∷ 1 ∷ 0 ∷ 0 ∷ 0 ∷ 4 ∷ 0 ∷ 0 ∷ 1 ∷ 9 ∷ []; list = 9 ∷ 1 ∷ 2 ∷ 0 ∷ 77 ∷ 77 ∷ 77 ∷ 77 ∷ 77 ∷ 77 ∷ 77 ∷ [] };
@@ -281,8 +281,8 @@ t7 =
     record {
       words = 6 ∷ 1 ∷ 1 ∷ 0 ∷ 0 ∷ 0 ∷ 3 ∷ 7 ∷ 0 ∷ 0 ∷ 0 ∷ 1 ∷ 2 ∷ 12 ∷ 1 ∷ 1 ∷ [];
       text = 112 ∷ [];
-      ruleWords = A-rules;
-      ruleText = 112 ∷ [];
+      rule_words = A-rules;
+      rule_text = 112 ∷ [];
       cells = 5;
       list = 6;
       leaves = record { answer = refuses 10 6; cells = 9 ∷ 9 ∷ 9 ∷ 9 ∷ 9 ∷ []; list = 77 ∷ 77 ∷ 77 ∷ 77 ∷ 77 ∷ 77 ∷ [] };
@@ -293,8 +293,8 @@ t8 =
     record {
       words = 6 ∷ 1 ∷ 1 ∷ 0 ∷ 0 ∷ 0 ∷ 3 ∷ 7 ∷ 0 ∷ 0 ∷ 0 ∷ 1 ∷ 2 ∷ 12 ∷ 1 ∷ 1 ∷ [];
       text = 112 ∷ [];
-      ruleWords = A-rules;
-      ruleText = 112 ∷ [];
+      rule_words = A-rules;
+      rule_text = 112 ∷ [];
       cells = 5;
       list = 5;
       leaves = record { answer = refuses 10 6; cells = 9 ∷ 9 ∷ 9 ∷ 9 ∷ 9 ∷ []; list = 77 ∷ 77 ∷ 77 ∷ 77 ∷ 77 ∷ [] };
@@ -305,8 +305,8 @@ t9 =
     record {
       words = 6 ∷ 1 ∷ 1 ∷ 0 ∷ 0 ∷ 0 ∷ 3 ∷ 7 ∷ 0 ∷ 0 ∷ 0 ∷ 1 ∷ 2 ∷ 12 ∷ 1 ∷ 1 ∷ [];
       text = 112 ∷ [];
-      ruleWords = A-rules;
-      ruleText = 112 ∷ [];
+      rule_words = A-rules;
+      rule_text = 112 ∷ [];
       cells = 6;
       list = 5;
       leaves = record { answer = refuses 11 6; cells = 9 ∷ 9 ∷ 9 ∷ 9 ∷ 9 ∷ 9 ∷ []; list = 77 ∷ 77 ∷ 77 ∷ 77 ∷ 77 ∷ [] };
@@ -318,8 +318,8 @@ t10 =
     record {
       words = 6 ∷ 1 ∷ 1 ∷ 0 ∷ 0 ∷ 0 ∷ 3 ∷ 7 ∷ 0 ∷ 0 ∷ 0 ∷ 1 ∷ 2 ∷ 12 ∷ 1 ∷ 1 ∷ [];
       text = 112 ∷ [];
-      ruleWords = 0 ∷ 2 ∷ 2 ∷ 1 ∷ 3 ∷ 1 ∷ 4 ∷ 0 ∷ 30 ∷ 0 ∷ 1 ∷ 42 ∷ 2 ∷ 0 ∷ 40 ∷ 1 ∷ 1 ∷ 1 ∷ 0 ∷ 0 ∷ 1 ∷ 0 ∷ 0 ∷ 0 ∷ 1 ∷ 3 ∷ 4 ∷ 4 ∷ 2 ∷ 26 ∷ 1 ∷ 2 ∷ [];
-      ruleText = 112 ∷ [];
+      rule_words = 0 ∷ 2 ∷ 2 ∷ 1 ∷ 3 ∷ 1 ∷ 4 ∷ 0 ∷ 30 ∷ 0 ∷ 1 ∷ 42 ∷ 2 ∷ 0 ∷ 40 ∷ 1 ∷ 1 ∷ 1 ∷ 0 ∷ 0 ∷ 1 ∷ 0 ∷ 0 ∷ 0 ∷ 1 ∷ 3 ∷ 4 ∷ 4 ∷ 2 ∷ 26 ∷ 1 ∷ 2 ∷ [];
+      rule_text = 112 ∷ [];
       cells = 9;
       list = 9;
       leaves = record { answer = invalid 4 0; cells = 2 ∷ 1 ∷ 0 ∷ 0 ∷ 0 ∷ 4 ∷ 2 ∷ 1 ∷ 9 ∷ []; list = 7 ∷ 1 ∷ 6 ∷ 0 ∷ 77 ∷ 77 ∷ 77 ∷ 77 ∷ 77 ∷ [] };
@@ -331,8 +331,8 @@ t11 =
     record {
       words = 6 ∷ 1 ∷ 1 ∷ 0 ∷ 0 ∷ 0 ∷ 3 ∷ 7 ∷ 0 ∷ 0 ∷ 0 ∷ 1 ∷ 2 ∷ 12 ∷ 1 ∷ 1 ∷ [];
       text = 112 ∷ [];
-      ruleWords = 0 ∷ 1 ∷ 1 ∷ 1 ∷ 40 ∷ 0 ∷ 1 ∷ 40 ∷ 1 ∷ 1 ∷ 0 ∷ 1 ∷ 1 ∷ 0 ∷ 1 ∷ 0 ∷ 2 ∷ 2 ∷ 2 ∷ 16 ∷ 1 ∷ 2 ∷ [];
-      ruleText = 112 ∷ [];
+      rule_words = 0 ∷ 1 ∷ 1 ∷ 1 ∷ 40 ∷ 0 ∷ 1 ∷ 40 ∷ 1 ∷ 1 ∷ 0 ∷ 1 ∷ 1 ∷ 0 ∷ 1 ∷ 0 ∷ 2 ∷ 2 ∷ 2 ∷ 16 ∷ 1 ∷ 2 ∷ [];
+      rule_text = 112 ∷ [];
       cells = 5;
       list = 5;
       leaves = record { answer = valid 2 1; cells = 1 ∷ 0 ∷ 4 ∷ 1 ∷ 9 ∷ []; list = 3 ∷ 0 ∷ 77 ∷ 77 ∷ 77 ∷ [] };
@@ -344,8 +344,8 @@ t12 =
     record {
       words = 5 ∷ 1 ∷ 1 ∷ 0 ∷ 0 ∷ 0 ∷ 3 ∷ 7 ∷ 0 ∷ 0 ∷ 0 ∷ 0 ∷ 2 ∷ 12 ∷ 0 ∷ 1 ∷ [];
       text = [];
-      ruleWords = 0 ∷ 2 ∷ 2 ∷ 1 ∷ 3 ∷ 1 ∷ 4 ∷ 0 ∷ 30 ∷ 0 ∷ 1 ∷ 61 ∷ 2 ∷ 0 ∷ 43 ∷ 1 ∷ 1 ∷ 1 ∷ 0 ∷ 0 ∷ 1 ∷ 0 ∷ 0 ∷ 3 ∷ 0 ∷ 0 ∷ 4 ∷ 4 ∷ 2 ∷ 26 ∷ 0 ∷ 2 ∷ [];
-      ruleText = [];
+      rule_words = 0 ∷ 2 ∷ 2 ∷ 1 ∷ 3 ∷ 1 ∷ 4 ∷ 0 ∷ 30 ∷ 0 ∷ 1 ∷ 61 ∷ 2 ∷ 0 ∷ 43 ∷ 1 ∷ 1 ∷ 1 ∷ 0 ∷ 0 ∷ 1 ∷ 0 ∷ 0 ∷ 3 ∷ 0 ∷ 0 ∷ 4 ∷ 4 ∷ 2 ∷ 26 ∷ 0 ∷ 2 ∷ [];
+      rule_text = [];
       cells = 9;
       list = 9;
       leaves = record { answer = valid 3 1; cells = 1 ∷ 1 ∷ 0 ∷ 0 ∷ 4 ∷ 4 ∷ 0 ∷ 1 ∷ 9 ∷ []; list = 7 ∷ 1 ∷ 0 ∷ 77 ∷ 77 ∷ 77 ∷ 77 ∷ 77 ∷ 77 ∷ [] };
@@ -357,8 +357,8 @@ t13 =
     record {
       words = 5 ∷ 1 ∷ 2 ∷ 0 ∷ 0 ∷ 0 ∷ 3 ∷ 7 ∷ 0 ∷ 0 ∷ 0 ∷ 0 ∷ 3 ∷ 8 ∷ 0 ∷ 0 ∷ 0 ∷ 0 ∷ 3 ∷ 18 ∷ 0 ∷ 1 ∷ [];
       text = [];
-      ruleWords = 0 ∷ 2 ∷ 2 ∷ 0 ∷ 2 ∷ 0 ∷ 43 ∷ 0 ∷ 1 ∷ 61 ∷ 2 ∷ 0 ∷ 1 ∷ 0 ∷ 0 ∷ 3 ∷ 2 ∷ 1 ∷ 15 ∷ 0 ∷ 2 ∷ [];
-      ruleText = [];
+      rule_words = 0 ∷ 2 ∷ 2 ∷ 0 ∷ 2 ∷ 0 ∷ 43 ∷ 0 ∷ 1 ∷ 61 ∷ 2 ∷ 0 ∷ 1 ∷ 0 ∷ 0 ∷ 3 ∷ 2 ∷ 1 ∷ 15 ∷ 0 ∷ 2 ∷ [];
+      rule_text = [];
       cells = 10;
       list = 10;
       leaves = record { answer = valid 3 2; cells = 1 ∷ 0 ∷ 0 ∷ 4 ∷ 1 ∷ 0 ∷ 4 ∷ 0 ∷ 1 ∷ 9 ∷ []; list = 4 ∷ 8 ∷ 0 ∷ 77 ∷ 77 ∷ 77 ∷ 77 ∷ 77 ∷ 77 ∷ 77 ∷ [] };
@@ -370,8 +370,8 @@ t14 =
     record {
       words = 4 ∷ 0 ∷ 2 ∷ 0 ∷ 0 ∷ 0 ∷ 1 ∷ 6 ∷ 2 ∷ 1 ∷ [];
       text = 197 ∷ 188 ∷ [];
-      ruleWords = 0 ∷ 1 ∷ 21 ∷ 1 ∷ 0 ∷ 1 ∷ 1 ∷ 0 ∷ 5 ∷ 0 ∷ 2 ∷ [];
-      ruleText = [];
+      rule_words = 0 ∷ 1 ∷ 21 ∷ 1 ∷ 0 ∷ 1 ∷ 1 ∷ 0 ∷ 5 ∷ 0 ∷ 2 ∷ [];
+      rule_text = [];
       cells = 2;
       list = 2;
       leaves = record { answer = valid 1 0; cells = 1 ∷ 9 ∷ []; list = 0 ∷ 77 ∷ [] };
@@ -383,8 +383,8 @@ t15 =
     record {
       words = 4 ∷ 0 ∷ 1 ∷ 0 ∷ 0 ∷ 0 ∷ 1 ∷ 6 ∷ 2 ∷ 1 ∷ [];
       text = 197 ∷ 188 ∷ [];
-      ruleWords = 0 ∷ 1 ∷ 21 ∷ 1 ∷ 0 ∷ 1 ∷ 1 ∷ 0 ∷ 5 ∷ 0 ∷ 2 ∷ [];
-      ruleText = [];
+      rule_words = 0 ∷ 1 ∷ 21 ∷ 1 ∷ 0 ∷ 1 ∷ 1 ∷ 0 ∷ 5 ∷ 0 ∷ 2 ∷ [];
+      rule_text = [];
       cells = 2;
       list = 2;
       leaves = record { answer = refuses 13 0; cells = 9 ∷ 9 ∷ []; list = 77 ∷ 77 ∷ [] };
@@ -396,8 +396,8 @@ t16 =
     record {
       words = 6 ∷ 1 ∷ 2 ∷ 0 ∷ 0 ∷ 0 ∷ 3 ∷ 7 ∷ 0 ∷ 0 ∷ 0 ∷ 1 ∷ 3 ∷ 8 ∷ 0 ∷ 0 ∷ 0 ∷ 1 ∷ 3 ∷ 18 ∷ 1 ∷ 1 ∷ [];
       text = 255 ∷ [];
-      ruleWords = 0 ∷ 1 ∷ 21 ∷ 1 ∷ 0 ∷ 1 ∷ 1 ∷ 0 ∷ 5 ∷ 0 ∷ 2 ∷ [];
-      ruleText = [];
+      rule_words = 0 ∷ 1 ∷ 21 ∷ 1 ∷ 0 ∷ 1 ∷ 1 ∷ 0 ∷ 5 ∷ 0 ∷ 2 ∷ [];
+      rule_text = [];
       cells = 1;
       list = 1;
       leaves = record { answer = refuses 3 2; cells = 9 ∷ []; list = 77 ∷ [] };
@@ -409,30 +409,30 @@ t17 =
     record {
       words = 0 ∷ 0 ∷ 0 ∷ 0 ∷ 0 ∷ 0 ∷ 1 ∷ 6 ∷ 0 ∷ 1 ∷ [];
       text = [];
-      ruleWords = 0 ∷ 2 ∷ 26 ∷ 0 ∷ 1 ∷ 34 ∷ 0 ∷ 0 ∷ 0 ∷ 1 ∷ 0 ∷ 1 ∷ 2 ∷ 1 ∷ 11 ∷ 1 ∷ 2 ∷ [];
-      ruleText = 128 ∷ [];
+      rule_words = 0 ∷ 2 ∷ 26 ∷ 0 ∷ 1 ∷ 34 ∷ 0 ∷ 0 ∷ 0 ∷ 1 ∷ 0 ∷ 1 ∷ 2 ∷ 1 ∷ 11 ∷ 1 ∷ 2 ∷ [];
+      rule_text = 128 ∷ [];
       cells = 1;
       list = 1;
       leaves = record { answer = refuses 13 3; cells = 9 ∷ []; list = 77 ∷ [] };
     }
 
 abbrev pub left_of : Sample → Left
-left_of s = judge Rules.whole s.words s.text s.ruleWords s.ruleText (replicate s.cells 9) (replicate s.list 77)
+left_of s = judge Rules.whole s.words s.text s.rule_words s.rule_text (replicate s.cells 9) (replicate s.list 77)
 
-unfoldable pub samples-compute : Unit {0}
-unfolding lowestFrom Part.part-computes Value.value-computes repeatsBy kind_of levels level D.form_of D.row_at D.docOf F.wordsOk F.ownsOk F.placeOk F.row_ok F.repeated F.notUtf8 Automaton.automaton-computes R.steps lineIn S.form_of S.schemaAt S.clauseAt S.entry_at S.run S.clauseOf S.rulesOf C.wordsOk C.schemaStart C.schemaFine C.schemaOver C.rises C.listStart C.listOk C.clauseFineIn C.clauseFine C.listOver C.entryFine C.repeated C.notUtf8 someOf chain via onLoop Lists.lists-computes Tests.tests-computes Rules.rules-computes Settling.settling-computes Answer.answer-computes
-samples-compute = tt
+unfoldable pub samples_compute : Unit {0}
+unfolding lowest_from Part.part_computes Value.value_computes repeats_by kind_of levels level D.form_of D.row_at D.doc_of F.words_ok F.owns_ok F.place_ok F.row_ok F.repeated F.not_utf8 Automaton.automaton_computes R.steps line_in S.form_of S.schema_at S.clause_at S.entry_at S.run S.clause_of S.rules_of C.words_ok C.schema_start C.schema_fine C.schema_over C.rises C.list_start C.list_ok C.clause_fine_in C.clause_fine C.list_over C.entry_fine C.repeated C.not_utf8 some_of chain via on_loop Lists.lists_computes Tests.tests_computes Rules.rules_computes Settling.settling_computes Answer.answer_computes
+samples_compute = tt
 
 abbrev twelve : List Sample
 twelve = s1 ∷ s2 ∷ s3 ∷ s4 ∷ s5 ∷ s6 ∷ s7 ∷ s8 ∷ s9 ∷ s10 ∷ s11 ∷ s12 ∷ []
 
 pub samples : map left_of twelve ≡ map (λ s. s.leaves) twelve
-unfolding samples-compute
+unfolding samples_compute
 samples = refl
 
 abbrev ours : List Sample
 ours = t1 ∷ t2 ∷ t3 ∷ t4 ∷ t5 ∷ t6 ∷ t7 ∷ t8 ∷ t9 ∷ t10 ∷ t11 ∷ t12 ∷ t13 ∷ t14 ∷ t15 ∷ t16 ∷ t17 ∷ []
 
 pub further : map left_of ours ≡ map (λ s. s.leaves) ours
-unfolding samples-compute
+unfolding samples_compute
 further = refl

@@ -1,5 +1,5 @@
 -- The count is the number of settled cells.
---     cells-shown     as many cells show a verdict as pairs are settled
+--     cells_shown     as many cells show a verdict as pairs are settled
 -- Assumes nothing.
 use mathlib.Core.Bool.{Bool, true, false, ◌&&◌, ◌||◌, cond, true≢false}
 use mathlib.Core.List.Memᴰ.{head as at_head}
@@ -12,16 +12,16 @@ use native.Mathlib.Omega.{arith}
 use lib.Dec.{eqb, ltb}
 use lib.ListN.{length}
 use borrow.Author.Tests.{eq-eqb, ne_eqb}
-use Rattle.laws.proofs.Tests.{decide, le-or-lt}
+use Rattle.laws.proofs.Tests.{decide, le_or_lt}
 use Rattle.sheet.specs.Doc.{Doc}
 use Rattle.rulesheet.specs.Ruleset.{Ruleset}
-use Rattle.meaning.specs.Lists.{range, concatMap}
+use Rattle.meaning.specs.Lists.{range, concat_map}
 use Rattle.meaning.specs.Rules.{Pair, Way, truth}
 use Rattle.meaning.specs.Settling.{same_pair, listed, settled, cell, cells, shown}
 use Rattle.meaning.specs.Fit.{Fit, Inside}
 use Rattle.meaning.specs.Once.{Distinct}
-use Rattle.meaning.proofs.Lists.{Every, every-nil, every-cons}
-use Rattle.meaning.proofs.Settled.{same-pair, in-listed, listed_in, all-distinct, all-inside}
+use Rattle.meaning.proofs.Lists.{Every, every_nil, every_cons}
+use Rattle.meaning.proofs.Settled.{same_pair_lem, in_listed, listed_in, all_distinct, all_inside}
 
 -- how many of the numbers from a on, k of them, pass a test
 unfoldable passing : (ℕ → Bool) → ℕ → ℕ → ℕ
@@ -39,58 +39,58 @@ among t n m = total (λ j. passing (λ s. t (record { row = j; rule = s })) 0 m)
 
 -- ---- a test that is one or the other of two, never both
 
-passing-none : (t : ℕ → Bool) (k a : ℕ) → ((i : ℕ) → a ≤ i → i < a + k → t i ≡ false) → passing t a k ≡ 0
+passing_none : (t : ℕ → Bool) (k a : ℕ) → ((i : ℕ) → a ≤ i → i < a + k → t i ≡ false) → passing t a k ≡ 0
 unfolding passing
-passing-none t zero a f = refl
-passing-none t (suc k) a f = rw (f a (omega arith) (omega arith)) (omega (arith, passing-none t k (suc a) (λ i h g. f i (omega arith) (omega arith))))
+passing_none t zero a f = refl
+passing_none t (suc k) a f = rw (f a (omega arith) (omega arith)) (omega (arith, passing_none t k (suc a) (λ i h g. f i (omega arith) (omega arith))))
 
-total-none : (f : ℕ → ℕ) (k a : ℕ) → ((i : ℕ) → a ≤ i → i < a + k → f i ≡ 0) → total f a k ≡ 0
+total_none : (f : ℕ → ℕ) (k a : ℕ) → ((i : ℕ) → a ≤ i → i < a + k → f i ≡ 0) → total f a k ≡ 0
 unfolding total
-total-none f zero a z = refl
-total-none f (suc k) a z = rw (z a (omega arith) (omega arith)) (omega (arith, total-none f k (suc a) (λ i h g. z i (omega arith) (omega arith))))
+total_none f zero a z = refl
+total_none f (suc k) a z = rw (z a (omega arith) (omega arith)) (omega (arith, total_none f k (suc a) (λ i h g. z i (omega arith) (omega arith))))
 
-or-one : (x y : Bool) → (x ≡ true → y ≡ false) → ◌≡◌ {A = ℕ} (cond (x || y) 1 0) (cond x 1 0 + cond y 1 0)
-or-one true true f = absurd (true≢false (f refl))
-or-one true false f = refl
-or-one false true f = refl
-or-one false false f = refl
+or_one : (x y : Bool) → (x ≡ true → y ≡ false) → ◌≡◌ {A = ℕ} (cond (x || y) 1 0) (cond x 1 0 + cond y 1 0)
+or_one true true f = absurd (true≢false (f refl))
+or_one true false f = refl
+or_one false true f = refl
+or_one false false f = refl
 
-passing-or : (t u : ℕ → Bool) (k a : ℕ) → ((i : ℕ) → t i ≡ true → u i ≡ false) → passing (λ i. t i || u i) a k ≡ passing t a k + passing u a k
+passing_or : (t u : ℕ → Bool) (k a : ℕ) → ((i : ℕ) → t i ≡ true → u i ≡ false) → passing (λ i. t i || u i) a k ≡ passing t a k + passing u a k
 unfolding passing
-passing-or t u zero a f = refl
-passing-or t u (suc k) a f = omega (arith, or-one (t a) (u a) (f a), passing-or t u k (suc a) f)
+passing_or t u zero a f = refl
+passing_or t u (suc k) a f = omega (arith, or_one (t a) (u a) (f a), passing_or t u k (suc a) f)
 
-total-plus : (f g h : ℕ → ℕ) (k a : ℕ) → ((i : ℕ) → f i ≡ g i + h i) → total f a k ≡ total g a k + total h a k
+total_plus : (f g h : ℕ → ℕ) (k a : ℕ) → ((i : ℕ) → f i ≡ g i + h i) → total f a k ≡ total g a k + total h a k
 unfolding total
-total-plus f g h zero a e = refl
-total-plus f g h (suc k) a e = omega (arith, e a, total-plus f g h k (suc a) e)
+total_plus f g h zero a e = refl
+total_plus f g h (suc k) a e = omega (arith, e a, total_plus f g h k (suc a) e)
 
 -- ---- one number
 
-passing-one : (x k a : ℕ) → a ≤ x → x < a + k → passing (λ i. eqb i x) a k ≡ 1
+passing_one : (x k a : ℕ) → a ≤ x → x < a + k → passing (λ i. eqb i x) a k ≡ 1
 unfolding passing
-passing-one x zero a h g = absurd (omega arith)
-passing-one x (suc k) a h g =
+passing_one x zero a h g = absurd (omega arith)
+passing_one x (suc k) a h g =
     ⊎_elim
-    (λ (l : x ≤ a). rw (eq-eqb a x (omega arith), passing-none (λ i. eqb i x) k (suc a) (λ i b c. ne_eqb i x (λ e. omega arith))))
-    (λ (l : a < x). rw (ne_eqb a x (λ e. omega arith)) (omega (arith, passing-one x k (suc a) (omega arith) (omega arith))))
-    (le-or-lt x a)
+    (λ (l : x ≤ a). rw (eq-eqb a x (omega arith), passing_none (λ i. eqb i x) k (suc a) (λ i b c. ne_eqb i x (λ e. omega arith))))
+    (λ (l : a < x). rw (ne_eqb a x (λ e. omega arith)) (omega (arith, passing_one x k (suc a) (omega arith) (omega arith))))
+    (le_or_lt x a)
 
-total-one : (f : ℕ → ℕ) (x k a : ℕ) → a ≤ x → x < a + k → f x ≡ 1 → ((i : ℕ) → (i ≡ x → ⊥) → f i ≡ 0) → total f a k ≡ 1
+total_one : (f : ℕ → ℕ) (x k a : ℕ) → a ≤ x → x < a + k → f x ≡ 1 → ((i : ℕ) → (i ≡ x → ⊥) → f i ≡ 0) → total f a k ≡ 1
 unfolding total
-total-one f x zero a h g e z = absurd (omega arith)
-total-one f x (suc k) a h g e z =
+total_one f x zero a h g e z = absurd (omega arith)
+total_one f x (suc k) a h g e z =
     ⊎_elim
-    (λ (l : x ≤ a). let q : a ≡ x = omega arith in rw (ap f q ∙ e, total-none f k (suc a) (λ i b c. z i (λ d. omega arith))))
-    (λ (l : a < x). rw (z a (λ d. omega arith)) (omega (arith, total-one f x k (suc a) (omega arith) (omega arith) e z)))
-    (le-or-lt x a)
+    (λ (l : x ≤ a). let q : a ≡ x = omega arith in rw (ap f q ∙ e, total_none f k (suc a) (λ i b c. z i (λ d. omega arith))))
+    (λ (l : a < x). rw (z a (λ d. omega arith)) (omega (arith, total_one f x k (suc a) (omega arith) (omega arith) e z)))
+    (le_or_lt x a)
 
 -- ---- the pairs of a list
 
-and-true : (f : ℕ → Bool) (k a : ℕ) → passing (λ i. true && f i) a k ≡ passing f a k
+and_true : (f : ℕ → Bool) (k a : ℕ) → passing (λ i. true && f i) a k ≡ passing f a k
 unfolding passing
-and-true f zero a = refl
-and-true f (suc k) a = ap (λ (x : ℕ). cond (f a) 1 0 + x) (and-true f k (suc a))
+and_true f zero a = refl
+and_true f (suc k) a = ap (λ (x : ℕ). cond (f a) 1 0 + x) (and_true f k (suc a))
 
 module _ (n m : ℕ) where
   below : {x k : ℕ} → x < k → x < 0 + k
@@ -99,54 +99,54 @@ module _ (n m : ℕ) where
   one_more : (k : ℕ) → 1 + k ≡ suc k
   one_more k = omega arith
 
-  one-pair : (p : Pair) → Inside n m p → among (λ q. same_pair q p) n m ≡ 1
+  one_pair : (p : Pair) → Inside n m p → among (λ q. same_pair q p) n m ≡ 1
   unfolding same_pair
-  one-pair p i =
-      total-one _ p.row n 0 (omega arith) (below i.row_in)
-      (rw (eq-eqb p.row p.row refl) (and-true (λ s. eqb s p.rule) m 0 ∙ passing-one p.rule m 0 (omega arith) (below i.rule-in)))
-      (λ j d. rw (ne_eqb j p.row d) (passing-none _ m 0 (λ s h g. refl)))
+  one_pair p i =
+      total_one _ p.row n 0 (omega arith) (below i.row_in)
+      (rw (eq-eqb p.row p.row refl) (and_true (λ s. eqb s p.rule) m 0 ∙ passing_one p.rule m 0 (omega arith) (below i.rule_in)))
+      (λ j d. rw (ne_eqb j p.row d) (passing_none _ m 0 (λ s h g. refl)))
 
-  pairs-among : {l : List Pair} → Every (Inside n m) l → Distinct l → among (λ q. listed q l) n m ≡ length l
+  pairs_among : {l : List Pair} → Every (Inside n m) l → Distinct l → among (λ q. listed q l) n m ≡ length l
   unfolding listed
-  pairs-among every-nil d = total-none _ n 0 (λ j h g. passing-none _ m 0 (λ s a b. refl))
-  pairs-among (every-cons {x = p} {xs = l} i is) d =
+  pairs_among every_nil d = total_none _ n 0 (λ j h g. passing_none _ m 0 (λ s a b. refl))
+  pairs_among (every_cons {x = p} {xs = l} i is) d =
       let apart : (q : Pair) → same_pair q p ≡ true → listed q l ≡ false =
-      λ q e. ⊎_elim (λ (h : listed q l ≡ true). absurd (d.0 (rw (same-pair q p e) at (listed_in q l h)))) (λ h. h) (decide (listed q l)) in
-      total-plus _ _ _ n 0 (λ j. passing-or _ _ m 0 (λ s. apart (record { row = j; rule = s })))
-      ∙ ap₂ (λ x y. x + y) (one-pair p i) (pairs-among is d.1) ∙ one_more (length l)
+      λ q e. ⊎_elim (λ (h : listed q l ≡ true). absurd (d.0 (rw (same_pair_lem q p e) at (listed_in q l h)))) (λ h. h) (decide (listed q l)) in
+      total_plus _ _ _ n 0 (λ j. passing_or _ _ m 0 (λ s. apart (record { row = j; rule = s })))
+      ∙ ap₂ (λ x y. x + y) (one_pair p i) (pairs_among is d.1) ∙ one_more (length l)
 
 -- ---- the cells
 
-shown-append : (xs ys : List ℕ) → shown (xs ++ ys) ≡ shown xs + shown ys
+shown_append : (xs ys : List ℕ) → shown (xs ++ ys) ≡ shown xs + shown ys
 unfolding shown
-shown-append [] ys = omega arith
-shown-append (x ∷ xs) ys = omega (arith, shown-append xs ys)
+shown_append [] ys = omega arith
+shown_append (x ∷ xs) ys = omega (arith, shown_append xs ys)
 
-cell-shown : (b h c : Bool) → ◌≡◌ {A = ℕ} (cond (eqb ((cond b (cond h 1 2) 0 + cond c 4 0) % 4) 0) 0 1) (cond b 1 0)
-cell-shown true true true = refl
-cell-shown true true false = refl
-cell-shown true false true = refl
-cell-shown true false false = refl
-cell-shown false h true = refl
-cell-shown false h false = refl
+cell_shown : (b h c : Bool) → ◌≡◌ {A = ℕ} (cond (eqb ((cond b (cond h 1 2) 0 + cond c 4 0) % 4) 0) 0 1) (cond b 1 0)
+cell_shown true true true = refl
+cell_shown true true false = refl
+cell_shown true false true = refl
+cell_shown true false false = refl
+cell_shown false h true = refl
+cell_shown false h false = refl
 
 module _ (D : Doc) (R : Ruleset) (n m : ℕ) (done : List Pair) where
-  row-shown : (j k a : ℕ) → shown (map (λ s. cell D R n m done (record { row = j; rule = s })) (range a k)) ≡ passing (λ s. listed (record { row = j; rule = s }) done) a k
+  row_shown : (j k a : ℕ) → shown (map (λ s. cell D R n m done (record { row = j; rule = s })) (range a k)) ≡ passing (λ s. listed (record { row = j; rule = s }) done) a k
   unfolding shown range passing cell
-  row-shown j zero a = refl
-  row-shown j (suc k) a =
+  row_shown j zero a = refl
+  row_shown j (suc k) a =
       let own : Pair = record { row = j; rule = a } in
       let up : Pair = record { row = D.owner j; rule = a } in
-      ap₂ (λ x y. x + y) (cell-shown (listed own done) (truth D R own).holds (ltb 0 j && listed up done && (truth D R up).marks j)) (row-shown j k (suc a))
+      ap₂ (λ x y. x + y) (cell_shown (listed own done) (truth D R own).holds (ltb 0 j && listed up done && (truth D R up).marks j)) (row_shown j k (suc a))
 
-  rows-shown : (k a : ℕ) → shown (concatMap (λ j. map (λ s. cell D R n m done (record { row = j; rule = s })) (range 0 m)) (range a k))
+  rows_shown : (k a : ℕ) → shown (concat_map (λ j. map (λ s. cell D R n m done (record { row = j; rule = s })) (range 0 m)) (range a k))
       ≡ total (λ j. passing (λ s. listed (record { row = j; rule = s }) done) 0 m) a k
-  unfolding range concatMap total shown
-  rows-shown zero a = refl
-  rows-shown (suc k) a =
-      shown-append (map (λ s. cell D R n m done (record { row = a; rule = s })) (range 0 m)) (concatMap (λ j. map (λ s. cell D R n m done (record { row = j; rule = s })) (range 0 m)) (range (suc a) k))
-      ∙ ap₂ (λ x y. x + y) (row-shown a m 0) (rows-shown k (suc a))
+  unfolding range concat_map total shown
+  rows_shown zero a = refl
+  rows_shown (suc k) a =
+      shown_append (map (λ s. cell D R n m done (record { row = a; rule = s })) (range 0 m)) (concat_map (λ j. map (λ s. cell D R n m done (record { row = j; rule = s })) (range 0 m)) (range (suc a) k))
+      ∙ ap₂ (λ x y. x + y) (row_shown a m 0) (rows_shown k (suc a))
 
-pub cells-shown : (D : Doc) (R : Ruleset) (n m : ℕ) → Fit D R n m → (w : Way) → shown (cells D R n m w) ≡ length (settled D R w)
+pub cells_shown : (D : Doc) (R : Ruleset) (n m : ℕ) → Fit D R n m → (w : Way) → shown (cells D R n m w) ≡ length (settled D R w)
 unfolding cells
-cells-shown D R n m fit w = rows-shown D R n m (settled D R w) n 0 ∙ pairs-among n m (all-inside D R w n m fit) (all-distinct D R w n m fit)
+cells_shown D R n m fit w = rows_shown D R n m (settled D R w) n 0 ∙ pairs_among n m (all_inside D R w n m fit) (all_distinct D R w n m fit)

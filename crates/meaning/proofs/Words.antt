@@ -1,6 +1,6 @@
 -- The word of a pair: row × m + rule.
---     row_of, rule-of     the row and the rule of a word
---     word-inside         the words of n rows are below n × m
+--     row_of, rule_of     the row and the rule of a word
+--     word_inside         the words of n rows are below n × m
 --     row_inside          and so are all the words of a row
 -- Assumes nothing.
 use mathlib.Core.Path.{◌≡◌, ◌∙◌}
@@ -15,8 +15,8 @@ module _ (m row rule : ℕ) (h : rule < m) where
       let b : rule / m ≡ 0 = div-eq_of_lt h in
       omega arith
 
-  pub rule-of : (row * m + rule) % m ≡ rule
-  rule-of = mul-add-mod_self_right row m rule ∙ mod-eq_of_lt h
+  pub rule_of : (row * m + rule) % m ≡ rule
+  rule_of = mul-add-mod_self_right row m rule ∙ mod-eq_of_lt h
 
 pub row_inside : (n m row : ℕ) → row < n → row * m + m ≤ n * m
 row_inside n m row h =
@@ -24,5 +24,5 @@ row_inside n m row h =
     let b : (row + 1) * m ≡ row * m + 1 * m = add-mul row 1 m in
     omega arith
 
-pub word-inside : (n m row rule : ℕ) → row < n → rule < m → row * m + rule < n * m
-word-inside n m row rule h g = let a = row_inside n m row h in omega arith
+pub word_inside : (n m row rule : ℕ) → row < n → rule < m → row * m + rule < n * m
+word_inside n m row rule h g = let a = row_inside n m row h in omega arith

@@ -2,21 +2,21 @@
 -- Assumes nothing.
 use Rattle.std.specs.Prelude.{ℕ, Bool, true, false, ◌&&◌, ◌≡◌, List, [], ◌∷◌, ◌++◌, map}
 use Rattle.sheet.specs.Doc.{Doc}
-use Rattle.rulesheet.specs.Ruleset.{Test, Mode, Reach, Clause, asserts, inPlace, ifThenElse, dependentSchemas, contains, takes, Ruleset}
+use Rattle.rulesheet.specs.Ruleset.{Test, Mode, Reach, Clause, asserts, in_place, if_then_else, dependent_schemas, contains, takes, Ruleset}
 use Rattle.meaning.specs.Lists.{all, count}
-use Rattle.meaning.specs.Rules.{Pair, Marks, nothing, ◌∪◌, these, Result, unions, verdicts, joined, to, here, under, holding, elementsOf, passes, taken, depended, contained}
+use Rattle.meaning.specs.Rules.{Pair, Marks, nothing, ◌∪◌, these, Result, unions, verdicts, joined, to, here, under, holding, elements_of, passes, taken, depended, contained}
 
 module _ (D : Doc) (R : Ruleset) where
   mutual
     -- J : S → r
     pub data Schema : Pair → Result → Type 0 where
-      schema-true : {p : Pair} {q r : Result}
+      schema_true : {p : Pair} {q r : Result}
           → Clauses p (R.clauses p.rule) q
           → q.holds ≡ true
           → r.holds ≡ true
           → r.marks ≡ q.marks
           → Schema p r
-      schema-false : {p : Pair} {q r : Result}
+      schema_false : {p : Pair} {q r : Result}
           → Clauses p (R.clauses p.rule) q
           → q.holds ≡ false
           → r.holds ≡ false
@@ -25,8 +25,8 @@ module _ (D : Doc) (R : Ruleset) where
 
     -- J : K₁ … Kₙ → r
     pub data Clauses : Pair → List Clause → Result → Type 0 where
-      klist-0 : {p : Pair} {r : Result} → r.holds ≡ true → r.marks ≡ nothing → Clauses p [] r
-      klist-n : {p : Pair} {cs ds : List Clause} {c : Clause} {q q' r : Result}
+      klist_0 : {p : Pair} {r : Result} → r.holds ≡ true → r.marks ≡ nothing → Clauses p [] r
+      klist_n : {p : Pair} {cs ds : List Clause} {c : Clause} {q q' r : Result}
           → Clauses p cs q
           → Keyword p cs q.marks c q'
           → ds ≡ cs ++ c ∷ []
@@ -40,34 +40,34 @@ module _ (D : Doc) (R : Ruleset) where
           → r.holds ≡ passes D p.row t
           → r.marks ≡ nothing
           → Keyword p cs μ (asserts t) r
-      in_place : {p : Pair} {cs : List Clause} {μ : Marks} {m : Mode} {ss : List ℕ} {rs : List Result} {r : Result}
+      placed_in : {p : Pair} {cs : List Clause} {μ : Marks} {m : Mode} {ss : List ℕ} {rs : List Result} {r : Result}
           → Each (here p ss) rs
           → r.holds ≡ joined m (verdicts rs)
           → r.marks ≡ unions rs
-          → Keyword p cs μ (inPlace m ss) r
-      if-then : {p : Pair} {cs : List Clause} {μ : Marks} {i t e : ℕ} {q q' r : Result}
+          → Keyword p cs μ (in_place m ss) r
+      if_then : {p : Pair} {cs : List Clause} {μ : Marks} {i t e : ℕ} {q q' r : Result}
           → Schema (to p p.row i) q
           → q.holds ≡ true
           → Schema (to p p.row t) q'
           → r.holds ≡ q'.holds
           → r.marks ≡ (q.marks ∪ q'.marks)
-          → Keyword p cs μ (ifThenElse i t e) r
-      if-else : {p : Pair} {cs : List Clause} {μ : Marks} {i t e : ℕ} {q q' r : Result}
+          → Keyword p cs μ (if_then_else i t e) r
+      if_else : {p : Pair} {cs : List Clause} {μ : Marks} {i t e : ℕ} {q q' r : Result}
           → Schema (to p p.row i) q
           → q.holds ≡ false
           → Schema (to p p.row e) q'
           → r.holds ≡ q'.holds
           → r.marks ≡ (q.marks ∪ q'.marks)
-          → Keyword p cs μ (ifThenElse i t e) r
+          → Keyword p cs μ (if_then_else i t e) r
       dependent : {p : Pair} {cs : List Clause} {μ : Marks} {es : List (List ℕ × ℕ)} {rs : List Result} {r : Result}
           → Each (depended D p es) rs
           → r.holds ≡ all (verdicts rs)
           → r.marks ≡ unions rs
-          → Keyword p cs μ (dependentSchemas es) r
+          → Keyword p cs μ (dependent_schemas es) r
       containing : {p : Pair} {cs : List Clause} {μ : Marks} {s least most : ℕ} {rs : List Result} {r : Result}
-          → Each (under p s (elementsOf D p.row)) rs
+          → Each (under p s (elements_of D p.row)) rs
           → r.holds ≡ contained D p.row least most (count (verdicts rs))
-          → r.marks ≡ these (map (λ q. q.row) (holding (under p s (elementsOf D p.row)) rs))
+          → r.marks ≡ these (map (λ q. q.row) (holding (under p s (elements_of D p.row)) rs))
           → Keyword p cs μ (contains s least most) r
       children : {p : Pair} {cs : List Clause} {μ : Marks} {c : Reach} {rs : List Result} {r : Result}
           → Each (taken D p cs μ c) rs
@@ -85,46 +85,46 @@ module _ (D : Doc) (R : Ruleset) where
   -- ---- the pairs of a derivation
 
   -- those that it applies directly, in order: the pairs of its premises
-  unfoldable pub eachApplies : {ps : List Pair} {rs : List Result} → Each ps rs → List Pair
-  eachApplies no_more = []
-  eachApplies (one_more {p = p} d e) = p ∷ eachApplies e
+  unfoldable pub each_applies : {ps : List Pair} {rs : List Result} → Each ps rs → List Pair
+  each_applies no_more = []
+  each_applies (one_more {p = p} d e) = p ∷ each_applies e
 
-  unfoldable pub keywordApplies : {p : Pair} {cs : List Clause} {μ : Marks} {c : Clause} {r : Result} → Keyword p cs μ c r → List Pair
-  keywordApplies (assertion a b) = []
-  keywordApplies (in_place e a b) = eachApplies e
-  keywordApplies (if-then d h d' a b) = eachApplies (one_more d (one_more d' no_more))
-  keywordApplies (if-else d h d' a b) = eachApplies (one_more d (one_more d' no_more))
-  keywordApplies (dependent e a b) = eachApplies e
-  keywordApplies (containing e a b) = eachApplies e
-  keywordApplies (children e a b) = eachApplies e
+  unfoldable pub keyword_applies : {p : Pair} {cs : List Clause} {μ : Marks} {c : Clause} {r : Result} → Keyword p cs μ c r → List Pair
+  keyword_applies (assertion a b) = []
+  keyword_applies (placed_in e a b) = each_applies e
+  keyword_applies (if_then d h d' a b) = each_applies (one_more d (one_more d' no_more))
+  keyword_applies (if_else d h d' a b) = each_applies (one_more d (one_more d' no_more))
+  keyword_applies (dependent e a b) = each_applies e
+  keyword_applies (containing e a b) = each_applies e
+  keyword_applies (children e a b) = each_applies e
 
-  unfoldable pub clausesApplies : {p : Pair} {cs : List Clause} {r : Result} → Clauses p cs r → List Pair
-  clausesApplies (klist-0 a b) = []
-  clausesApplies (klist-n d k a b c) = clausesApplies d ++ keywordApplies k
+  unfoldable pub clauses_applies : {p : Pair} {cs : List Clause} {r : Result} → Clauses p cs r → List Pair
+  clauses_applies (klist_0 a b) = []
+  clauses_applies (klist_n d k a b c) = clauses_applies d ++ keyword_applies k
 
-  unfoldable pub schemaApplies : {p : Pair} {r : Result} → Schema p r → List Pair
-  schemaApplies (schema-true d a b c) = clausesApplies d
-  schemaApplies (schema-false d a b c) = clausesApplies d
+  unfoldable pub schema_applies : {p : Pair} {r : Result} → Schema p r → List Pair
+  schema_applies (schema_true d a b c) = clauses_applies d
+  schema_applies (schema_false d a b c) = clauses_applies d
 
   -- and all of them: its own pair, and those of the derivations above it
   unfoldable mutual
-    pub schemaPairs : {p : Pair} {r : Result} → Schema p r → List Pair
-    schemaPairs {p} (schema-true d a b c) = p ∷ clausesPairs d
-    schemaPairs {p} (schema-false d a b c) = p ∷ clausesPairs d
+    pub schema_pairs : {p : Pair} {r : Result} → Schema p r → List Pair
+    schema_pairs {p} (schema_true d a b c) = p ∷ clauses_pairs d
+    schema_pairs {p} (schema_false d a b c) = p ∷ clauses_pairs d
 
-    pub clausesPairs : {p : Pair} {cs : List Clause} {r : Result} → Clauses p cs r → List Pair
-    clausesPairs (klist-0 a b) = []
-    clausesPairs (klist-n d k a b c) = clausesPairs d ++ keywordPairs k
+    pub clauses_pairs : {p : Pair} {cs : List Clause} {r : Result} → Clauses p cs r → List Pair
+    clauses_pairs (klist_0 a b) = []
+    clauses_pairs (klist_n d k a b c) = clauses_pairs d ++ keyword_pairs k
 
-    pub keywordPairs : {p : Pair} {cs : List Clause} {μ : Marks} {c : Clause} {r : Result} → Keyword p cs μ c r → List Pair
-    keywordPairs (assertion a b) = []
-    keywordPairs (in_place e a b) = eachPairs e
-    keywordPairs (if-then d h d' a b) = schemaPairs d ++ schemaPairs d'
-    keywordPairs (if-else d h d' a b) = schemaPairs d ++ schemaPairs d'
-    keywordPairs (dependent e a b) = eachPairs e
-    keywordPairs (containing e a b) = eachPairs e
-    keywordPairs (children e a b) = eachPairs e
+    pub keyword_pairs : {p : Pair} {cs : List Clause} {μ : Marks} {c : Clause} {r : Result} → Keyword p cs μ c r → List Pair
+    keyword_pairs (assertion a b) = []
+    keyword_pairs (placed_in e a b) = each_pairs e
+    keyword_pairs (if_then d h d' a b) = schema_pairs d ++ schema_pairs d'
+    keyword_pairs (if_else d h d' a b) = schema_pairs d ++ schema_pairs d'
+    keyword_pairs (dependent e a b) = each_pairs e
+    keyword_pairs (containing e a b) = each_pairs e
+    keyword_pairs (children e a b) = each_pairs e
 
-    pub eachPairs : {ps : List Pair} {rs : List Result} → Each ps rs → List Pair
-    eachPairs no_more = []
-    eachPairs (one_more d e) = schemaPairs d ++ eachPairs e
+    pub each_pairs : {ps : List Pair} {rs : List Result} → Each ps rs → List Pair
+    each_pairs no_more = []
+    each_pairs (one_more d e) = schema_pairs d ++ each_pairs e

@@ -8,11 +8,11 @@ use Rattle.std.specs.Int.Signed.{le_z, lt_z}
 use Rattle.decimal.specs.Value.{one}
 use Rattle.utf8.specs.Encoding.{Utf8, characters}
 use Rattle.sheet.specs.Doc.{Value, null, bool, number, string, array, object, Doc}
-use Rattle.rulesheet.specs.Ruleset.{never, type, enum, minimum, maximum, exclusiveMinimum, exclusiveMaximum, multipleOf}
-use Rattle.rulesheet.specs.Ruleset.{minLength, maxLength, minItems, maxItems, minProperties, maxProperties, required}
-use Rattle.rulesheet.specs.Ruleset.{all_of, any_of, one_of, notOf, ref, Reach, properties, additionalProperties, prefixItems, items}
-use Rattle.rulesheet.specs.Ruleset.{unevaluatedProperties, unevaluatedItems, Clause, takes}
-use Rattle.meaning.specs.Rules.{Pair, Marks, joined, within, under, elementsOf, passes, taken, depended}
+use Rattle.rulesheet.specs.Ruleset.{never, type, enum, minimum, maximum, exclusive_minimum, exclusive_maximum, multiple_of}
+use Rattle.rulesheet.specs.Ruleset.{min_length, max_length, min_items, max_items, min_properties, max_properties, required}
+use Rattle.rulesheet.specs.Ruleset.{all_of, any_of, one_of, not_of, ref, Reach, properties, additional_properties, prefix_items, items}
+use Rattle.rulesheet.specs.Ruleset.{unevaluated_properties, unevaluated_items, Clause, takes}
+use Rattle.meaning.specs.Rules.{Pair, Marks, joined, within, under, elements_of, passes, taken, depended}
 
 -- ---- the words
 
@@ -52,14 +52,14 @@ Within first count k = (first ≤ k) × (k < first + count)
 
 -- the clauses have no `prefixItems`
 abbrev pub NoPrefix : List Clause → Type 0
-NoPrefix cs = (ss : List ℕ) → In (takes (prefixItems ss)) cs → ⊥
+NoPrefix cs = (ss : List ℕ) → In (takes (prefix_items ss)) cs → ⊥
 
 module _ (D : Doc) where
   -- row k is a member of the object in row j, or an element of the array in it
   pub record Member (j k : ℕ) : Type 0 where
     pub first : ℕ
     pub count : ℕ
-    pub of-object : D.value j ≡ object first count
+    pub of_object : D.value j ≡ object first count
     pub within : Within first count k
 
   -- element number i
@@ -78,71 +78,71 @@ module _ (D : Doc) where
 
   pub record Assertions : Type 0 where
     -- 1, (false)
-    pub never-is : (j : ℕ) → passes D j never ≡ false
+    pub never_is : (j : ℕ) → passes D j never ≡ false
     -- 2, (type)
-    pub type-is : (j mask : ℕ) → (passes D j (type mask) ≡ true) ↔ TypeOf mask (D.value j)
+    pub type_is : (j mask : ℕ) → (passes D j (type mask) ≡ true) ↔ TypeOf mask (D.value j)
     -- 3, (enum): numbers are equal by value, strings by bytes
     pub enum_is : (j : ℕ) (vs : List Value) → ((v : Value) → In v vs → Scalar v) → (passes D j (enum vs) ≡ true) ↔ In (D.value j) vs
     -- 10 to 13, (minimum) and those like it
-    pub minimum-is : (j : ℕ) (z : ℤ) → (passes D j (minimum z) ≡ true) ↔ ((y : ℤ) → D.value j ≡ number y → le_z z y ≡ true)
-    pub maximum-is : (j : ℕ) (z : ℤ) → (passes D j (maximum z) ≡ true) ↔ ((y : ℤ) → D.value j ≡ number y → le_z y z ≡ true)
-    pub exclusiveMinimum-is : (j : ℕ) (z : ℤ) → (passes D j (exclusiveMinimum z) ≡ true) ↔ ((y : ℤ) → D.value j ≡ number y → lt_z z y ≡ true)
-    pub exclusiveMaximum-is : (j : ℕ) (z : ℤ) → (passes D j (exclusiveMaximum z) ≡ true) ↔ ((y : ℤ) → D.value j ≡ number y → lt_z y z ≡ true)
+    pub minimum_is : (j : ℕ) (z : ℤ) → (passes D j (minimum z) ≡ true) ↔ ((y : ℤ) → D.value j ≡ number y → le_z z y ≡ true)
+    pub maximum_is : (j : ℕ) (z : ℤ) → (passes D j (maximum z) ≡ true) ↔ ((y : ℤ) → D.value j ≡ number y → le_z y z ≡ true)
+    pub exclusive_minimum_is : (j : ℕ) (z : ℤ) → (passes D j (exclusive_minimum z) ≡ true) ↔ ((y : ℤ) → D.value j ≡ number y → lt_z z y ≡ true)
+    pub exclusive_maximum_is : (j : ℕ) (z : ℤ) → (passes D j (exclusive_maximum z) ≡ true) ↔ ((y : ℤ) → D.value j ≡ number y → lt_z y z ≡ true)
     -- 14, (multipleOf)
-    pub multipleOf-is : (j : ℕ) (z : ℤ) → (passes D j (multipleOf z) ≡ true) ↔ ((y : ℤ) → D.value j ≡ number y → Times y (nat_abs z))
+    pub multiple_of_is : (j : ℕ) (z : ℤ) → (passes D j (multiple_of z) ≡ true) ↔ ((y : ℤ) → D.value j ≡ number y → Times y (nat_abs z))
     -- 20 and 21, (minLength), (maxLength): a string's length is that of the list of code points that it encodes
-    pub minLength-is : (j k : ℕ) → WellSpelled (D.value j) → (passes D j (minLength k) ≡ true) ↔ ((bytes : List ℕ) → D.value j ≡ string bytes → (u : Utf8 bytes) → k ≤ characters u)
-    pub maxLength-is : (j k : ℕ) → WellSpelled (D.value j) → (passes D j (maxLength k) ≡ true) ↔ ((bytes : List ℕ) → D.value j ≡ string bytes → (u : Utf8 bytes) → characters u ≤ k)
+    pub min_length_is : (j k : ℕ) → WellSpelled (D.value j) → (passes D j (min_length k) ≡ true) ↔ ((bytes : List ℕ) → D.value j ≡ string bytes → (u : Utf8 bytes) → k ≤ characters u)
+    pub max_length_is : (j k : ℕ) → WellSpelled (D.value j) → (passes D j (max_length k) ≡ true) ↔ ((bytes : List ℕ) → D.value j ≡ string bytes → (u : Utf8 bytes) → characters u ≤ k)
     -- 22 and 23, (minItems), (maxItems)
-    pub minItems-is : (j k : ℕ) → (passes D j (minItems k) ≡ true) ↔ ((first count : ℕ) → D.value j ≡ array first count → k ≤ count)
-    pub maxItems-is : (j k : ℕ) → (passes D j (maxItems k) ≡ true) ↔ ((first count : ℕ) → D.value j ≡ array first count → count ≤ k)
+    pub min_items_is : (j k : ℕ) → (passes D j (min_items k) ≡ true) ↔ ((first count : ℕ) → D.value j ≡ array first count → k ≤ count)
+    pub max_items_is : (j k : ℕ) → (passes D j (max_items k) ≡ true) ↔ ((first count : ℕ) → D.value j ≡ array first count → count ≤ k)
     -- 24 and 25, (minProperties), (maxProperties)
-    pub minProperties-is : (j k : ℕ) → (passes D j (minProperties k) ≡ true) ↔ ((first count : ℕ) → D.value j ≡ object first count → k ≤ count)
-    pub maxProperties-is : (j k : ℕ) → (passes D j (maxProperties k) ≡ true) ↔ ((first count : ℕ) → D.value j ≡ object first count → count ≤ k)
+    pub min_properties_is : (j k : ℕ) → (passes D j (min_properties k) ≡ true) ↔ ((first count : ℕ) → D.value j ≡ object first count → k ≤ count)
+    pub max_properties_is : (j k : ℕ) → (passes D j (max_properties k) ≡ true) ↔ ((first count : ℕ) → D.value j ≡ object first count → count ≤ k)
     -- 26, (required)
-    pub required-is : (j : ℕ) (names : List (List ℕ)) → (passes D j (required names) ≡ true) ↔
+    pub required_is : (j : ℕ) (names : List (List ℕ)) → (passes D j (required names) ≡ true) ↔
         ((first count : ℕ) → D.value j ≡ object first count → (name : List ℕ) → In name names → (k : ℕ) × Within first count k × (D.name k ≡ name))
 
   -- ---- keywords that take children: which pairs these are, after the clauses `before` of the same schema, which mark κ
 
   pub record Reaches (p : Pair) (before : List Clause) (κ : Marks) : Type 0 where
     -- 40, (properties): a member, an entry that has its name, and that entry's schema
-    pub properties-is : (es : List (List ℕ × ℕ)) (q : Pair) → In q (taken D p before κ (properties es)) ↔
+    pub properties_is : (es : List (List ℕ × ℕ)) (q : Pair) → In q (taken D p before κ (properties es)) ↔
         (Member p.row q.row × ((e : List ℕ × ℕ) × In e es × (e.0 ≡ D.name q.row) × (e.1 ≡ q.rule)))
     -- 42, (additionalProperties): a member that no adjacent 40 names; what is marked does not matter
-    pub additionalProperties-is : (s : ℕ) (q : Pair) → In q (taken D p before κ (additionalProperties s)) ↔
+    pub additional_properties_is : (s : ℕ) (q : Pair) → In q (taken D p before κ (additional_properties s)) ↔
         (Member p.row q.row × (q.rule ≡ s) × (Named before q.row → ⊥))
     -- 43, (prefixItems): an element, and the schema at its place
-    pub prefixItems-is : (ss : List ℕ) (q : Pair) → In q (taken D p before κ (prefixItems ss)) ↔
+    pub prefix_items_is : (ss : List ℕ) (q : Pair) → In q (taken D p before κ (prefix_items ss)) ↔
         ((i : ℕ) × Element p.row i q.row × (i < length ss) × (q.rule ≡ get_or ss i 0))
     -- 44, (items): an element after the entries of the adjacent 43, any if there is none
-    pub items-is : (s : ℕ) (q : Pair) → NoPrefix before → In q (taken D p before κ (items s)) ↔
+    pub items_is : (s : ℕ) (q : Pair) → NoPrefix before → In q (taken D p before κ (items s)) ↔
         ((i : ℕ) × Element p.row i q.row × (q.rule ≡ s))
-    pub items-after : (s : ℕ) (ss : List ℕ) (cs ds : List Clause) (q : Pair) → before ≡ cs ++ takes (prefixItems ss) ∷ ds → NoPrefix cs → NoPrefix ds
+    pub items_after : (s : ℕ) (ss : List ℕ) (cs ds : List Clause) (q : Pair) → before ≡ cs ++ takes (prefix_items ss) ∷ ds → NoPrefix cs → NoPrefix ds
         → In q (taken D p before κ (items s)) ↔ ((i : ℕ) × Element p.row i q.row × (q.rule ≡ s) × (length ss ≤ i))
     -- 37, (dependentSchemas): the row itself, with the schema of an entry whose name a member has
-    pub dependentSchemas-is : (es : List (List ℕ × ℕ)) (q : Pair) → In q (depended D p es) ↔
+    pub dependent_schemas_is : (es : List (List ℕ × ℕ)) (q : Pair) → In q (depended D p es) ↔
         ((q.row ≡ p.row) × ((e : List ℕ × ℕ) × In e es × (e.1 ≡ q.rule) × ((k : ℕ) × Member p.row k × (e.0 ≡ D.name k))))
     -- 45, (contains): every element
-    pub contains-is : (s : ℕ) (q : Pair) → In q (under p s (elementsOf D p.row)) ↔ ((i : ℕ) × Element p.row i q.row × (q.rule ≡ s))
+    pub contains_is : (s : ℕ) (q : Pair) → In q (under p s (elements_of D p.row)) ↔ ((i : ℕ) × Element p.row i q.row × (q.rule ≡ s))
     -- 60 and 61, (unevaluatedProperties), (unevaluatedItems): a child that no earlier clause of the schema has marked
-    pub unevaluatedProperties-is : (s : ℕ) (q : Pair) → In q (taken D p before κ (unevaluatedProperties s)) ↔
+    pub unevaluated_properties_is : (s : ℕ) (q : Pair) → In q (taken D p before κ (unevaluated_properties s)) ↔
         (Member p.row q.row × (q.rule ≡ s) × (κ q.row ≡ false))
-    pub unevaluatedItems-is : (s : ℕ) (q : Pair) → In q (taken D p before κ (unevaluatedItems s)) ↔
+    pub unevaluated_items_is : (s : ℕ) (q : Pair) → In q (taken D p before κ (unevaluated_items s)) ↔
         ((i : ℕ) × Element p.row i q.row × (q.rule ≡ s) × (κ q.row ≡ false))
 
 -- ---- keywords that join verdicts on the row itself, or count those on its children
 
 pub record Joinings : Type 0 where
   -- 30, (all_of)
-  pub allOf-is : (bs : List Bool) → (joined all_of bs ≡ true) ↔ ((b : Bool) → In b bs → b ≡ true)
+  pub all_of_is : (bs : List Bool) → (joined all_of bs ≡ true) ↔ ((b : Bool) → In b bs → b ≡ true)
   -- 31, (any_of)
-  pub anyOf-is : (bs : List Bool) → (joined any_of bs ≡ true) ↔ In true bs
+  pub any_of_is : (bs : List Bool) → (joined any_of bs ≡ true) ↔ In true bs
   -- 32, (one_of): one place holds, and no other
-  pub oneOf-is : (bs : List Bool) → (joined one_of bs ≡ true) ↔ ((i : ℕ) × (get_or bs i false ≡ true) × ((k : ℕ) → get_or bs k false ≡ true → k ≡ i))
+  pub one_of_is : (bs : List Bool) → (joined one_of bs ≡ true) ↔ ((i : ℕ) × (get_or bs i false ≡ true) × ((k : ℕ) → get_or bs k false ≡ true → k ≡ i))
   -- 33, (not)
-  pub not_is : (b : Bool) → (joined notOf (b ∷ []) ≡ true) ↔ (b ≡ false)
+  pub not_is : (b : Bool) → (joined not_of (b ∷ []) ≡ true) ↔ (b ≡ false)
   -- 34, ($ref)
-  pub ref-is : (b : Bool) → (joined ref (b ∷ []) ≡ true) ↔ (b ≡ true)
+  pub ref_is : (b : Bool) → (joined ref (b ∷ []) ≡ true) ↔ (b ≡ true)
   -- 45, (minContains), (maxContains): both ends are within
-  pub contains-count : (least most n : ℕ) → (within least most n ≡ true) ↔ ((least ≤ n) × (n ≤ most))
+  pub contains_count : (least most n : ℕ) → (within least most n ≡ true) ↔ ((least ≤ n) × (n ≤ most))

@@ -28,11 +28,11 @@ unfoldable pub keep : (ℕ → Bool) → List ℕ → List ℕ
 keep p [] = []
 keep p (x ∷ xs) = cond (p x) (x ∷ keep p xs) (keep p xs)
 
-unfoldable pub concatMap {ℓ κ} : {A : Type ℓ} {B : Type κ} → (A → List B) → List A → List B
-concatMap f [] = []
-concatMap f (x ∷ xs) = f x ++ concatMap f xs
+unfoldable pub concat_map {ℓ κ} : {A : Type ℓ} {B : Type κ} → (A → List B) → List A → List B
+concat_map f [] = []
+concat_map f (x ∷ xs) = f x ++ concat_map f xs
 
 -- opens this module to a computation
-unfoldable pub lists-computes : Unit {0}
-unfolding all any count range elem keep concatMap
-lists-computes = tt
+unfoldable pub lists_computes : Unit {0}
+unfolding all any count range elem keep concat_map
+lists_computes = tt

@@ -3,16 +3,16 @@
 -- Assumes nothing.
 use Rattle.std.specs.Prelude.{ℕ, zero, suc, ◌+◌, ◌*◌, Bool, true, false, not, ◌&&◌, ◌||◌, cond, List, [], ◌∷◌, ◌++◌, map, eqb, leb, length, drop, ℤ}
 use Rattle.std.specs.Int.Signed.{le_z, lt_z}
-use Rattle.decimal.specs.Value.{isMultiple}
-use Rattle.text.specs.Part.{sameBytes}
+use Rattle.decimal.specs.Value.{is_multiple}
+use Rattle.text.specs.Part.{same_bytes}
 use Rattle.sheet.specs.Doc.{Value, Doc}
-use Rattle.sheet.specs.Faults.{level-refused}
+use Rattle.sheet.specs.Faults.{level_refused}
 use Rattle.unguarded.specs.Graph.{chain_steps}
-use Rattle.rulesheet.specs.Ruleset.{Test, never, type, enum, minimum, maximum, exclusiveMinimum, exclusiveMaximum, multipleOf}
-use Rattle.rulesheet.specs.Ruleset.{minLength, maxLength, minItems, maxItems, minProperties, maxProperties, required}
-use Rattle.rulesheet.specs.Ruleset.{Mode, all_of, any_of, one_of, notOf, ref, Reach, properties, additionalProperties, prefixItems, items}
-use Rattle.rulesheet.specs.Ruleset.{unevaluatedProperties, unevaluatedItems, Clause, asserts, inPlace, ifThenElse, dependentSchemas, contains, takes, Ruleset}
-use Rattle.meaning.specs.Lists.{all, any, count, elem, keep, concatMap}
+use Rattle.rulesheet.specs.Ruleset.{Test, never, type, enum, minimum, maximum, exclusive_minimum, exclusive_maximum, multiple_of}
+use Rattle.rulesheet.specs.Ruleset.{min_length, max_length, min_items, max_items, min_properties, max_properties, required}
+use Rattle.rulesheet.specs.Ruleset.{Mode, all_of, any_of, one_of, not_of, ref, Reach, properties, additional_properties, prefix_items, items}
+use Rattle.rulesheet.specs.Ruleset.{unevaluated_properties, unevaluated_items, Clause, asserts, in_place, if_then_else, dependent_schemas, contains, takes, Ruleset}
+use Rattle.meaning.specs.Lists.{all, any, count, elem, keep, concat_map}
 use Rattle.meaning.specs.Tests.{number?, bytes?, elements?, members?, given, rows, length_of, at_least, at_most, typed, equal}
 
 pub record Pair : Type 0 where
@@ -80,13 +80,13 @@ each w [] k = k []
 each w (p ∷ ps) k = apply p (λ r. cond (stops w r) (k (r ∷ [])) (each w ps (λ rs. k (r ∷ rs))))
 
 -- of the entries only those of all_of are cut
-unfoldable pub wayIn : Way → Mode → Way
-wayIn whole m = whole
-wayIn cut all_of = cut
-wayIn cut any_of = whole
-wayIn cut one_of = whole
-wayIn cut notOf = whole
-wayIn cut ref = whole
+unfoldable pub way_in : Way → Mode → Way
+way_in whole m = whole
+way_in cut all_of = cut
+way_in cut any_of = whole
+way_in cut one_of = whole
+way_in cut not_of = whole
+way_in cut ref = whole
 
 -- ---- what a clause says of a row
 
@@ -106,36 +106,36 @@ unfoldable pub joined : Mode → List Bool → Bool
 joined all_of bs = all bs  -- 30 (all_of)
 joined any_of bs = any bs  -- 31 (any_of)
 joined one_of bs = one? bs  -- 32 (one_of)
-joined notOf bs = none? bs  -- 33 (not)
+joined not_of bs = none? bs  -- 33 (not)
 joined ref bs = all bs  -- 34 ($ref)
 
 -- the names of an earlier `properties`
 unfoldable pub names_of : Clause → List (List ℕ)
 names_of (asserts t) = []
-names_of (inPlace m ss) = []
-names_of (ifThenElse i t e) = []
-names_of (dependentSchemas es) = []
+names_of (in_place m ss) = []
+names_of (if_then_else i t e) = []
+names_of (dependent_schemas es) = []
 names_of (contains s least most) = []
 names_of (takes (properties es)) = map (λ e. e.0) es
-names_of (takes (additionalProperties s)) = []
-names_of (takes (prefixItems ss)) = []
+names_of (takes (additional_properties s)) = []
+names_of (takes (prefix_items ss)) = []
 names_of (takes (items s)) = []
-names_of (takes (unevaluatedProperties s)) = []
-names_of (takes (unevaluatedItems s)) = []
+names_of (takes (unevaluated_properties s)) = []
+names_of (takes (unevaluated_items s)) = []
 
 -- the schemas of an earlier `prefixItems`
 unfoldable pub prefix_of : Clause → List ℕ
 prefix_of (asserts t) = []
-prefix_of (inPlace m ss) = []
-prefix_of (ifThenElse i t e) = []
-prefix_of (dependentSchemas es) = []
+prefix_of (in_place m ss) = []
+prefix_of (if_then_else i t e) = []
+prefix_of (dependent_schemas es) = []
 prefix_of (contains s least most) = []
 prefix_of (takes (properties es)) = []
-prefix_of (takes (additionalProperties s)) = []
-prefix_of (takes (prefixItems ss)) = ss
+prefix_of (takes (additional_properties s)) = []
+prefix_of (takes (prefix_items ss)) = ss
 prefix_of (takes (items s)) = []
-prefix_of (takes (unevaluatedProperties s)) = []
-prefix_of (takes (unevaluatedItems s)) = []
+prefix_of (takes (unevaluated_properties s)) = []
+prefix_of (takes (unevaluated_items s)) = []
 
 -- every pair that a pair p applies is made here: schema s on row k
 unfoldable pub to : Pair → ℕ → ℕ → Pair
@@ -163,21 +163,21 @@ holding (p ∷ ps) (r ∷ rs) = let rest = holding ps rs in cond r.holds (p ∷ 
 
 module _ (D : Doc) where
   unfoldable pub called : List ℕ → ℕ → Bool
-  called name k = sameBytes (D.name k) name
+  called name k = same_bytes (D.name k) name
 
   unfoldable pub members_of : ℕ → List ℕ
   members_of j = rows (members? (D.value j))
 
-  unfoldable pub elementsOf : ℕ → List ℕ
-  elementsOf j = rows (elements? (D.value j))
+  unfoldable pub elements_of : ℕ → List ℕ
+  elements_of j = rows (elements? (D.value j))
 
   -- each name is the name of one of the rows
   unfoldable pub present : List (List ℕ) → List ℕ → Bool
   present names ks = all (map (λ n. any (map (λ k. called n k) ks)) names)
 
   -- a member of the row has the name
-  unfoldable pub hasMember : ℕ → List ℕ → Bool
-  hasMember j name = any (map (λ k. called name k) (members_of j))
+  unfoldable pub has_member : ℕ → List ℕ → Bool
+  has_member j name = any (map (λ k. called name k) (members_of j))
 
   unfoldable pub passes : ℕ → Test → Bool
   passes j never = false  -- 1 (false)
@@ -185,30 +185,30 @@ module _ (D : Doc) where
   passes j (enum vs) = any (map (λ v. equal (D.value j) v) vs)  -- 3 (enum)
   passes j (minimum z) = given (number? (D.value j)) (λ y. le_z z y)  -- 10 (minimum)
   passes j (maximum z) = given (number? (D.value j)) (λ y. le_z y z)  -- 11 (maximum)
-  passes j (exclusiveMinimum z) = given (number? (D.value j)) (λ y. lt_z z y)  -- 12 (exclusiveMinimum)
-  passes j (exclusiveMaximum z) = given (number? (D.value j)) (λ y. lt_z y z)  -- 13 (exclusiveMaximum)
-  passes j (multipleOf z) = given (number? (D.value j)) (λ y. isMultiple y z)  -- 14 (multipleOf)
-  passes j (minLength k) = at_least length_of k (bytes? (D.value j))  -- 20 (minLength)
-  passes j (maxLength k) = at_most length_of k (bytes? (D.value j))  -- 21 (maxLength)
-  passes j (minItems k) = at_least length k (elements? (D.value j))  -- 22 (minItems)
-  passes j (maxItems k) = at_most length k (elements? (D.value j))  -- 23 (maxItems)
-  passes j (minProperties k) = at_least length k (members? (D.value j))  -- 24 (minProperties)
-  passes j (maxProperties k) = at_most length k (members? (D.value j))  -- 25 (maxProperties)
+  passes j (exclusive_minimum z) = given (number? (D.value j)) (λ y. lt_z z y)  -- 12 (exclusiveMinimum)
+  passes j (exclusive_maximum z) = given (number? (D.value j)) (λ y. lt_z y z)  -- 13 (exclusiveMaximum)
+  passes j (multiple_of z) = given (number? (D.value j)) (λ y. is_multiple y z)  -- 14 (multipleOf)
+  passes j (min_length k) = at_least length_of k (bytes? (D.value j))  -- 20 (minLength)
+  passes j (max_length k) = at_most length_of k (bytes? (D.value j))  -- 21 (maxLength)
+  passes j (min_items k) = at_least length k (elements? (D.value j))  -- 22 (minItems)
+  passes j (max_items k) = at_most length k (elements? (D.value j))  -- 23 (maxItems)
+  passes j (min_properties k) = at_least length k (members? (D.value j))  -- 24 (minProperties)
+  passes j (max_properties k) = at_most length k (members? (D.value j))  -- 25 (maxProperties)
   passes j (required names) = given (members? (D.value j)) (present names)  -- 26 (required)
 
   -- the children that a clause takes, with their schemas, after the clauses `before` of the same schema, which mark κ
   unfoldable pub taken : Pair → List Clause → Marks → Reach → List Pair
-  taken p before κ (properties es) = concatMap (λ e. under p e.1 (keep (called e.0) (members_of p.row))) es  -- 40 (properties)
-  taken p before κ (additionalProperties s) =  -- 42 (additionalProperties)
-      under p s (keep (λ k. none? (map (λ n. called n k) (concatMap names_of before))) (members_of p.row))
-  taken p before κ (prefixItems ss) = across p (elementsOf p.row) ss  -- 43 (prefixItems)
-  taken p before κ (items s) = under p s (drop (length (concatMap prefix_of before)) (elementsOf p.row))  -- 44 (items)
-  taken p before κ (unevaluatedProperties s) = under p s (keep (λ k. not (κ k)) (members_of p.row))  -- 60 (unevaluatedProperties)
-  taken p before κ (unevaluatedItems s) = under p s (keep (λ k. not (κ k)) (elementsOf p.row))  -- 61 (unevaluatedItems)
+  taken p before κ (properties es) = concat_map (λ e. under p e.1 (keep (called e.0) (members_of p.row))) es  -- 40 (properties)
+  taken p before κ (additional_properties s) =  -- 42 (additionalProperties)
+      under p s (keep (λ k. none? (map (λ n. called n k) (concat_map names_of before))) (members_of p.row))
+  taken p before κ (prefix_items ss) = across p (elements_of p.row) ss  -- 43 (prefixItems)
+  taken p before κ (items s) = under p s (drop (length (concat_map prefix_of before)) (elements_of p.row))  -- 44 (items)
+  taken p before κ (unevaluated_properties s) = under p s (keep (λ k. not (κ k)) (members_of p.row))  -- 60 (unevaluatedProperties)
+  taken p before κ (unevaluated_items s) = under p s (keep (λ k. not (κ k)) (elements_of p.row))  -- 61 (unevaluatedItems)
 
   -- each schema on the row itself whose name a member has
   unfoldable pub depended : Pair → List (List ℕ × ℕ) → List Pair
-  depended p es = concatMap (λ e. cond (hasMember p.row e.0) (to p p.row e.1 ∷ []) []) es
+  depended p es = concat_map (λ e. cond (has_member p.row e.0) (to p p.row e.1 ∷ []) []) es
 
   -- of an array, whether so many elements are enough
   unfoldable pub contained : ℕ → ℕ → ℕ → ℕ → Bool
@@ -219,16 +219,16 @@ module _ (D : Doc) where
   -- J : K, after the clauses `before` of the same schema, which mark κ
   unfoldable pub clause : Way → Pair → List Clause → Marks → Clause → Judgement
   clause w p before κ (asserts t) = found (record { holds = passes p.row t; marks = nothing })
-  clause w p before κ (inPlace m ss) =
-      each (wayIn w m) (here p ss) (λ rs. found (record { holds = joined m (verdicts rs); marks = unions rs }))
-  clause w p before κ (ifThenElse i t e) =  -- 36 (if, then, else)
+  clause w p before κ (in_place m ss) =
+      each (way_in w m) (here p ss) (λ rs. found (record { holds = joined m (verdicts rs); marks = unions rs }))
+  clause w p before κ (if_then_else i t e) =  -- 36 (if, then, else)
       apply (to p p.row i) (λ q.
       apply (to p p.row (cond q.holds t e)) (λ r.
       found (record { holds = r.holds; marks = q.marks ∪ r.marks })))
-  clause w p before κ (dependentSchemas es) =  -- 37 (dependentSchemas)
+  clause w p before κ (dependent_schemas es) =  -- 37 (dependentSchemas)
       each whole (depended p es) (λ rs. found (record { holds = all (verdicts rs); marks = unions rs }))
   clause w p before κ (contains s least most) =  -- 45 (contains, minContains, maxContains)
-      let ps = under p s (elementsOf p.row) in
+      let ps = under p s (elements_of p.row) in
       each whole ps (λ rs. found (record { holds = contained p.row least most (count (verdicts rs)); marks = these (map (λ q. q.row) (holding ps rs)) }))
   clause w p before κ (takes c) =
       let ps = taken p before κ c in
@@ -244,7 +244,7 @@ module _ (D : Doc) where
 
 -- levels × schemas of a chain: every pair of accepted sheets ranks below it (`rank` in Fit)
 unfoldable pub depth : ℕ
-depth = level-refused * suc chain_steps
+depth = level_refused * suc chain_steps
 
 module _ (D : Doc) (R : Ruleset) where
   -- J : S; a schema that fails has no marks
@@ -267,6 +267,6 @@ module _ (D : Doc) (R : Ruleset) where
   applies w p = applied truth (judgement w p)
 
 -- opens this module to a computation
-unfoldable pub rules-computes : Unit {0}
-unfolding nothing ◌∪◌ these unions verdicts answer applied and_then stops each wayIn one? none? within joined names_of prefix_of to here under across holding called members_of elementsOf present hasMember passes taken depended contained clause clauses depth judgement derive truth applies
-rules-computes = tt
+unfoldable pub rules_computes : Unit {0}
+unfolding nothing ◌∪◌ these unions verdicts answer applied and_then stops each way_in one? none? within joined names_of prefix_of to here under across holding called members_of elements_of present has_member passes taken depended contained clause clauses depth judgement derive truth applies
+rules_computes = tt

@@ -2,9 +2,9 @@
 -- Assumes nothing.
 use Rattle.std.specs.Prelude.{ℕ, zero, suc, ◌+◌, ◌*◌, ◌%◌, Bool, true, false, ◌&&◌, ◌||◌, cond, eqb, ltb, length}
 use mathlib.Core.List.{List, [], ◌∷◌, ◌++◌, map, Memᴰ as In}
-use Rattle.sheet.specs.Doc.{Doc, firstChild, childCount}
+use Rattle.sheet.specs.Doc.{Doc, first_child, child_count}
 use Rattle.rulesheet.specs.Ruleset.{Ruleset}
-use Rattle.meaning.specs.Lists.{range, keep, concatMap}
+use Rattle.meaning.specs.Lists.{range, keep, concat_map}
 use Rattle.meaning.specs.Rules.{Pair, Way, whole, depth, truth, applies}
 
 unfoldable pub same_pair : Pair → Pair → Bool
@@ -55,11 +55,11 @@ module _ (D : Doc) (R : Ruleset) (n m : ℕ) where
   unfoldable pub cells : Way → List ℕ
   cells w =
       let done = settled D R w in
-      concatMap (λ j. map (λ s. cell done (record { row = j; rule = s })) (range 0 m)) (range 0 n)
+      concat_map (λ j. map (λ s. cell done (record { row = j; rule = s })) (range 0 m)) (range 0 n)
 
   -- how many children of the root are marked
   unfoldable pub marked : ℕ
-  marked = length (keep (truth D R root).marks (range (firstChild (D.value 0)) (childCount (D.value 0))))
+  marked = length (keep (truth D R root).marks (range (first_child (D.value 0)) (child_count (D.value 0))))
 
 -- how many of the cells show a verdict
 unfoldable pub shown : List ℕ → ℕ
@@ -67,6 +67,6 @@ shown [] = 0
 shown (x ∷ xs) = cond (eqb (x % 4) 0) 0 1 + shown xs
 
 -- opens this module to a computation
-unfoldable pub settling-computes : Unit {0}
+unfoldable pub settling_computes : Unit {0}
 unfolding same_pair listed in_turn root settle settled word list cell cells marked shown
-settling-computes = tt
+settling_computes = tt

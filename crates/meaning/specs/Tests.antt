@@ -2,11 +2,11 @@
 -- Assumes nothing.
 use Rattle.std.specs.Prelude.{ℕ, ◌/◌, ◌%◌, Bool, true, false, ◌&&◌, ◌||◌, not, List, [], ◌∷◌, map, eqb, leb, ℤ}
 use Rattle.std.proofs.Math.Option.{Option, none, some}
-use Rattle.decimal.specs.Value.{equalZ, is_whole}
-use Rattle.text.specs.Part.{sameBytes}
-use Rattle.counting.specs.Counting.{leadLength, countAfter, count}
-use Rattle.sheet.specs.Doc.{Value, null, bool, number, string, array, object, valueKind}
-use Rattle.sheet.specs.Kinds.{kindNumber}
+use Rattle.decimal.specs.Value.{equal_z, is_whole}
+use Rattle.text.specs.Part.{same_bytes}
+use Rattle.counting.specs.Counting.{lead_length, count_after, count}
+use Rattle.sheet.specs.Doc.{Value, null, bool, number, string, array, object, value_kind}
+use Rattle.sheet.specs.Kinds.{kind_number}
 use Rattle.meaning.specs.Lists.{any, range}
 
 unfoldable pub number? : Value → Option ℤ
@@ -52,7 +52,7 @@ unfoldable pub rows : Option (List ℕ) → List ℕ
 rows none = []
 rows (some ks) = ks
 
--- a string's length is how many characters it has, each counted by its lead byte: of UTF-8 how many code points it encodes (`count-is` of crate `counting`)
+-- a string's length is how many characters it has, each counted by its lead byte: of UTF-8 how many code points it encodes (`count_is` of crate `counting`)
 abbrev pub length_of : List ℕ → ℕ
 length_of bytes = count bytes
 
@@ -84,9 +84,9 @@ agree e (some a) (some b) = e a b
 
 -- equal values of an enum, which has no array and no object
 unfoldable pub equal : Value → Value → Bool
-equal v w = eqb (kindNumber (valueKind v)) (kindNumber (valueKind w)) && agree equalZ (number? v) (number? w) && agree sameBytes (bytes? v) (bytes? w)
+equal v w = eqb (kind_number (value_kind v)) (kind_number (value_kind w)) && agree equal_z (number? v) (number? w) && agree same_bytes (bytes? v) (bytes? w)
 
 -- opens this module to a computation
-unfoldable pub tests-computes : Unit {0}
-unfolding leadLength countAfter count number? bytes? elements? members? given rows agree at_least at_most has typed equal
-tests-computes = tt
+unfoldable pub tests_computes : Unit {0}
+unfolding lead_length count_after count number? bytes? elements? members? given rows agree at_least at_most has typed equal
+tests_computes = tt

@@ -19,8 +19,8 @@ pub record Marked (name : ℕ → List ℕ) (seen : List Bool) (i : ℕ) : Type 
   pub long : length seen ≡ signs
   pub marked : (k : ℕ) → k < i → get_or seen (sign_of (name k)) false ≡ true
 
-pub marked-none : (name : ℕ → List ℕ) (seen : List Bool) → length seen ≡ signs → Marked name seen 0
-marked-none name seen long = record { long = long; marked = λ k h. absurd (nothing k h) }
+pub marked_none : (name : ℕ → List ℕ) (seen : List Bool) → length seen ≡ signs → Marked name seen 0
+marked_none name seen long = record { long = long; marked = λ k h. absurd (nothing k h) }
   where
     nothing : (k : ℕ) → k < 0 → ⊥
     nothing k h = omega arith

@@ -5,16 +5,16 @@
 use Rattle.std.specs.Prelude.{Bool, true, List, ◌≡◌, ℕ, ◌+◌, ◌*◌, ◌≤◌, ◌<◌, ltb, length, get_or}
 use Rattle.laws.specs.Lowest.{lowest}
 use Rattle.text.specs.declared.Range.{Range}
-use Rattle.text.specs.Part.{fits, part, sameBytes}
+use Rattle.text.specs.Part.{fits, part, same_bytes}
 use Rattle.names.specs.declared.Names.{Names}
 
 -- the most names that are ever compared
-abbrev pub names-max : ℕ
-names-max = 4_096
+abbrev pub names_max : ℕ
+names_max = 4_096
 
 -- name i's range, by its two words
-abbrev pub rangeAt : List ℕ → Names → ℕ → Range
-rangeAt ws names i =
+abbrev pub range_at : List ℕ → Names → ℕ → Range
+range_at ws names i =
     record {
       start = get_or ws (names.base + names.stride * i) 0;
       length = get_or ws (names.base + names.stride * i + 1) 0;
@@ -22,26 +22,26 @@ rangeAt ws names i =
 
 -- name i's bytes
 abbrev pub name_at : List ℕ → List ℕ → Names → ℕ → List ℕ
-name_at ws ts names i = part ts (rangeAt ws names i)
+name_at ws ts names i = part ts (range_at ws names i)
 
 -- of names given by their bytes, name k is the same as name i
-abbrev pub sameAs : (ℕ → List ℕ) → ℕ → ℕ → Bool
-sameAs name i k = sameBytes (name k) (name i)
+abbrev pub same_as : (ℕ → List ℕ) → ℕ → ℕ → Bool
+same_as name i k = same_bytes (name k) (name i)
 
 -- the lowest name that is the same as name i: i itself where no earlier one is
-abbrev pub firstSame : (ℕ → List ℕ) → ℕ → ℕ
-firstSame name i = lowest (sameAs name i) i
+abbrev pub first_same : (ℕ → List ℕ) → ℕ → ℕ
+first_same name i = lowest (same_as name i) i
 
 -- an earlier name is the same as name i
-unfoldable pub repeatsBy : (ℕ → List ℕ) → ℕ → Bool
-repeatsBy name i = ltb (firstSame name i) i
+unfoldable pub repeats_by : (ℕ → List ℕ) → ℕ → Bool
+repeats_by name i = ltb (first_same name i) i
 
 -- the same of a sheet's names
-abbrev pub repeatsAt : List ℕ → List ℕ → Names → ℕ → Bool
-repeatsAt ws ts names = repeatsBy (name_at ws ts names)
+abbrev pub repeats_at : List ℕ → List ℕ → Names → ℕ → Bool
+repeats_at ws ts names = repeats_by (name_at ws ts names)
 
 -- the names may be compared: each one's two words are among the words, its range fits the text, and there are not too many
 pub record Lying (ws ts : List ℕ) (names : Names) : Type 0 where
   pub inside : (i : ℕ) → i < names.count → names.base + names.stride * i + 1 < length ws
-  pub fitting : (i : ℕ) → i < names.count → fits (length ts) (rangeAt ws names i) ≡ true
-  pub few : names.count ≤ names-max
+  pub fitting : (i : ℕ) → i < names.count → fits (length ts) (range_at ws names i) ≡ true
+  pub few : names.count ≤ names_max

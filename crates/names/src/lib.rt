@@ -2,15 +2,17 @@
 // one of them, and its laws. In code here: a name's range and bytes, and the lowest name that has them;
 // `namesakes` finds the lowest name that an earlier one repeats.
 //
-// Its contracts cite `specs/Names.antt`: `rangeAt`, `name_at`, `firstSame`, `Lying`.
+// Its contracts cite `specs/Names.antt`: `range_at`, `name_at`, `first_same`, `Lying`.
+#![tactic(auto)]
+
 ghost use Rattle.std.specs.Prelude.{◌≡◌, ◌+◌, ◌*◌, ◌<◌, length};
-ghost use Rattle.names.specs.Names.{rangeAt, name_at, firstSame, Lying};
+ghost use Rattle.names.specs.Names.{range_at, name_at, first_same, Lying};
 
 use text::Range;
 
 // `count` names, each a start and a length in two neighbouring words: the first name's stand at
 // `base`, and each later one's `stride` words further on.
-#[derive(Drop)]
+#[derive(Clone, Copy)]
 pub struct Names {
     pub base: usize,
     pub stride: usize,
@@ -20,7 +22,7 @@ pub struct Names {
 // Name i's range.
 pub fn range_at(words: &[u32], names: Names, i: usize) -> Range
     requires { names.base + names.stride * i + 1 < length words.now }
-    ensures { result ≡ rangeAt words.now names i }
+    ensures { result ≡ range_at words.now names i }
 {
     let at = names.base + names.stride * i;
     Range {
@@ -40,7 +42,7 @@ pub fn name_at<'a>(words: &[u32], text: &'a [u8], names: Names, i: usize) -> &'a
 // The lowest name with the bytes of name i, or i where no earlier one has them.
 pub fn first_same(words: &[u32], text: &[u8], names: Names, i: usize) -> usize
     requires { Lying words.now text.now names × (i < names.count) }
-    ensures { result ≡ firstSame (name_at words.now text.now names) i }
+    ensures { result ≡ first_same (name_at words.now text.now names) i }
 {
     let name = range_at(words, names, i);
     let mut k = 0;

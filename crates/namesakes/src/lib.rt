@@ -1,10 +1,12 @@
 // The lowest of many names that an earlier one repeats. A few names are told apart by their signs; more
 // stand in tables (`nametables`).
 //
-// Its contracts cite `names`' specs/Names.antt: `repeatsAt`, `Lying`.
+// Its contracts cite `names`' specs/Names.antt: `repeats_at`, `Lying`.
+#![tactic(auto)]
+
 ghost use Rattle.std.specs.Prelude.{◌≡◌, ◌≤◌};
 ghost use Rattle.laws.specs.Lowest.{lowest};
-ghost use Rattle.names.specs.Names.{repeatsAt, Lying};
+ghost use Rattle.names.specs.Names.{repeats_at, Lying};
 
 use names::{Names, first_same, name_at, range_at};
 use nametables::first_in_tables;
@@ -21,7 +23,7 @@ const LONG: usize = 64;
 // The same as `first_repeated`, for few names: those whose signs differ are not compared.
 fn first_of_few(words: &[u32], text: &[u8], names: Names) -> usize
     requires { Lying words.now text.now names }
-    ensures { result ≡ lowest (repeatsAt words.now text.now names) names.count }
+    ensures { result ≡ lowest (repeats_at words.now text.now names) names.count }
 {
     let n = names.count;
     let mut seen = [false; 128];
@@ -49,7 +51,7 @@ fn first_of_few(words: &[u32], text: &[u8], names: Names) -> usize
 // The same, for two names or a few more: each is compared with those before it, unless it is long.
 fn first_by_pairs(words: &[u32], text: &[u8], names: Names) -> usize
     requires { Lying words.now text.now names × (1 ≤ names.count) }
-    ensures { result ≡ lowest (repeatsAt words.now text.now names) names.count }
+    ensures { result ≡ lowest (repeats_at words.now text.now names) names.count }
 {
     let n = names.count;
     let mut i = 1;
@@ -72,7 +74,7 @@ fn first_by_pairs(words: &[u32], text: &[u8], names: Names) -> usize
 // The lowest name that an earlier one repeats, or the number of names where none is repeated.
 pub fn first_repeated(words: &[u32], text: &[u8], names: Names) -> usize
     requires { Lying words.now text.now names }
-    ensures { result ≡ lowest (repeatsAt words.now text.now names) names.count }
+    ensures { result ≡ lowest (repeats_at words.now text.now names) names.count }
 {
     let n = names.count;
     if n <= 1 {

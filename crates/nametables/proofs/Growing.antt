@@ -9,47 +9,47 @@ use lib.ListN.{length, get_or, set, length-set, replicate, length-replicate}
 use lib.Seq.{get_or-set_same, get_or-set_other}
 use borrow.Author.Count.{below_more}
 use borrow.Author.Tests.{lt-ltb, le-ltb}
-use Rattle.laws.proofs.Tests.{le-or-lt}
-use Rattle.ways.specs.Tree.{places-max, place_of, placeAt, Leads, Way, stay, go, Free, Stand, Chains, Put, Room, Standing}
-use Rattle.ways.proofs.Chains.{chains-none, chains-more}
+use Rattle.laws.proofs.Tests.{le_or_lt}
+use Rattle.ways.specs.Tree.{places_max, place_of, place_at, Leads, Way, stay, go, Free, Stand, Chains, Put, Room, Standing}
+use Rattle.ways.proofs.Chains.{chains_none, chains_more}
 
 -- what is written for name i leaves the names before it as they stand
 kept : (xs : List ℕ) (i v k : ℕ) → k < i → get_or (set xs i v) k 0 ≡ get_or xs k 0
 kept xs i v k h = get_or-set_other xs i k v 0 (λ z. omega arith)
 
 module _ {places : ℕ} {name : ℕ → List ℕ} {nodes marks : List ℕ} (i v w : ℕ) where
-  leads-new : {node mark letter c : ℕ} → c < i → Leads places name nodes marks node mark letter c
+  leads_new : {node mark letter c : ℕ} → c < i → Leads places name nodes marks node mark letter c
       → Leads places name (set nodes i v) (set marks i w) node mark letter c
-  leads-new {c = c} h l = record { under = kept nodes i v c h ∙ l.under; marked = kept marks i w c h ∙ l.marked; lettered = l.lettered }
+  leads_new {c = c} h l = record { under = kept nodes i v c h ∙ l.under; marked = kept marks i w c h ∙ l.marked; lettered = l.lettered }
 
-  leads-old : {node mark letter c : ℕ} → c < i → Leads places name (set nodes i v) (set marks i w) node mark letter c
+  leads_old : {node mark letter c : ℕ} → c < i → Leads places name (set nodes i v) (set marks i w) node mark letter c
       → Leads places name nodes marks node mark letter c
-  leads-old {c = c} h l =
+  leads_old {c = c} h l =
       record { under = sym (kept nodes i v c h) ∙ l.under; marked = sym (kept marks i w c h) ∙ l.marked; lettered = l.lettered }
 
-  way-new : {x : List ℕ} {k node mark end last : ℕ} → k ≤ i → Way places name nodes marks x k node mark end last
+  way_new : {x : List ℕ} {k node mark end last : ℕ} → k ≤ i → Way places name nodes marks x k node mark end last
       → Way places name (set nodes i v) (set marks i w) x k node mark end last
-  way-new h stay = stay
-  way-new h (go c m l t f s) = go c m l (leads-new (omega arith) t) f (way-new h s)
+  way_new h stay = stay
+  way_new h (go c m l t f s) = go c m l (leads_new (omega arith) t) f (way_new h s)
 
   free_new : {x : List ℕ} {k node mark : ℕ} → k ≤ i → Free places name nodes marks x k node mark
       → Free places name (set nodes i v) (set marks i w) x k node mark
   free_new h f =
       record {
-        reached = record { low = f.reached.low; forked = f.reached.forked; way = way-new h f.reached.way };
-        alone = λ c l t. f.alone c l (leads-old (omega arith) t);
+        reached = record { low = f.reached.low; forked = f.reached.forked; way = way_new h f.reached.way };
+        alone = λ c l t. f.alone c l (leads_old (omega arith) t);
       }
 
 module _ {places : ℕ} {name : ℕ → List ℕ} {nodes marks : List ℕ} {i node mark : ℕ} (f : Free places name nodes marks (name i) i node mark)
     (h : i < length nodes) (g : i < length marks) where
-  node-here : get_or (set nodes i node) i 0 ≡ node
-  node-here = get_or-set_same nodes i node 0 h
+  node_here : get_or (set nodes i node) i 0 ≡ node
+  node_here = get_or-set_same nodes i node 0 h
 
-  mark-here : get_or (set marks i mark) i 0 ≡ mark
-  mark-here = get_or-set_same marks i mark 0 g
+  mark_here : get_or (set marks i mark) i 0 ≡ mark
+  mark_here = get_or-set_same marks i mark 0 g
 
-  stand-more : Stand places name nodes marks i → Stand places name (set nodes i node) (set marks i mark) (i + 1)
-  stand-more s =
+  stand_more : Stand places name nodes marks i → Stand places name (set nodes i node) (set marks i mark) (i + 1)
+  stand_more s =
       record {
         free =
             below_more
@@ -57,70 +57,70 @@ module _ {places : ℕ} {name : ℕ → List ℕ} {nodes marks : List ℕ} {i no
             Free places name (set nodes i node) (set marks i mark) (name k) k (get_or (set nodes i node) k 0) (get_or (set marks i mark) k 0))
             i
             (λ k l. rw (kept nodes i node k l, kept marks i mark k l) (free_new i node mark (omega arith) (s.free k l)))
-            (rw (node-here, mark-here) (free_new i node mark (omega arith) f));
+            (rw (node_here, mark_here) (free_new i node mark (omega arith) f));
       }
 
-  place_kept : (k : ℕ) → k < i → placeAt places (set nodes i node) k ≡ placeAt places nodes k
+  place_kept : (k : ℕ) → k < i → place_at places (set nodes i node) k ≡ place_at places nodes k
   place_kept k l = ap (place_of places) (kept nodes i node k l)
 
-  place_here : placeAt places (set nodes i node) i ≡ place_of places node
-  place_here = ap (place_of places) node-here
+  place_here : place_at places (set nodes i node) i ≡ place_of places node
+  place_here = ap (place_of places) node_here
 
-place-low : (places node : ℕ) → node < places + places → place_of places node < places
+place_low : (places node : ℕ) → node < places + places → place_of places node < places
 unfolding place_of
-place-low places node h =
+place_low places node h =
     ⊎_elim
     (λ (l : places ≤ node). rw (le-ltb node places l) (omega arith))
     (λ (l : node < places). rw (lt-ltb node places l) l)
-    (le-or-lt places node)
+    (le_or_lt places node)
 
 -- name i stands where its way ends
 module _ {name : ℕ → List ℕ} {count : ℕ} {heads next nodes marks heads' next' nodes' marks' : List ℕ} {i node mark : ℕ}
     (s : Standing name count heads next nodes marks i) (h : i < count) (f : Free (length heads) name nodes marks (name i) i node mark)
     (p : Put heads next nodes marks i node mark heads' next' nodes' marks') where
-  head-length : length heads' ≡ length heads
-  head-length = ap length p.first ∙ length-set heads _ _
+  head_length : length heads' ≡ length heads
+  head_length = ap length p.first ∙ length-set heads _ _
 
-  room-more : Room count heads' next' nodes' marks'
-  room-more =
+  room_more : Room count heads' next' nodes' marks'
+  room_more =
       let r = s.room in
       record {
-        some-places = rw head-length r.some-places;
-        few-places = rw head-length r.few-places;
-        enough-places = rw head-length r.enough-places;
-        next-room = rw (p.then, length-set) r.next-room;
-        nodes-room = rw (p.under, length-set) r.nodes-room;
-        marks-room = rw (p.marked, length-set) r.marks-room;
+        some_places = rw head_length r.some_places;
+        few_places = rw head_length r.few_places;
+        enough_places = rw head_length r.enough_places;
+        next_room = rw (p.then, length-set) r.next_room;
+        nodes_room = rw (p.under, length-set) r.nodes_room;
+        marks_room = rw (p.marked, length-set) r.marks_room;
       }
 
-  in-nodes : i < length nodes
-  in-nodes = omega (arith, s.room.nodes-room)
+  in_nodes : i < length nodes
+  in_nodes = omega (arith, s.room.nodes_room)
 
-  in-marks : i < length marks
-  in-marks = omega (arith, s.room.marks-room)
+  in_marks : i < length marks
+  in_marks = omega (arith, s.room.marks_room)
 
   low : place_of (length heads) node < length heads
-  low = place-low (length heads) node (omega (arith, f.reached.low, s.room.enough-places))
+  low = place_low (length heads) node (omega (arith, f.reached.low, s.room.enough_places))
 
-  chained : Chains (placeAt (length heads) (set nodes i node)) heads' next' (i + 1)
+  chained : Chains (place_at (length heads) (set nodes i node)) heads' next' (i + 1)
   chained =
-      let here = place_here f in-nodes in-marks in
+      let here = place_here f in_nodes in_marks in
       rw (p.first, p.then)
-      (rw here at (chains-more s.chains (place_kept f in-nodes in-marks) (omega (arith, s.room.next-room)) (rw here low)))
+      (rw here at (chains_more s.chains (place_kept f in_nodes in_marks) (omega (arith, s.room.next_room)) (rw here low)))
 
-  pub standing-more : Standing name count heads' next' nodes' marks' (i + 1)
-  standing-more =
+  pub standing_more : Standing name count heads' next' nodes' marks' (i + 1)
+  standing_more =
       record {
-        room = room-more;
-        stand = rw (head-length, p.under, p.marked) (stand-more f in-nodes in-marks s.stand);
-        chains = rw (head-length, p.under) chained;
+        room = room_more;
+        stand = rw (head_length, p.under, p.marked) (stand_more f in_nodes in_marks s.stand);
+        chains = rw (head_length, p.under) chained;
       }
 
 -- no names stand
-pub standing-none : (name : ℕ → List ℕ) (count : ℕ) (heads next nodes marks : List ℕ) → Room count heads next nodes marks
+pub standing_none : (name : ℕ → List ℕ) (count : ℕ) (heads next nodes marks : List ℕ) → Room count heads next nodes marks
     → ((p : ℕ) → get_or heads p 0 ≡ 0) → Standing name count heads next nodes marks 0
-standing-none name count heads next nodes marks r clear =
-    record { room = r; stand = record { free = λ k h. absurd (nothing k h) }; chains = chains-none _ heads next clear }
+standing_none name count heads next nodes marks r clear =
+    record { room = r; stand = record { free = λ k h. absurd (nothing k h) }; chains = chains_none _ heads next clear }
   where
     nothing : (k : ℕ) → k < 0 → ⊥
     nothing k h = omega arith
@@ -132,14 +132,14 @@ clear zero p = refl
 clear (suc n) zero = refl
 clear (suc n) (suc p) = clear n p
 
-pub clear_room : (places n count : ℕ) → 0 < places → places ≤ places-max → n ≤ places → count ≤ n
+pub clear_room : (places n count : ℕ) → 0 < places → places ≤ places_max → n ≤ places → count ≤ n
     → Room count (replicate places 0) (replicate n 0) (replicate n 0) (replicate n 0)
 clear_room places n count some few enough h =
     record {
-      some-places = rw length-replicate some;
-      few-places = rw length-replicate few;
-      enough-places = rw length-replicate (omega arith);
-      next-room = rw length-replicate h;
-      nodes-room = rw length-replicate h;
-      marks-room = rw length-replicate h;
+      some_places = rw length-replicate some;
+      few_places = rw length-replicate few;
+      enough_places = rw length-replicate (omega arith);
+      next_room = rw length-replicate h;
+      nodes_room = rw length-replicate h;
+      marks_room = rw length-replicate h;
     }

@@ -1,8 +1,10 @@
 // The lowest of many names that an earlier one repeats, by tables that are cleared for each search.
 // Contracts cite `ways`' specs/Tree.antt.
+#![tactic(auto)]
+
 ghost use Rattle.std.specs.Prelude.{◌≡◌, ℕ, ◌+◌, ◌≤◌, ◌<◌, length, get_or};
 ghost use Rattle.laws.specs.Lowest.{lowest};
-ghost use Rattle.names.specs.Names.{repeatsAt, Lying};
+ghost use Rattle.names.specs.Names.{repeats_at, Lying};
 ghost use Rattle.ways.specs.Tree.{Put, Room};
 
 use names::Names;
@@ -42,7 +44,7 @@ fn first_among(
     requires lying { Lying words.now text.now names }
     requires room { Room names.count heads.old next.old nodes.old marks.old }
     requires by_index { (p : ℕ) → get_or heads.old p 0 ≡ 0 }
-    ensures { result ≡ lowest (repeatsAt words.now text.now names) names.count }
+    ensures { result ≡ lowest (repeats_at words.now text.now names) names.count }
 {
     let n = names.count;
     let mut i = 0;
@@ -60,7 +62,7 @@ fn first_among(
 // The same for up to 128 names.
 fn first_of_some(words: &[u32], text: &[u8], names: Names) -> usize
     requires { Lying words.now text.now names × (names.count ≤ 128) }
-    ensures { result ≡ lowest (repeatsAt words.now text.now names) names.count }
+    ensures { result ≡ lowest (repeats_at words.now text.now names) names.count }
 {
     let mut heads = [0u16; 512];
     let mut next = [0u16; 128];
@@ -74,7 +76,7 @@ fn first_of_some(words: &[u32], text: &[u8], names: Names) -> usize
 // The same for up to 1,024 names.
 fn first_of_more(words: &[u32], text: &[u8], names: Names) -> usize
     requires { Lying words.now text.now names × (names.count ≤ 1024) }
-    ensures { result ≡ lowest (repeatsAt words.now text.now names) names.count }
+    ensures { result ≡ lowest (repeats_at words.now text.now names) names.count }
 {
     let mut heads = [0u16; 4_096];
     let mut next = [0u16; 1_024];
@@ -88,7 +90,7 @@ fn first_of_more(words: &[u32], text: &[u8], names: Names) -> usize
 // The same for as many names as are ever compared.
 fn first_of_most(words: &[u32], text: &[u8], names: Names) -> usize
     requires { Lying words.now text.now names }
-    ensures { result ≡ lowest (repeatsAt words.now text.now names) names.count }
+    ensures { result ≡ lowest (repeats_at words.now text.now names) names.count }
 {
     let mut heads = [0u16; 8_192];
     let mut next = [0u16; 4_096];
@@ -103,7 +105,7 @@ fn first_of_most(words: &[u32], text: &[u8], names: Names) -> usize
 // tables are as large as there are names, since clearing them takes time too.
 pub fn first_in_tables(words: &[u32], text: &[u8], names: Names) -> usize
     requires { Lying words.now text.now names }
-    ensures { result ≡ lowest (repeatsAt words.now text.now names) names.count }
+    ensures { result ≡ lowest (repeats_at words.now text.now names) names.count }
 {
     if names.count <= 128 {
         return first_of_some(words, text, names);

@@ -1,6 +1,6 @@
 -- A name that is gathered byte by byte is what its string is decoded to.
 --     orderly       gathering keeps to the order of a text
---     says-string   what the inside of a name says
+--     says_string   what the inside of a name says
 -- Assumes nothing.
 use mathlib.Core.Bool.{Bool, true, false, cond, ◌&&◌, not}
 use mathlib.Core.List.{List, [], ◌∷◌, ◌++◌, append_assoc, append-nil}
@@ -11,18 +11,18 @@ use native.Mathlib.Omega.{arith}
 use borrow.Author.Tests.{eqb-true, ne_eqb, eq-eqb}
 use lib.Dec.{eqb, ltb, leb}
 use lib.ListN.{length, get_or}
-use Rattle.laws.proofs.Tests.{le-or-lt}
-use Rattle.json.specs.Utf8.{encode}
-use Rattle.json.specs.Text as T
-use Rattle.json.specs.Text.{Blank, space, tab, feed, return, blank, Plain, Short, quote, backslash, slash, backspace, formFeed, lineFeed, carriageReturn, tabulator, short, Hex, hex, plain, Str, piece, pieces}
-use Rattle.json.specs.Value.{shortCode, hexWorth, unitCode, isHigh, isLow, lowNext, joined, decodedAfter}
-use Rattle.json.specs.Automaton.{Bracket, asValue, asName, Char, Word, Place, firstElement, hex1, hex2, hex3, hex4}
-use Rattle.json.proofs.Strings.{spelled}
-use Rattle.json.proofs.Numbers.{Ending, Stops, at-nought, at-whole, at_part, at-power}
-use Rattle.json.proofs.Doing.{Waits, waits-ahead, waits-first, waits-after, waits-name, waits-first-name, waits-colon, Orderly, tails-do, char-does, pieces-do}
-use Rattle.escapes.specs.Escapes.{hexAt}
-use Rattle.escapes.proofs.Escaped.{hex-read, hex-small}
-use Rattle.naming.specs.Gathering.{Gather, starts, says, unitIs, waits_for, short_at, digitOf, lowAhead, escaped, names, gather}
+use Rattle.laws.proofs.Tests.{le_or_lt}
+use Rattle.jsontext.specs.Utf8.{encode}
+use Rattle.jsontext.specs.Text as T
+use Rattle.jsontext.specs.Text.{Blank, space, tab, feed, return, blank, Plain, Short, quote, backslash, slash, backspace, form_feed, line_feed, carriage_return, tabulator, short, Hex, hex, plain, Str, piece, pieces}
+use Rattle.jsontext.specs.Value.{short_code, hex_worth, unit_code, is_high, is_low, low_next, joined, decoded_after}
+use Rattle.jsontext.specs.Automaton.{Bracket, as_value, as_name, Char, Word, Place, first_element, hex1, hex2, hex3, hex4}
+use Rattle.jsontext.proofs.Strings.{spelled}
+use Rattle.jsontext.proofs.Numbers.{Ending, Stops, at_nought, at_whole, at_part, at_power}
+use Rattle.jsontext.proofs.Doing.{Waits, waits_ahead, waits_first, waits_after, waits_name, waits_first_name, waits_colon, Orderly, tails_do, char_does, pieces_do}
+use Rattle.escapes.specs.Escapes.{hex_at}
+use Rattle.escapes.proofs.Escaped.{hex_read, hex_small}
+use Rattle.naming.specs.Gathering.{Gather, starts, says, unit_is, waits_for, short_at, digit_of, low_ahead, escaped, names, gather}
 
 abbrev pub no_finish : List Bracket → Gather → Gather
 no_finish ks g = g
@@ -36,9 +36,9 @@ orderly limit =
       colons = λ ks bs g. refl;
       words = λ w ks b bs g. refl;
       firsts = λ ks b bs g ne. rw (ne_eqb b 0x5D ne) (same (ltb 0x20 b) ks b g);
-      first-names = λ ks bs g. refl;
-      empty-arrays = λ ks bs g. refl;
-      empty-objects = λ ks bs g. refl;
+      first_names = λ ks bs g. refl;
+      empty_arrays = λ ks bs g. refl;
+      empty_objects = λ ks bs g. refl;
       chars = λ c r ks b bs g. refl;
       ends = ending;
     }
@@ -48,147 +48,147 @@ orderly limit =
     same false ks b g = refl
 
     white : {p : Place} → Waits p → (ks : List Bracket) (c : Blank) (bs : List ℕ) (g : Gather) → gather limit p ks (blank c) bs g ≡ g
-    white waits-ahead ks space bs g = refl
-    white waits-ahead ks tab bs g = refl
-    white waits-ahead ks feed bs g = refl
-    white waits-ahead ks return bs g = refl
-    white waits-first ks space bs g = refl
-    white waits-first ks tab bs g = refl
-    white waits-first ks feed bs g = refl
-    white waits-first ks return bs g = refl
-    white waits-after ks c bs g = refl
-    white waits-name ks space bs g = refl
-    white waits-name ks tab bs g = refl
-    white waits-name ks feed bs g = refl
-    white waits-name ks return bs g = refl
-    white waits-first-name ks space bs g = refl
-    white waits-first-name ks tab bs g = refl
-    white waits-first-name ks feed bs g = refl
-    white waits-first-name ks return bs g = refl
-    white waits-colon ks c bs g = refl
+    white waits_ahead ks space bs g = refl
+    white waits_ahead ks tab bs g = refl
+    white waits_ahead ks feed bs g = refl
+    white waits_ahead ks return bs g = refl
+    white waits_first ks space bs g = refl
+    white waits_first ks tab bs g = refl
+    white waits_first ks feed bs g = refl
+    white waits_first ks return bs g = refl
+    white waits_after ks c bs g = refl
+    white waits_name ks space bs g = refl
+    white waits_name ks tab bs g = refl
+    white waits_name ks feed bs g = refl
+    white waits_name ks return bs g = refl
+    white waits_first_name ks space bs g = refl
+    white waits_first_name ks tab bs g = refl
+    white waits_first_name ks feed bs g = refl
+    white waits_first_name ks return bs g = refl
+    white waits_colon ks c bs g = refl
 
     ending : {p : Place} → Stops p → (ks : List Bracket) (b : ℕ) (bs : List ℕ) (g : Gather) → Ending b → gather limit p ks b bs g ≡ g
-    ending at-nought ks b bs g e = refl
-    ending at-whole ks b bs g e = refl
+    ending at_nought ks b bs g e = refl
+    ending at_whole ks b bs g e = refl
     ending at_part ks b bs g e = refl
-    ending at-power ks b bs g e = refl
+    ending at_power ks b bs g e = refl
 
 -- ---- bytes that are said one after the other
 
-said-twice : (on : Bool) (t cs bs : List ℕ) → (t ++ cond on cs []) ++ cond on bs [] ≡ t ++ cond on (cs ++ bs) []
-said-twice true t cs bs = append_assoc t cs bs
-said-twice false t cs bs = append-nil (t ++ [])
+said_twice : (on : Bool) (t cs bs : List ℕ) → (t ++ cond on cs []) ++ cond on bs [] ≡ t ++ cond on (cs ++ bs) []
+said_twice true t cs bs = append_assoc t cs bs
+said_twice false t cs bs = append-nil (t ++ [])
 
-says-more : (cs bs : List ℕ) (g : Gather) → says bs (says cs g) ≡ says (cs ++ bs) g
+says_more : (cs bs : List ℕ) (g : Gather) → says bs (says cs g) ≡ says (cs ++ bs) g
 unfolding says
-says-more cs bs g = rw (said-twice g.on g.text cs bs)
+says_more cs bs g = rw (said_twice g.on g.text cs bs)
 
 module _ (limit : ℕ) (ks : List Bracket) where
-  tails-say : (cs bs z : List ℕ) (g : Gather) → tails-do (gather limit) no_finish asName ks bs z (says cs g) ≡ says (cs ++ bs) g
-  unfolding tails-do
-  tails-say cs [] z g = ap (λ (l : List ℕ). says l g) (sym (append-nil cs))
-  tails-say cs (b ∷ bs) z g =
-      ap (tails-do (gather limit) no_finish asName ks bs z) (says-more cs (b ∷ []) g)
-      ∙ (tails-say (cs ++ b ∷ []) bs z g ∙ ap (λ (l : List ℕ). says l g) (append_assoc cs (b ∷ []) bs))
+  tails_say : (cs bs z : List ℕ) (g : Gather) → tails_do (gather limit) no_finish as_name ks bs z (says cs g) ≡ says (cs ++ bs) g
+  unfolding tails_do
+  tails_say cs [] z g = ap (λ (l : List ℕ). says l g) (sym (append-nil cs))
+  tails_say cs (b ∷ bs) z g =
+      ap (tails_do (gather limit) no_finish as_name ks bs z) (says_more cs (b ∷ []) g)
+      ∙ (tails_say (cs ++ b ∷ []) bs z g ∙ ap (λ (l : List ℕ). says l g) (append_assoc cs (b ∷ []) bs))
 
-  char-says : (c : ℕ) → Plain c → (z : List ℕ) (g : Gather) → char-does (gather limit) no_finish asName ks (encode c []) z g ≡ says (encode c []) g
-  char-says c p z g =
-      let f = spelled asName ks c p in
+  char_says : (c : ℕ) → Plain c → (z : List ℕ) (g : Gather) → char_does (gather limit) no_finish as_name ks (encode c []) z g ≡ says (encode c []) g
+  char_says c p z g =
+      let f = spelled as_name ks c p in
       let alone : encode c [] ≡ f.first ∷ f.others = f.same [] ∙ ap (λ (x : List ℕ). f.first ∷ x) (append-nil f.others) in
-      rw (alone, ne_eqb f.first 0x22 f.no-quote, ne_eqb f.first 0x5C f.no-backslash) (tails-say (f.first ∷ []) f.others z g)
+      rw (alone, ne_eqb f.first 0x22 f.no_quote, ne_eqb f.first 0x5C f.no_backslash) (tails_say (f.first ∷ []) f.others z g)
 
 -- ---- escapes
 
-short-says : (m : Short) (rest : List ℕ) → encode (shortCode m) rest ≡ short_at (short m) ∷ rest
+short_says : (m : Short) (rest : List ℕ) → encode (short_code m) rest ≡ short_at (short m) ∷ rest
 unfolding encode short_at
-short-says quote rest = refl
-short-says backslash rest = refl
-short-says slash rest = refl
-short-says backspace rest = refl
-short-says formFeed rest = refl
-short-says lineFeed rest = refl
-short-says carriageReturn rest = refl
-short-says tabulator rest = refl
+short_says quote rest = refl
+short_says backslash rest = refl
+short_says slash rest = refl
+short_says backspace rest = refl
+short_says form_feed rest = refl
+short_says line_feed rest = refl
+short_says carriage_return rest = refl
+short_says tabulator rest = refl
 
-short-escapes : (m : Short) (g : Gather) → cond (eqb (short m) 0x75) (unitIs 0 g) (says (short_at (short m) ∷ []) g) ≡ says (short_at (short m) ∷ []) g
-short-escapes quote g = refl
-short-escapes backslash g = refl
-short-escapes slash g = refl
-short-escapes backspace g = refl
-short-escapes formFeed g = refl
-short-escapes lineFeed g = refl
-short-escapes carriageReturn g = refl
-short-escapes tabulator g = refl
+short_escapes : (m : Short) (g : Gather) → cond (eqb (short m) 0x75) (unit_is 0 g) (says (short_at (short m) ∷ []) g) ≡ says (short_at (short m) ∷ []) g
+short_escapes quote g = refl
+short_escapes backslash g = refl
+short_escapes slash g = refl
+short_escapes backspace g = refl
+short_escapes form_feed g = refl
+short_escapes line_feed g = refl
+short_escapes carriage_return g = refl
+short_escapes tabulator g = refl
 
-four-digits : (h i j k : Hex) → digitOf (digitOf (digitOf (digitOf 0 (hex h)) (hex i)) (hex j)) (hex k) ≡ unitCode h i j k
-unfolding digitOf
-four-digits h i j k = rw (hex-read h, hex-read i, hex-read j, hex-read k) (omega (arith, hex-small h, hex-small i, hex-small j, hex-small k))
+four_digits : (h i j k : Hex) → digit_of (digit_of (digit_of (digit_of 0 (hex h)) (hex i)) (hex j)) (hex k) ≡ unit_code h i j k
+unfolding digit_of
+four_digits h i j k = rw (hex_read h, hex_read i, hex_read j, hex_read k) (omega (arith, hex_small h, hex_small i, hex_small j, hex_small k))
 
 -- the escape that follows is of a low surrogate
-low-ahead : (ps : Str) (rest : List ℕ) → lowAhead (pieces ps (0x22 ∷ rest)) ≡ lowNext ps
-unfolding lowAhead pieces
-low-ahead [] rest = refl
-low-ahead (plain c p ∷ ps) rest =
-    let f = spelled asName [] c p in
-    rw (f.same (pieces ps (0x22 ∷ rest)), ne_eqb f.first 0x5C f.no-backslash)
-low-ahead (T.escape quote ∷ ps) rest = refl
-low-ahead (T.escape backslash ∷ ps) rest = refl
-low-ahead (T.escape slash ∷ ps) rest = refl
-low-ahead (T.escape backspace ∷ ps) rest = refl
-low-ahead (T.escape formFeed ∷ ps) rest = refl
-low-ahead (T.escape lineFeed ∷ ps) rest = refl
-low-ahead (T.escape carriageReturn ∷ ps) rest = refl
-low-ahead (T.escape tabulator ∷ ps) rest = refl
-low-ahead (T.unit h i j k ∷ ps) rest = ap (λ (c : ℕ). isLow c) (four-digits h i j k)
+low_ahead_lem : (ps : Str) (rest : List ℕ) → low_ahead (pieces ps (0x22 ∷ rest)) ≡ low_next ps
+unfolding low_ahead pieces
+low_ahead_lem [] rest = refl
+low_ahead_lem (plain c p ∷ ps) rest =
+    let f = spelled as_name [] c p in
+    rw (f.same (pieces ps (0x22 ∷ rest)), ne_eqb f.first 0x5C f.no_backslash)
+low_ahead_lem (T.escape quote ∷ ps) rest = refl
+low_ahead_lem (T.escape backslash ∷ ps) rest = refl
+low_ahead_lem (T.escape slash ∷ ps) rest = refl
+low_ahead_lem (T.escape backspace ∷ ps) rest = refl
+low_ahead_lem (T.escape form_feed ∷ ps) rest = refl
+low_ahead_lem (T.escape line_feed ∷ ps) rest = refl
+low_ahead_lem (T.escape carriage_return ∷ ps) rest = refl
+low_ahead_lem (T.escape tabulator ∷ ps) rest = refl
+low_ahead_lem (T.unit h i j k ∷ ps) rest = ap (λ (c : ℕ). is_low c) (four_digits h i j k)
 
 -- ---- the inside of a name
 
 -- what saying bytes leaves; the number of an escape and what waits are of no matter afterwards
 pub record Said (bs : List ℕ) (g g' : Gather) : Type 0 where
-  pub text-is : g'.text ≡ g.text ++ cond g.on bs []
-  pub words-is : g'.words ≡ g.words
-  pub objects-is : g'.objects ≡ g.objects
-  pub values-is : g'.values ≡ g.values
-  pub on-is : g'.on ≡ g.on
-  pub begun-is : g'.begun ≡ g.begun
+  pub text_is : g'.text ≡ g.text ++ cond g.on bs []
+  pub words_is : g'.words ≡ g.words
+  pub objects_is : g'.objects ≡ g.objects
+  pub values_is : g'.values ≡ g.values
+  pub on_is : g'.on ≡ g.on
+  pub begun_is : g'.begun ≡ g.begun
   pub left_is : g'.left ≡ g.left
 
-said-none : (g : Gather) → Said [] g g
-said-none g =
-    record { text-is = nothing_said g.on g.text; words-is = refl; objects-is = refl; values-is = refl; on-is = refl; begun-is = refl; left_is = refl }
+said_none : (g : Gather) → Said [] g g
+said_none g =
+    record { text_is = nothing_said g.on g.text; words_is = refl; objects_is = refl; values_is = refl; on_is = refl; begun_is = refl; left_is = refl }
   where
     nothing_said : (on : Bool) (t : List ℕ) → t ≡ t ++ cond on [] []
     nothing_said true t = sym (append-nil t)
     nothing_said false t = sym (append-nil t)
 
 -- after what was said, more
-said-then : (cs bs : List ℕ) (g g' : Gather) → Said bs (says cs g) g' → Said (cs ++ bs) g g'
+said_then : (cs bs : List ℕ) (g g' : Gather) → Said bs (says cs g) g' → Said (cs ++ bs) g g'
 unfolding says
-said-then cs bs g g' s =
+said_then cs bs g g' s =
     record {
-      text-is = s.text-is ∙ said-twice g.on g.text cs bs;
-      words-is = s.words-is;
-      objects-is = s.objects-is;
-      values-is = s.values-is;
-      on-is = s.on-is;
-      begun-is = s.begun-is;
+      text_is = s.text_is ∙ said_twice g.on g.text cs bs;
+      words_is = s.words_is;
+      objects_is = s.objects_is;
+      values_is = s.values_is;
+      on_is = s.on_is;
+      begun_is = s.begun_is;
       left_is = s.left_is;
     }
 
 -- what waits, and the number of an escape, change nothing else
-said-after-unit : (c : ℕ) (bs : List ℕ) (g g' : Gather) → Said bs (unitIs c g) g' → Said bs g g'
-unfolding unitIs
-said-after-unit c bs g g' s =
-    record { text-is = s.text-is; words-is = s.words-is; objects-is = s.objects-is; values-is = s.values-is; on-is = s.on-is; begun-is = s.begun-is; left_is = s.left_is }
+said_after_unit : (c : ℕ) (bs : List ℕ) (g g' : Gather) → Said bs (unit_is c g) g' → Said bs g g'
+unfolding unit_is
+said_after_unit c bs g g' s =
+    record { text_is = s.text_is; words_is = s.words_is; objects_is = s.objects_is; values_is = s.values_is; on_is = s.on_is; begun_is = s.begun_is; left_is = s.left_is }
 
-said-after-waits : (w : ℕ) (bs : List ℕ) (g g' : Gather) → Said bs (waits_for w g) g' → Said bs g g'
+said_after_waits : (w : ℕ) (bs : List ℕ) (g g' : Gather) → Said bs (waits_for w g) g' → Said bs g g'
 unfolding waits_for
-said-after-waits w bs g g' s =
-    record { text-is = s.text-is; words-is = s.words-is; objects-is = s.objects-is; values-is = s.values-is; on-is = s.on-is; begun-is = s.begun-is; left_is = s.left_is }
+said_after_waits w bs g g' s =
+    record { text_is = s.text_is; words_is = s.words_is; objects_is = s.objects_is; values_is = s.values_is; on_is = s.on_is; begun_is = s.begun_is; left_is = s.left_is }
 
-encode-before : (c : ℕ) (bs : List ℕ) → encode c [] ++ bs ≡ encode c bs
+encode_before : (c : ℕ) (bs : List ℕ) → encode c [] ++ bs ≡ encode c bs
 unfolding encode
-encode-before c bs = go (ltb c 0x80) (ltb c 0x800) (ltb c 0x10000)
+encode_before c bs = go (ltb c 0x80) (ltb c 0x800) (ltb c 0x10000)
   where
     go : (a b d : Bool)
         → cond a (c ∷ []) (cond b ((0xC0 + c / 0x40) ∷ (0x80 + c % 0x40) ∷ []) (cond d ((0xE0 + c / 0x1000) ∷ (0x80 + c / 0x40 % 0x40) ∷ (0x80 + c % 0x40) ∷ []) ((0xF0 + c / 0x40000) ∷ (0x80 + c / 0x1000 % 0x40) ∷ (0x80 + c / 0x40 % 0x40) ∷ (0x80 + c % 0x40) ∷ []))) ++ bs
@@ -200,34 +200,34 @@ encode-before c bs = go (ltb c 0x80) (ltb c 0x800) (ltb c 0x10000)
 
 module _ (limit : ℕ) (ks : List Bracket) where
   abbrev inside : Str → List ℕ → Gather → Gather
-  inside s rest g = pieces-do (gather limit) no_finish asName ks s (0x22 ∷ rest) g
+  inside s rest g = pieces_do (gather limit) no_finish as_name ks s (0x22 ∷ rest) g
 
-  pub says-string : (s : Str) (rest : List ℕ) (g : Gather) → Said (decodedAfter g.waits s) g (inside s rest g)
-  unfolding pieces-do decodedAfter says unitIs waits_for escaped
-  says-string [] rest g = said-none g
-  says-string (plain c p ∷ ps) rest g =
-      rw (char-says limit ks c p (pieces ps (0x22 ∷ rest)) g, sym (encode-before c (decodedAfter 0 ps)))
-      (said-then (encode c []) (decodedAfter 0 ps) g (inside ps rest (says (encode c []) g)) (says-string ps rest (says (encode c []) g)))
-  says-string (T.escape m ∷ ps) rest g =
-      rw (short-escapes m g, short-says m (decodedAfter 0 ps))
-      (said-then (short_at (short m) ∷ []) (decodedAfter 0 ps) g (inside ps rest (says (short_at (short m) ∷ []) g)) (says-string ps rest (says (short_at (short m) ∷ []) g)))
-  says-string (T.unit h i j k ∷ ps) rest g =
-      rw (low-ahead ps rest, four-digits h i j k)
-      (go (isHigh (unitCode h i j k) && lowNext ps) (λ g. says-string ps rest g))
+  pub says_string : (s : Str) (rest : List ℕ) (g : Gather) → Said (decoded_after g.waits s) g (inside s rest g)
+  unfolding pieces_do decoded_after says unit_is waits_for escaped
+  says_string [] rest g = said_none g
+  says_string (plain c p ∷ ps) rest g =
+      rw (char_says limit ks c p (pieces ps (0x22 ∷ rest)) g, sym (encode_before c (decoded_after 0 ps)))
+      (said_then (encode c []) (decoded_after 0 ps) g (inside ps rest (says (encode c []) g)) (says_string ps rest (says (encode c []) g)))
+  says_string (T.escape m ∷ ps) rest g =
+      rw (short_escapes m g, short_says m (decoded_after 0 ps))
+      (said_then (short_at (short m) ∷ []) (decoded_after 0 ps) g (inside ps rest (says (short_at (short m) ∷ []) g)) (says_string ps rest (says (short_at (short m) ∷ []) g)))
+  says_string (T.unit h i j k ∷ ps) rest g =
+      rw (low_ahead_lem ps rest, four_digits h i j k)
+      (go (is_high (unit_code h i j k) && low_next ps) (λ g. says_string ps rest g))
     where
       code : ℕ
-      code = unitCode h i j k
+      code = unit_code h i j k
 
       g₃ : Gather
-      g₃ = unitIs (digitOf (digitOf (digitOf 0 (hex h)) (hex i)) (hex j)) g
+      g₃ = unit_is (digit_of (digit_of (digit_of 0 (hex h)) (hex i)) (hex j)) g
 
-      go : (b : Bool) → ((g : Gather) → Said (decodedAfter g.waits ps) g (inside ps rest g))
-          → Said (cond b (decodedAfter code ps) (encode (joined g.waits code) (decodedAfter 0 ps))) g
+      go : (b : Bool) → ((g : Gather) → Said (decoded_after g.waits ps) g (inside ps rest g))
+          → Said (cond b (decoded_after code ps) (encode (joined g.waits code) (decoded_after 0 ps))) g
           (inside ps rest (cond b (waits_for code g₃) (says (encode (joined g.waits code) []) g₃)))
       go true next =
-          said-after-unit g₃.unit (decodedAfter code ps) g (inside ps rest (waits_for code g₃))
-          (said-after-waits code (decodedAfter code ps) g₃ (inside ps rest (waits_for code g₃)) (next (waits_for code g₃)))
+          said_after_unit g₃.unit (decoded_after code ps) g (inside ps rest (waits_for code g₃))
+          (said_after_waits code (decoded_after code ps) g₃ (inside ps rest (waits_for code g₃)) (next (waits_for code g₃)))
       go false next =
           let one = encode (joined g.waits code) [] in
-          rw (sym (encode-before (joined g.waits code) (decodedAfter 0 ps)))
-          (said-after-unit g₃.unit (one ++ decodedAfter 0 ps) g (inside ps rest (says one g₃)) (said-then one (decodedAfter 0 ps) g₃ (inside ps rest (says one g₃)) (next (says one g₃))))
+          rw (sym (encode_before (joined g.waits code) (decoded_after 0 ps)))
+          (said_after_unit g₃.unit (one ++ decoded_after 0 ps) g (inside ps rest (says one g₃)) (said_then one (decoded_after 0 ps) g₃ (inside ps rest (says one g₃)) (next (says one g₃))))

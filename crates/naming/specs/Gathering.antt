@@ -2,23 +2,23 @@
 -- words: where it starts in that list, how long it is there, and how many bytes of the text there are from its opening quote on. So they lie as crate `names` asks.
 -- Assumes nothing.
 use Rattle.std.specs.Prelude.{Bool, true, false, cond, ◌&&◌, not, List, [], ◌∷◌, ◌++◌, ℕ, suc, ◌+◌, ◌-◌, ◌*◌, ◌/◌, ◌%◌, eqb, ltb, length, get_or, set, replicate}
-use Rattle.json.specs.Utf8.{encode}
-use Rattle.json.specs.Value.{isHigh, isLow, joined}
-use Rattle.json.specs.Automaton.{Bracket, Role, asValue, asName, Left, hex1, hex2, hex3, hex4, Place, ahead, firstElement, after, name, firstName, colon, word, minus, nought, whole, point, part, letter, sign, power, text, escape, unit, char}
-use Rattle.json.specs.Along.{Act}
-use Rattle.escapes.specs.Escapes.{hexAt}
+use Rattle.jsontext.specs.Utf8.{encode}
+use Rattle.jsontext.specs.Value.{is_high, is_low, joined}
+use Rattle.jsontext.specs.Automaton.{Bracket, Role, as_value, as_name, Left, hex1, hex2, hex3, hex4, Place, ahead, first_element, after, name, first_name, colon, word, minus, nought, whole, point, part, letter, sign, power, text, escape, unit, char}
+use Rattle.jsontext.specs.Along.{Act}
+use Rattle.escapes.specs.Escapes.{hex_at}
 use Rattle.naming.specs.Members.{Named, tagged}
 
 -- ---- of a list of names
 
-unfoldable pub textFrom : List Named → List ℕ
-textFrom [] = []
-textFrom (x ∷ xs) = tagged x ++ textFrom xs
+unfoldable pub text_from : List Named → List ℕ
+text_from [] = []
+text_from (x ∷ xs) = tagged x ++ text_from xs
 
 -- their words, where the first starts at `at`
-unfoldable pub wordsFrom : ℕ → List Named → List ℕ
-wordsFrom at [] = []
-wordsFrom at (x ∷ xs) = at ∷ length (tagged x) ∷ length x.behind ∷ wordsFrom (at + length (tagged x)) xs
+unfoldable pub words_from : ℕ → List Named → List ℕ
+words_from at [] = []
+words_from at (x ∷ xs) = at ∷ length (tagged x) ∷ length x.behind ∷ words_from (at + length (tagged x)) xs
 
 -- those of which the text has more than `limit` bytes from their start on
 unfoldable pub before : ℕ → List Named → List Named
@@ -65,12 +65,12 @@ abbrev pub tag_of : ℕ → List ℕ
 tag_of o = o / 256 ∷ o % 256 ∷ []
 
 -- a name of the object with number o starts, `left` bytes before the end
-unfoldable pub opensName : Bool → ℕ → ℕ → Gather → Gather
-opensName on o left g =
+unfoldable pub opens_name : Bool → ℕ → ℕ → Gather → Gather
+opens_name on o left g =
     record { text = g.text ++ cond on (tag_of o) []; words = g.words; objects = g.objects; values = g.values; on = on; begun = length g.text; left = left; unit = 0; waits = 0 }
 
-unfoldable pub shutsName : Gather → Gather
-shutsName g =
+unfoldable pub shuts_name : Gather → Gather
+shuts_name g =
     record {
       text = g.text;
       words = g.words ++ cond g.on (g.begun ∷ (length g.text - g.begun) ∷ g.left ∷ []) [];
@@ -83,8 +83,8 @@ shutsName g =
       waits = g.waits;
     }
 
-unfoldable pub unitIs : ℕ → Gather → Gather
-unitIs c g =
+unfoldable pub unit_is : ℕ → Gather → Gather
+unit_is c g =
     record { text = g.text; words = g.words; objects = g.objects; values = g.values; on = g.on; begun = g.begun; left = g.left; unit = c; waits = g.waits }
 
 unfoldable pub waits_for : ℕ → Gather → Gather
@@ -96,56 +96,56 @@ unfoldable pub short_at : ℕ → ℕ
 short_at b = cond (eqb b 0x62) 0x08 (cond (eqb b 0x66) 0x0C (cond (eqb b 0x6E) 0x0A (cond (eqb b 0x72) 0x0D (cond (eqb b 0x74) 0x09 b))))
 
 -- the number of an escape with one digit more; of the number so far no more than three digits are looked at, so that it stays small whatever the bytes are
-unfoldable pub digitOf : ℕ → ℕ → ℕ
-digitOf c b = c % 0x1000 * 16 + hexAt b
+unfoldable pub digit_of : ℕ → ℕ → ℕ
+digit_of c b = c % 0x1000 * 16 + hex_at b
 
 -- the escape of a low surrogate stands here
-unfoldable pub lowAhead : List ℕ → Bool
-lowAhead bs =
+unfoldable pub low_ahead : List ℕ → Bool
+low_ahead bs =
     eqb (get_or bs 0 0) 0x5C
-    && (eqb (get_or bs 1 0) 0x75 && isLow (digitOf (digitOf (digitOf (digitOf 0 (get_or bs 2 0)) (get_or bs 3 0)) (get_or bs 4 0)) (get_or bs 5 0)))
+    && (eqb (get_or bs 1 0) 0x75 && is_low (digit_of (digit_of (digit_of (digit_of 0 (get_or bs 2 0)) (get_or bs 3 0)) (get_or bs 4 0)) (get_or bs 5 0)))
 
 -- the last digit of an escape was read
 unfoldable pub escaped : ℕ → List ℕ → Gather → Gather
-escaped c bs g = cond (isHigh c && lowAhead bs) (waits_for c g) (says (encode (joined g.waits c) []) g)
+escaped c bs g = cond (is_high c && low_ahead bs) (waits_for c g) (says (encode (joined g.waits c) []) g)
 
-abbrev pub hexMore : Left → ℕ → List ℕ → Gather → Gather
-hexMore hex1 b bs g = escaped (digitOf g.unit b) bs g
-hexMore hex2 b bs g = unitIs (digitOf g.unit b) g
-hexMore hex3 b bs g = unitIs (digitOf g.unit b) g
-hexMore hex4 b bs g = unitIs (digitOf g.unit b) g
+abbrev pub hex_more : Left → ℕ → List ℕ → Gather → Gather
+hex_more hex1 b bs g = escaped (digit_of g.unit b) bs g
+hex_more hex2 b bs g = unit_is (digit_of g.unit b) g
+hex_more hex3 b bs g = unit_is (digit_of g.unit b) g
+hex_more hex4 b bs g = unit_is (digit_of g.unit b) g
 
 -- in a name
-abbrev pub textMore : Role → ℕ → Gather → Gather
-textMore asValue b g = g
-textMore asName b g = cond (eqb b 0x22) (shutsName g) (cond (eqb b 0x5C) g (says (b ∷ []) g))
+abbrev pub text_more : Role → ℕ → Gather → Gather
+text_more as_value b g = g
+text_more as_name b g = cond (eqb b 0x22) (shuts_name g) (cond (eqb b 0x5C) g (says (b ∷ []) g))
 
-abbrev pub charMore : Role → ℕ → Gather → Gather
-charMore asValue b g = g
-charMore asName b g = says (b ∷ []) g
+abbrev pub char_more : Role → ℕ → Gather → Gather
+char_more as_value b g = g
+char_more as_name b g = says (b ∷ []) g
 
-abbrev pub escapeMore : Role → ℕ → Gather → Gather
-escapeMore asValue b g = g
-escapeMore asName b g = cond (eqb b 0x75) (unitIs 0 g) (says (short_at b ∷ []) g)
+abbrev pub escape_more : Role → ℕ → Gather → Gather
+escape_more as_value b g = g
+escape_more as_name b g = cond (eqb b 0x75) (unit_is 0 g) (says (short_at b ∷ []) g)
 
-abbrev pub unitMore : Role → Left → ℕ → List ℕ → Gather → Gather
-unitMore asValue h b bs g = g
-unitMore asName h b bs g = hexMore h b bs g
+abbrev pub unit_more : Role → Left → ℕ → List ℕ → Gather → Gather
+unit_more as_value h b bs g = g
+unit_more as_name h b bs g = hex_more h b bs g
 
 -- a name starts with a quote
 unfoldable pub names : ℕ → List Bracket → ℕ → List ℕ → Gather → Gather
 names limit ks b bs g =
-    cond (eqb b 0x22) (opensName (ltb limit (length (b ∷ bs))) (get_or g.objects (length ks - 1) 0) (length (b ∷ bs)) g) g
+    cond (eqb b 0x22) (opens_name (ltb limit (length (b ∷ bs))) (get_or g.objects (length ks - 1) 0) (length (b ∷ bs)) g) g
 
 abbrev pub gather : ℕ → Act Gather
 gather limit ahead ks b bs g = cond (ltb 0x20 b) (starts ks b g) g
-gather limit firstElement ks b bs g = cond (ltb 0x20 b && not (eqb b 0x5D)) (starts ks b g) g
+gather limit first_element ks b bs g = cond (ltb 0x20 b && not (eqb b 0x5D)) (starts ks b g) g
 gather limit name ks b bs g = names limit ks b bs g
-gather limit firstName ks b bs g = names limit ks b bs g
-gather limit (text r) ks b bs g = textMore r b g
-gather limit (char c r) ks b bs g = charMore r b g
-gather limit (escape r) ks b bs g = escapeMore r b g
-gather limit (unit h r) ks b bs g = unitMore r h b bs g
+gather limit first_name ks b bs g = names limit ks b bs g
+gather limit (text r) ks b bs g = text_more r b g
+gather limit (char c r) ks b bs g = char_more r b g
+gather limit (escape r) ks b bs g = escape_more r b g
+gather limit (unit h r) ks b bs g = unit_more r h b bs g
 gather limit after ks b bs g = g
 gather limit colon ks b bs g = g
 gather limit (word w) ks b bs g = g

@@ -2,30 +2,30 @@
 -- number, so 25 ("name repeated after decoding") asks of a name whether an earlier one has both its number and its bytes.
 -- Assumes nothing.
 use Rattle.std.specs.Prelude.{Bool, false, cond, ◌&&◌, ◌||◌, List, [], ◌∷◌, ◌++◌, ℕ, suc, ◌+◌, ◌/◌, ◌%◌, eqb}
-use Rattle.text.specs.Part.{sameBytes}
-use Rattle.json.specs.Text.{spaces, Value, null, truth, falsity, num, str, emptyArray, array, emptyObject, object, Elements, last, more, Members, lastM, moreM, value, elements, members, Text}
-use Rattle.json.specs.Value.{decoded}
+use Rattle.text.specs.Part.{same_bytes}
+use Rattle.jsontext.specs.Text.{spaces, Value, null, truth, falsity, num, str, empty_array, array, empty_object, object, Elements, last, more, Members, last_m, more_m, value, elements, members, Text}
+use Rattle.jsontext.specs.Value.{decoded}
 
 -- how many values start in a value, itself too
 unfoldable mutual
-  pub valuesIn : Value → ℕ
-  valuesIn null = 1
-  valuesIn truth = 1
-  valuesIn falsity = 1
-  valuesIn (num n) = 1
-  valuesIn (str s) = 1
-  valuesIn (emptyArray w) = 1
-  valuesIn (array w vs) = suc (elementsIn vs)
-  valuesIn (emptyObject w) = 1
-  valuesIn (object w ms) = suc (membersIn ms)
+  pub values_in : Value → ℕ
+  values_in null = 1
+  values_in truth = 1
+  values_in falsity = 1
+  values_in (num n) = 1
+  values_in (str s) = 1
+  values_in (empty_array w) = 1
+  values_in (array w vs) = suc (elements_in vs)
+  values_in (empty_object w) = 1
+  values_in (object w ms) = suc (members_in ms)
 
-  pub elementsIn : Elements → ℕ
-  elementsIn (last v w) = valuesIn v
-  elementsIn (more v w w' vs) = valuesIn v + elementsIn vs
+  pub elements_in : Elements → ℕ
+  elements_in (last v w) = values_in v
+  elements_in (more v w w' vs) = values_in v + elements_in vs
 
-  pub membersIn : Members → ℕ
-  membersIn (lastM s w w' v w'') = valuesIn v
-  membersIn (moreM s w w' v w'' w''' ms) = valuesIn v + membersIn ms
+  pub members_in : Members → ℕ
+  members_in (last_m s w w' v w'') = values_in v
+  members_in (more_m s w w' v w'' w''' ms) = values_in v + members_in ms
 
 -- a name: its object's number, its bytes, and the bytes of the text from its opening quote on
 pub record Named : Type 0 where
@@ -39,37 +39,37 @@ named_in o n bs = record { object = o; name = n; behind = bs }
 -- ---- of a value before which so many start, with the bytes behind it
 
 unfoldable mutual
-  pub valueNames : ℕ → Value → List ℕ → List Named
-  valueNames v null rest = []
-  valueNames v truth rest = []
-  valueNames v falsity rest = []
-  valueNames v (num n) rest = []
-  valueNames v (str s) rest = []
-  valueNames v (emptyArray w) rest = []
-  valueNames v (array w vs) rest = elementNames (suc v) vs (0x5D ∷ rest)
-  valueNames v (emptyObject w) rest = []
-  valueNames v (object w ms) rest = memberNames v (suc v) ms (0x7D ∷ rest)
+  pub value_names : ℕ → Value → List ℕ → List Named
+  value_names v null rest = []
+  value_names v truth rest = []
+  value_names v falsity rest = []
+  value_names v (num n) rest = []
+  value_names v (str s) rest = []
+  value_names v (empty_array w) rest = []
+  value_names v (array w vs) rest = element_names (suc v) vs (0x5D ∷ rest)
+  value_names v (empty_object w) rest = []
+  value_names v (object w ms) rest = member_names v (suc v) ms (0x7D ∷ rest)
 
-  pub elementNames : ℕ → Elements → List ℕ → List Named
-  elementNames v (last x w) rest = valueNames v x (spaces w rest)
-  elementNames v (more x w w' xs) rest = valueNames v x (spaces w (0x2C ∷ spaces w' (elements xs rest))) ++ elementNames (v + valuesIn x) xs rest
+  pub element_names : ℕ → Elements → List ℕ → List Named
+  element_names v (last x w) rest = value_names v x (spaces w rest)
+  element_names v (more x w w' xs) rest = value_names v x (spaces w (0x2C ∷ spaces w' (elements xs rest))) ++ element_names (v + values_in x) xs rest
 
   -- of members of the object with number o
-  pub memberNames : ℕ → ℕ → Members → List ℕ → List Named
-  memberNames o v (lastM s w w' x w'') rest = named_in o (decoded s) (members (lastM s w w' x w'') rest) ∷ valueNames v x (spaces w'' rest)
-  memberNames o v (moreM s w w' x w'' w''' ms) rest =
-      named_in o (decoded s) (members (moreM s w w' x w'' w''' ms) rest)
-      ∷ (valueNames v x (spaces w'' (0x2C ∷ spaces w''' (members ms rest))) ++ memberNames o (v + valuesIn x) ms rest)
+  pub member_names : ℕ → ℕ → Members → List ℕ → List Named
+  member_names o v (last_m s w w' x w'') rest = named_in o (decoded s) (members (last_m s w w' x w'') rest) ∷ value_names v x (spaces w'' rest)
+  member_names o v (more_m s w w' x w'' w''' ms) rest =
+      named_in o (decoded s) (members (more_m s w w' x w'' w''' ms) rest)
+      ∷ (value_names v x (spaces w'' (0x2C ∷ spaces w''' (members ms rest))) ++ member_names o (v + values_in x) ms rest)
 
-abbrev pub textNames : Text → List Named
-textNames t = valueNames 0 t.root (spaces t.behind [])
+abbrev pub text_names : Text → List Named
+text_names t = value_names 0 t.root (spaces t.behind [])
 
 -- ---- which of them are repeated
 
 -- one of those is a name of object o with these bytes
 unfoldable pub has : List Named → ℕ → List ℕ → Bool
 has [] o n = false
-has (x ∷ xs) o n = (eqb x.object o && sameBytes x.name n) || has xs o n
+has (x ∷ xs) o n = (eqb x.object o && same_bytes x.name n) || has xs o n
 
 -- a name in one list of bytes: its object's number in two bytes, then its own
 unfoldable pub tagged : Named → List ℕ

@@ -1,22 +1,24 @@
 // A number of a JSON text, digit by digit: what is kept of its digits, its exponent, and in the end
 // the digits and the scale that a row holds, or that it is too wide (`specs/Numeral.antt`, which
 // contracts cite). No number of digits and no exponent overflows anything.
+#![tactic(auto)]
+
 ghost use Rattle.std.specs.Prelude.{◌≡◌, suc, ◌+◌, ◌*◌, ◌^◌, ◌≤◌, ◌<◌};
-ghost use Rattle.sheet.specs.Kinds.{number-max};
-ghost use Rattle.numeral.specs.Numeral.{power-max, capped, keptMore, Holding, written_of, word_of};
+ghost use Rattle.sheet.specs.Kinds.{number_max};
+ghost use Rattle.numeral.specs.Numeral.{power_max, capped, kept_more, Holding, written_of, word_of};
 
 use decimal::{Decimal, power};
 use sheet::kind::RowKind;
 
 // Digits up to the last that is not 0, as a number, and how many zeros follow it.
-#[derive(Drop)]
+#[derive(Clone, Copy)]
 pub struct Kept {
     pub kept: u64,
     pub zeros: u32,
 }
 
 // The digits and the scale of a number, or that no row can hold it.
-#[derive(Drop)]
+#[derive(Clone, Copy)]
 pub struct Written {
     pub wide: bool,
     pub digits: u64,
@@ -25,8 +27,8 @@ pub struct Written {
 
 // The digits with zeros and one more digit behind them, or one more than the most.
 fn longer(kept: u64, zeros: u32, digit: u64) -> u64
-    requires { (kept ≤ suc number-max) × (kept ≡ 0 → zeros ≡ 0) × (digit < 10) }
-    ensures { result ≡ capped number-max (kept * 10 ^ (zeros + 1) + digit) }
+    requires { (kept ≤ suc number_max) × (kept ≡ 0 → zeros ≡ 0) × (digit < 10) }
+    ensures { result ≡ capped number_max (kept * 10 ^ (zeros + 1) + digit) }
 {
     if zeros >= Decimal::SCALE_MAX {
         return RowKind::NUMBER_MAX + 1;
@@ -40,8 +42,8 @@ fn longer(kept: u64, zeros: u32, digit: u64) -> u64
 
 // The digits so far and one more.
 pub fn digit_more(k: Kept, digit: u64) -> Kept
-    requires { Holding k × (k.zeros < power-max) × (digit < 10) }
-    ensures { (result ≡ keptMore k digit) × Holding result }
+    requires { Holding k × (k.zeros < power_max) × (digit < 10) }
+    ensures { (result ≡ kept_more k digit) × Holding result }
 {
     if digit != 0 {
         return Kept {
@@ -60,8 +62,8 @@ pub fn digit_more(k: Kept, digit: u64) -> Kept
 
 // The exponent so far and one more digit, or one more than the most.
 pub fn power_more(held: u64, digit: u64) -> u64
-    requires { (held ≤ suc power-max) × (digit < 10) }
-    ensures { (result ≡ capped power-max (held * 10 + digit)) × (result ≤ suc power-max) }
+    requires { (held ≤ suc power_max) × (digit < 10) }
+    ensures { (result ≡ capped power_max (held * 10 + digit)) × (result ≤ suc power_max) }
 {
     let all = held * 10 + digit;
     if all > 999_999 {
@@ -72,7 +74,7 @@ pub fn power_more(held: u64, digit: u64) -> u64
 
 // kept × 10^up / 10^down as digits and scale, the smallest, or that it is too wide.
 pub fn write_down(kept: u64, up: u32, down: u32) -> Written
-    requires { kept ≤ suc number-max }
+    requires { kept ≤ suc number_max }
     ensures { result ≡ written_of kept up down }
 {
     if kept == 0 {
@@ -137,7 +139,7 @@ fn lowered(kept: u64, up: u32, down: u32) -> Written
 
 // Digits with their sign as a word, in two's complement.
 pub fn word_of(below: bool, digits: u32) -> u32
-    requires { digits ≤ number-max }
+    requires { digits ≤ number_max }
     ensures { result ≡ word_of below digits }
 {
     if digits == 0 {

@@ -1,14 +1,16 @@
 // The number that a caller gets of a call that judges no record itself: of what reading gives, the check
 // of a sheet and a queue.
 //
-// The contracts cite `numberForC` of crate `meaning`, and `outcomeAnswer` of crate `number`.
+// The contracts cite `number_for_c` of crate `meaning`, and `outcome_answer` of crate `number`.
+#![tactic(auto)]
+
 ghost use Rattle.std.specs.Prelude.{◌≡◌};
-ghost use Rattle.sheet.specs.Refusals.{outcomeOf};
-ghost use Rattle.sheetcheck.specs.LastWord.{outcomeByKind};
-ghost use Rattle.laying.specs.Laying.{outcomeOf as readOutcome};
-ghost use Rattle.listing.specs.Listing.{queuedOutcome};
-ghost use Rattle.meaning.specs.Answer.{numberForC};
-ghost use Rattle.number.specs.Called.{outcomeAnswer};
+ghost use Rattle.sheet.specs.Refusals.{outcome_of};
+ghost use Rattle.sheetcheck.specs.LastWord.{outcome_by_kind};
+ghost use Rattle.laying.specs.Laying.{outcome_of as read_outcome};
+ghost use Rattle.listing.specs.Listing.{queued_outcome};
+ghost use Rattle.meaning.specs.Answer.{number_for_c};
+ghost use Rattle.number.specs.Called.{outcome_answer};
 
 use laying::Answer;
 use listing::Queued;
@@ -18,7 +20,7 @@ use sheetcheck::ByKind;
 
 // The number of what reading gives.
 pub fn number_of_read(answer: Answer) -> u64
-    ensures { result ≡ numberForC (outcomeAnswer (readOutcome answer)) }
+    ensures { result ≡ number_for_c (outcome_answer (read_outcome answer)) }
 {
     match answer {
         Answer::Made(rows) => number_of_count(rows),
@@ -28,7 +30,7 @@ pub fn number_of_read(answer: Answer) -> u64
 
 // The number of what the check of a sheet gives.
 pub fn number_of_kind(found: ByKind) -> u64
-    ensures { result ≡ numberForC (outcomeAnswer (outcomeByKind found)) }
+    ensures { result ≡ number_for_c (outcome_answer (outcome_by_kind found)) }
 {
     match found {
         ByKind::Known(checked) => number_of_checked(checked),
@@ -38,7 +40,7 @@ pub fn number_of_kind(found: ByKind) -> u64
 
 // The number of what the check of a known kind gives.
 fn number_of_checked(checked: Checked) -> u64
-    ensures { result ≡ numberForC (outcomeAnswer (outcomeOf checked)) }
+    ensures { result ≡ number_for_c (outcome_answer (outcome_of checked)) }
 {
     match checked {
         Checked::Accepted(rows) => number_of_count(rows),
@@ -48,7 +50,7 @@ fn number_of_checked(checked: Checked) -> u64
 
 // The number of what a queue gives.
 pub fn number_of_queued(queued: Queued) -> u64
-    ensures { result ≡ numberForC (outcomeAnswer (queuedOutcome queued)) }
+    ensures { result ≡ number_for_c (outcome_answer (queued_outcome queued)) }
 {
     match queued {
         Queued::Answered(many) => number_of_count(many),

@@ -1,21 +1,21 @@
 -- Small bundles, computed from the specification.
---     words-read              words are little-endian
---     no-parts, too_short     sixteen zero bytes are a good bundle, fifteen are not
---     text-any, words-four    one byte of text is good, one byte of words is not
---     sum-short               the lengths say less than there is
+--     words_read              words are little-endian
+--     no_parts, too_short     sixteen zero bytes are a good bundle, fifteen are not
+--     text_any, words_four    one byte of text is good, one byte of words is not
+--     sum_short               the lengths say less than there is
 -- Assumes nothing.
 use mathlib.Core.List.{List, [], ◌∷◌, ◌++◌}
 use mathlib.Core.Path.{◌≡◌, refl}
 use Prim.Native.Nat.{ℕ}
 use lib.ListN.{replicate}
-use Rattle.meaning.specs.Lists.{lists-computes}
+use Rattle.meaning.specs.Lists.{lists_computes}
 use Rattle.parts.specs.declared.Lengths.{Lengths}
 use Rattle.parts.specs.declared.Bundle.TheVariants.{Bad, Good}
-use Rattle.parts.specs.Bundle.{words_of, parts_of, bundle-computes}
+use Rattle.parts.specs.Bundle.{words_of, parts_of, bundle_computes}
 
-words-read : words_of (1 ∷ 2 ∷ 0 ∷ 0 ∷ 3 ∷ 0 ∷ 0 ∷ 4 ∷ []) ≡ 513 ∷ 67_108_867 ∷ []
-unfolding lists-computes bundle-computes
-words-read = refl
+words_read : words_of (1 ∷ 2 ∷ 0 ∷ 0 ∷ 3 ∷ 0 ∷ 0 ∷ 4 ∷ []) ≡ 513 ∷ 67_108_867 ∷ []
+unfolding lists_computes bundle_computes
+words_read = refl
 
 -- a trailer of four small lengths
 trailer : ℕ → ℕ → ℕ → ℕ → List ℕ
@@ -24,22 +24,22 @@ trailer a b c d = a ∷ 0 ∷ 0 ∷ 0 ∷ b ∷ 0 ∷ 0 ∷ 0 ∷ c ∷ 0 ∷ 0 
 abbrev lengths : ℕ → ℕ → Lengths
 lengths words text = record { words = words; text = text }
 
-no-parts : parts_of (replicate 16 0) ≡ Good (lengths 0 0) (lengths 0 0)
-unfolding bundle-computes
-no-parts = refl
+no_parts : parts_of (replicate 16 0) ≡ Good (lengths 0 0) (lengths 0 0)
+unfolding bundle_computes
+no_parts = refl
 
 too_short : parts_of (replicate 15 0) ≡ Bad
-unfolding bundle-computes
+unfolding bundle_computes
 too_short = refl
 
-text-any : parts_of (7 ∷ trailer 0 1 0 0) ≡ Good (lengths 0 1) (lengths 0 0)
-unfolding bundle-computes trailer
-text-any = refl
+text_any : parts_of (7 ∷ trailer 0 1 0 0) ≡ Good (lengths 0 1) (lengths 0 0)
+unfolding bundle_computes trailer
+text_any = refl
 
-words-four : parts_of (7 ∷ trailer 0 0 1 0) ≡ Bad
-unfolding bundle-computes trailer
-words-four = refl
+words_four : parts_of (7 ∷ trailer 0 0 1 0) ≡ Bad
+unfolding bundle_computes trailer
+words_four = refl
 
-sum-short : parts_of (7 ∷ trailer 0 0 0 0) ≡ Bad
-unfolding bundle-computes trailer
-sum-short = refl
+sum_short : parts_of (7 ∷ trailer 0 0 0 0) ≡ Bad
+unfolding bundle_computes trailer
+sum_short = refl

@@ -8,11 +8,11 @@ use Rattle.parts.specs.declared.Lengths.{Lengths}
 use Rattle.parts.specs.declared.Bundle.{Bundle}
 use Rattle.parts.specs.declared.Bundle.TheVariants.{Bad, Good}
 
-abbrev pub bundle-max : ℕ
-bundle-max = 65_536
+abbrev pub bundle_max : ℕ
+bundle_max = 65_536
 
-abbrev pub trailer-bytes : ℕ
-trailer-bytes = 16
+abbrev pub trailer_bytes : ℕ
+trailer_bytes = 16
 
 abbrev pub word_bytes : ℕ
 word_bytes = 4
@@ -29,45 +29,45 @@ words_of bs = map (λ i. word_at bs (i * word_bytes)) (range 0 (length bs / word
 
 -- the words of the bytes are put in front, and are so many
 pub record Reads (bs words₀ : List ℕ) (r : ℕ) (words : List ℕ) : Type 0 where
-  pub count-is : r ≡ length (words_of bs)
+  pub count_is : r ≡ length (words_of bs)
   pub words_are : words ≡ words_of bs ++ drop r words₀
 
 -- ---- the bundle
 
 -- two words of the trailer, as lengths of a sheet's parts
-abbrev pub lengthsAt : List ℕ → ℕ → Lengths
-lengthsAt bs at = record { words = word_at bs at; text = word_at bs (at + word_bytes) }
+abbrev pub lengths_at : List ℕ → ℕ → Lengths
+lengths_at bs at = record { words = word_at bs at; text = word_at bs (at + word_bytes) }
 
-unfoldable pub recordLengths : List ℕ → Lengths
-recordLengths bs = lengthsAt bs (length bs - trailer-bytes)
+unfoldable pub record_lengths : List ℕ → Lengths
+record_lengths bs = lengths_at bs (length bs - trailer_bytes)
 
-unfoldable pub ruleLengths : List ℕ → Lengths
-ruleLengths bs = lengthsAt bs (length bs - trailer-bytes + 8)
+unfoldable pub rule_lengths : List ℕ → Lengths
+rule_lengths bs = lengths_at bs (length bs - trailer_bytes + 8)
 
 -- a bundle that is too long or under 16 bytes
 abbrev pub missized : ℕ → Bool
-missized size = ltb bundle-max size || ltb size trailer-bytes
+missized size = ltb bundle_max size || ltb size trailer_bytes
 
 -- lengths whose exact sum plus 16 is not the bundle's size, or a word part not divisible by 4
 abbrev pub misfit : ℕ → Lengths → Lengths → Bool
 misfit size a b =
-    not (eqb (a.words + a.text + b.words + b.text + trailer-bytes) size)
+    not (eqb (a.words + a.text + b.words + b.text + trailer_bytes) size)
     || not (eqb (a.words % word_bytes) 0)
     || not (eqb (b.words % word_bytes) 0)
 
 unfoldable pub bad : List ℕ → Bool
-bad bs = missized (length bs) || misfit (length bs) (recordLengths bs) (ruleLengths bs)
+bad bs = missized (length bs) || misfit (length bs) (record_lengths bs) (rule_lengths bs)
 
 unfoldable pub parts_of : List ℕ → Bundle
-parts_of bs = cond (bad bs) Bad (Good (recordLengths bs) (ruleLengths bs))
+parts_of bs = cond (bad bs) Bad (Good (record_lengths bs) (rule_lengths bs))
 
 -- lengths that were read at a place of the trailer; each is a word
 pub record LengthsRead (bs : List ℕ) (at : ℕ) (r : Lengths) : Type 0 where
-  pub lengths-are : r ≡ lengthsAt bs at
-  pub words-low : r.words < 2 ^ 32
-  pub text-low : r.text < 2 ^ 32
+  pub lengths_are : r ≡ lengths_at bs at
+  pub words_low : r.words < 2 ^ 32
+  pub text_low : r.text < 2 ^ 32
 
 -- opens this module to a computation
-unfoldable pub bundle-computes : Unit {0}
-unfolding word_at words_of recordLengths ruleLengths bad parts_of
-bundle-computes = tt
+unfoldable pub bundle_computes : Unit {0}
+unfolding word_at words_of record_lengths rule_lengths bad parts_of
+bundle_computes = tt

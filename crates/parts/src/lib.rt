@@ -2,6 +2,8 @@
 // lengths in bytes. Which bundle is bad, how long the parts of a good one are, and its words.
 //
 // Its contracts cite `specs/Bundle.antt`.
+#![tactic(auto)]
+
 ghost use Rattle.std.specs.Prelude.{◌≡◌, ◌+◌, ◌/◌, ◌≤◌, ◌<◌, length};
 ghost use Rattle.parts.specs.Bundle.{word_bytes, word_at, Reads, LengthsRead, parts_of};
 
@@ -15,14 +17,14 @@ const TRAILER: usize = 16;
 pub const WORD: usize = 4;
 
 // How many bytes of a bundle are a sheet's words, and how many its text.
-#[derive(Drop)]
+#[derive(Clone, Copy)]
 pub struct Lengths {
     pub words: usize,
     pub text: usize,
 }
 
 // A good bundle's lengths: the record's, and the rules'.
-#[derive(Drop)]
+#[derive(Clone, Copy)]
 pub enum Bundle {
     Bad,
     Good(Lengths, Lengths),

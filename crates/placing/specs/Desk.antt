@@ -6,15 +6,15 @@ use Rattle.std.proofs.lemmas.List.Edits.{sets}
 use Rattle.text.specs.declared.Range.{Range}
 use Rattle.sheet.specs.declared.kind.RowKind.{RowKind}
 use Rattle.sheet.specs.declared.kind.RowKind.TheVariants.{Null, False, True, Number, String, Array, Object}
-use Rattle.sheet.specs.Kinds.{kindNumber, number-max}
+use Rattle.sheet.specs.Kinds.{kind_number, number_max}
 use Rattle.sheet.specs.Record.{row_words}
-use Rattle.json.specs.Number.{exactOf, billionthsOf}
-use Rattle.json.specs.Value.{decoded}
-use Rattle.json.specs.Automaton.{Bracket, square, curly}
-use Rattle.breadth.specs.Number.{digitsWord, scale_of}
-use Rattle.breadth.specs.Sheet.{firstOrNone}
+use Rattle.jsontext.specs.Number.{exact_of, billionths_of}
+use Rattle.jsontext.specs.Value.{decoded}
+use Rattle.jsontext.specs.Automaton.{Bracket, square, curly}
+use Rattle.breadth.specs.Number.{digits_word, scale_of}
+use Rattle.breadth.specs.Sheet.{first_or_none}
 use Rattle.breadth.specs.Words.{trailer}
-use Rattle.placing.specs.Lexemes.{Lexeme, gap, comma, a-null, a-true, a-false, num, str, nam, opens, shuts}
+use Rattle.placing.specs.Lexemes.{Lexeme, gap, comma, a_null, a_true, a_false, num, str, nam, opens, shuts}
 
 -- levels 0 to 32
 abbrev pub levels : ℕ
@@ -34,25 +34,25 @@ no_label = record { start = 0; length = 0 }
 -- ---- the words of a row
 
 -- row r of n takes these words
-unfoldable pub rowPut : ℕ → List ℕ → ℕ → List ℕ → List ℕ
-rowPut n ws r six = cond (ltb r n) (sets ws (row_words * r) six) ws
+unfoldable pub row_put : ℕ → List ℕ → ℕ → List ℕ → List ℕ
+row_put n ws r six = cond (ltb r n) (sets ws (row_words * r) six) ws
 
 -- a container's first child and how many it has, where `next` is the next row of their level
-abbrev pub childWords : ℕ → ℕ → List ℕ
-childWords first next = firstOrNone (next - first) first ∷ (next - first) ∷ []
+abbrev pub child_words : ℕ → ℕ → List ℕ
+child_words first next = first_or_none (next - first) first ∷ (next - first) ∷ []
 
 -- row r of n once its children are counted, if it is a container
-unfoldable pub rowShut : ℕ → List ℕ → ℕ → ℕ → List ℕ
-rowShut n ws r next =
+unfoldable pub row_shut : ℕ → List ℕ → ℕ → ℕ → List ℕ
+row_shut n ws r next =
     cond (ltb r n)
-    (cond (leb (kindNumber Array) (get_or ws (row_words * r) 0))
-    (sets ws (row_words * r + 1) (childWords (get_or ws (row_words * r + 1) 0) next))
+    (cond (leb (kind_number Array) (get_or ws (row_words * r) 0))
+    (sets ws (row_words * r + 1) (child_words (get_or ws (row_words * r + 1) 0) next))
     ws)
     ws
 
 -- the owner's row is the last that was taken one level higher
-unfoldable pub ownerAt : ℕ → List ℕ → ℕ
-ownerAt k rows = cond (eqb k 0) 0 (get_or rows (k - 1) 0 - 1)
+unfoldable pub owner_at : ℕ → List ℕ → ℕ
+owner_at k rows = cond (eqb k 0) 0 (get_or rows (k - 1) 0 - 1)
 
 -- the words of n rows, before any is written
 unfoldable pub cleared : ℕ → List ℕ → List ℕ
@@ -73,7 +73,7 @@ rowed n kind first count d =
       rows = set d.rows d.level (r + 1);
       bytes = d.bytes;
       label = no_label;
-      words = rowPut n d.words r (kindNumber kind ∷ first ∷ count ∷ ownerAt d.level d.rows ∷ d.label.start ∷ d.label.length ∷ []);
+      words = row_put n d.words r (kind_number kind ∷ first ∷ count ∷ owner_at d.level d.rows ∷ d.label.start ∷ d.label.length ∷ []);
       text = d.text;
     }
 
@@ -103,9 +103,9 @@ named bs d =
       text = w.text;
     }
 
-abbrev pub kindOfBracket : Bracket → RowKind
-kindOfBracket square = Array
-kindOfBracket curly = Object
+abbrev pub kind_of_bracket : Bracket → RowKind
+kind_of_bracket square = Array
+kind_of_bracket curly = Object
 
 unfoldable pub opened : ℕ → RowKind → Desk → Desk
 opened n kind d =
@@ -120,7 +120,7 @@ shut n d =
       rows = d.rows;
       bytes = d.bytes;
       label = no_label;
-      words = rowShut n d.words (get_or d.rows k 0 - 1) (get_or d.rows d.level 0);
+      words = row_shut n d.words (get_or d.rows k 0 - 1) (get_or d.rows d.level 0);
       text = d.text;
     }
 
@@ -128,13 +128,13 @@ shut n d =
 abbrev pub act : ℕ → Lexeme → Desk → Desk
 act n (gap b) d = d
 act n comma d = d
-act n a-null d = rowed n Null 0 0 d
-act n a-true d = rowed n True 0 0 d
-act n a-false d = rowed n False 0 0 d
-act n (num x) d = let z = billionthsOf number-max (exactOf x) in rowed n Number (digitsWord z) (scale_of z) d
+act n a_null d = rowed n Null 0 0 d
+act n a_true d = rowed n True 0 0 d
+act n a_false d = rowed n False 0 0 d
+act n (num x) d = let z = billionths_of number_max (exact_of x) in rowed n Number (digits_word z) (scale_of z) d
 act n (str s) d = rowed n String (get_or d.bytes d.level 0) (length (decoded s)) (written (decoded s) d)
 act n (nam s w) d = named (decoded s) d
-act n (opens b) d = opened n (kindOfBracket b) d
+act n (opens b) d = opened n (kind_of_bracket b) d
 act n (shuts b) d = shut n d
 
 unfoldable pub acts : ℕ → List Lexeme → Desk → Desk

@@ -2,17 +2,17 @@
 -- Of lexemes: what a number or string is followed by, and which brackets are open.
 -- Assumes nothing.
 use Rattle.std.specs.Prelude.{false, List, [], ◌∷◌, ◌≡◌, ℕ, ◌+◌, ◌-◌, ◌<◌}
-use Rattle.sheet.specs.Kinds.{number-max}
-use Rattle.json.specs.Text as T
-use Rattle.json.specs.Text.{Blank, Number, Value, null, truth, falsity, emptyArray, array, emptyObject, object, Elements, last, more, Members, lastM, moreM}
-use Rattle.json.specs.Number.{exactOf, wide}
-use Rattle.json.proofs.Decoding.{NoneLone}
-use Rattle.json.specs.Automaton.{Bracket}
-use Rattle.placing.specs.Lexemes.{Lexeme, gap, comma, a-null, a-true, a-false, num, str, nam, opens, shuts}
+use Rattle.sheet.specs.Kinds.{number_max}
+use Rattle.jsontext.specs.Text as T
+use Rattle.jsontext.specs.Text.{Blank, Number, Value, null, truth, falsity, empty_array, array, empty_object, object, Elements, last, more, Members, last_m, more_m}
+use Rattle.jsontext.specs.Number.{exact_of, wide}
+use Rattle.jsontext.proofs.Decoding.{NoneLone}
+use Rattle.jsontext.specs.Automaton.{Bracket}
+use Rattle.placing.specs.Lexemes.{Lexeme, gap, comma, a_null, a_true, a_false, num, str, nam, opens, shuts}
 use Rattle.placing.specs.Desk.{levels}
 
 abbrev pub Narrow : Number → Type 0
-Narrow n = wide number-max (exactOf n) ≡ false
+Narrow n = wide number_max (exact_of n) ≡ false
 
 -- ---- of trees
 
@@ -23,9 +23,9 @@ abbrev mutual
   Sayable falsity = Unit {0}
   Sayable (T.num n) = Narrow n
   Sayable (T.str s) = NoneLone 0 s
-  Sayable (emptyArray w) = Unit {0}
+  Sayable (empty_array w) = Unit {0}
   Sayable (array w vs) = SayableItems vs
-  Sayable (emptyObject w) = Unit {0}
+  Sayable (empty_object w) = Unit {0}
   Sayable (object w ms) = SayableFields ms
 
   pub SayableItems : Elements → Type 0
@@ -33,26 +33,26 @@ abbrev mutual
   SayableItems (more v w w' vs) = Sayable v × SayableItems vs
 
   pub SayableFields : Members → Type 0
-  SayableFields (lastM s w w' v w'') = NoneLone 0 s × Sayable v
-  SayableFields (moreM s w w' v w'' w''' ms) = NoneLone 0 s × Sayable v × SayableFields ms
+  SayableFields (last_m s w w' v w'') = NoneLone 0 s × Sayable v
+  SayableFields (more_m s w w' v w'' w''' ms) = NoneLone 0 s × Sayable v × SayableFields ms
 
 -- ---- of lexemes
 
 -- what may follow a value
 pub data Ends : List Lexeme → Type 0 where
-  at-end : Ends []
+  at_end : Ends []
   at_gap : {b : Blank} {ls : List Lexeme} → Ends ls → Ends (gap b ∷ ls)
-  at-comma : {ls : List Lexeme} → Ends (comma ∷ ls)
-  at-shut : {b : Bracket} {ls : List Lexeme} → Ends (shuts b ∷ ls)
+  at_comma : {ls : List Lexeme} → Ends (comma ∷ ls)
+  at_shut : {b : Bracket} {ls : List Lexeme} → Ends (shuts b ∷ ls)
 
 -- where so many brackets are open
 abbrev pub Fair : ℕ → List Lexeme → Type 0
 Fair k [] = Unit {0}
 Fair k (gap b ∷ ls) = Fair k ls
 Fair k (comma ∷ ls) = Fair k ls
-Fair k (a-null ∷ ls) = Fair k ls
-Fair k (a-true ∷ ls) = Fair k ls
-Fair k (a-false ∷ ls) = Fair k ls
+Fair k (a_null ∷ ls) = Fair k ls
+Fair k (a_true ∷ ls) = Fair k ls
+Fair k (a_false ∷ ls) = Fair k ls
 Fair k (num n ∷ ls) = Narrow n × Ends ls × Fair k ls
 Fair k (str s ∷ ls) = NoneLone 0 s × Ends ls × Fair k ls
 Fair k (nam s w ∷ ls) = NoneLone 0 s × Fair k ls

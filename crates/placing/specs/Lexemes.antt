@@ -1,13 +1,13 @@
 -- The lexemes of a JSON text: white space byte by byte, commas, words, numbers, strings, brackets; a name is one lexeme with its colon.
 -- Assumes nothing.
 use Rattle.std.specs.Prelude.{List, [], ◌∷◌, ◌++◌, ℕ}
-use Rattle.json.specs.Text as T
-use Rattle.json.specs.Text.{Blank, blank, Space, spaces, Number, number, Str, string, wordNull, wordTrue, wordFalse, Value, null, truth, falsity, emptyArray, array, emptyObject, object, Elements, last, more, Members, lastM, moreM, Text}
-use Rattle.json.specs.Automaton.{Bracket, square, curly}
+use Rattle.jsontext.specs.Text as T
+use Rattle.jsontext.specs.Text.{Blank, blank, Space, spaces, Number, number, Str, string, word_null, word_true, word_false, Value, null, truth, falsity, empty_array, array, empty_object, object, Elements, last, more, Members, last_m, more_m, Text}
+use Rattle.jsontext.specs.Automaton.{Bracket, square, curly}
 
 pub data Lexeme : Type 0 where
   gap : Blank → Lexeme
-  comma a-null a-true a-false : Lexeme
+  comma a_null a_true a_false : Lexeme
   num : Number → Lexeme
   str : Str → Lexeme
   -- a name, the white space after it and the colon
@@ -26,9 +26,9 @@ closing curly = 0x7D
 abbrev pub spelled : Lexeme → List ℕ → List ℕ
 spelled (gap b) rest = blank b ∷ rest
 spelled comma rest = 0x2C ∷ rest
-spelled a-null rest = wordNull ++ rest
-spelled a-true rest = wordTrue ++ rest
-spelled a-false rest = wordFalse ++ rest
+spelled a_null rest = word_null ++ rest
+spelled a_true rest = word_true ++ rest
+spelled a_false rest = word_false ++ rest
 spelled (num n) rest = number n rest
 spelled (str s) rest = string s rest
 spelled (nam s w) rest = string s (spaces w (0x3A ∷ rest))
@@ -47,23 +47,23 @@ gaps (b ∷ w) rest = gap b ∷ gaps w rest
 
 unfoldable mutual
   pub lexemes : Value → List Lexeme → List Lexeme
-  lexemes null rest = a-null ∷ rest
-  lexemes truth rest = a-true ∷ rest
-  lexemes falsity rest = a-false ∷ rest
+  lexemes null rest = a_null ∷ rest
+  lexemes truth rest = a_true ∷ rest
+  lexemes falsity rest = a_false ∷ rest
   lexemes (T.num n) rest = num n ∷ rest
   lexemes (T.str s) rest = str s ∷ rest
-  lexemes (emptyArray w) rest = opens square ∷ gaps w (shuts square ∷ rest)
-  lexemes (array w vs) rest = opens square ∷ gaps w (elementLexemes vs (shuts square ∷ rest))
-  lexemes (emptyObject w) rest = opens curly ∷ gaps w (shuts curly ∷ rest)
-  lexemes (object w ms) rest = opens curly ∷ gaps w (memberLexemes ms (shuts curly ∷ rest))
+  lexemes (empty_array w) rest = opens square ∷ gaps w (shuts square ∷ rest)
+  lexemes (array w vs) rest = opens square ∷ gaps w (element_lexemes vs (shuts square ∷ rest))
+  lexemes (empty_object w) rest = opens curly ∷ gaps w (shuts curly ∷ rest)
+  lexemes (object w ms) rest = opens curly ∷ gaps w (member_lexemes ms (shuts curly ∷ rest))
 
-  pub elementLexemes : Elements → List Lexeme → List Lexeme
-  elementLexemes (last v w) rest = lexemes v (gaps w rest)
-  elementLexemes (more v w w' vs) rest = lexemes v (gaps w (comma ∷ gaps w' (elementLexemes vs rest)))
+  pub element_lexemes : Elements → List Lexeme → List Lexeme
+  element_lexemes (last v w) rest = lexemes v (gaps w rest)
+  element_lexemes (more v w w' vs) rest = lexemes v (gaps w (comma ∷ gaps w' (element_lexemes vs rest)))
 
-  pub memberLexemes : Members → List Lexeme → List Lexeme
-  memberLexemes (lastM s w w' v w'') rest = nam s w ∷ gaps w' (lexemes v (gaps w'' rest))
-  memberLexemes (moreM s w w' v w'' w''' ms) rest = nam s w ∷ gaps w' (lexemes v (gaps w'' (comma ∷ gaps w''' (memberLexemes ms rest))))
+  pub member_lexemes : Members → List Lexeme → List Lexeme
+  member_lexemes (last_m s w w' v w'') rest = nam s w ∷ gaps w' (lexemes v (gaps w'' rest))
+  member_lexemes (more_m s w w' v w'' w''' ms) rest = nam s w ∷ gaps w' (lexemes v (gaps w'' (comma ∷ gaps w''' (member_lexemes ms rest))))
 
-unfoldable pub textLexemes : Text → List Lexeme
-textLexemes t = gaps t.before (lexemes t.root (gaps t.behind []))
+unfoldable pub text_lexemes : Text → List Lexeme
+text_lexemes t = gaps t.before (lexemes t.root (gaps t.behind []))

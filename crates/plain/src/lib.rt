@@ -4,15 +4,17 @@
 // its cell is unsettled (`plainly_passed`); what asks less is private to this crate.
 //
 // The contracts cite how clauses are read and tried (`specs/Read.antt` of `clause`).
+#![tactic(auto)]
+
 ghost use Rattle.std.specs.Prelude.{true, List, ◌≡◌, ℕ, ◌<◌};
 ghost use Rattle.decimal.specs.declared.Decimal.{Decimal};
 ghost use Rattle.decimal.specs.Value.{Plain};
-ghost use Rattle.sheet.specs.Record.{docOf};
-ghost use Rattle.rulesheet.specs.Sheet.{schemaAt};
-ghost use Rattle.rulesheet.specs.Clauses.{clauseMeans, number, held};
-ghost use Rattle.areas.specs.Cells.{pairIs, Unsettled};
+ghost use Rattle.sheet.specs.Record.{doc_of};
+ghost use Rattle.rulesheet.specs.Sheet.{schema_at};
+ghost use Rattle.rulesheet.specs.Clauses.{clause_means, number, held};
+ghost use Rattle.areas.specs.Cells.{pair_is, Unsettled};
 ghost use Rattle.looking.specs.Read.{RecordRead};
-ghost use Rattle.clause.specs.Read.{RulesRead, clauseIn, Tries, PassedFirst};
+ghost use Rattle.clause.specs.Read.{RulesRead, clause_in, Tries, PassedFirst};
 
 use few::plain_of;
 use looking::numbers::number_in;
@@ -30,7 +32,7 @@ use testing::types::plainly_typed;
 fn plainly(record: &[u32], text: &[u8], form: RecordForm, row: RecordRow, clause: Clause) -> bool
     requires record_read { RecordRead «record».now text.now form × (row.0 < form.rows) }
     requires plain { (limit : Decimal) → held clause ≡ number limit → Plain limit }
-    ensures { result ≡ true → (rs us : List ℕ) → Tries (docOf «record».now text.now) row.0 (clauseMeans rs us clause) true }
+    ensures { result ≡ true → (rs us : List ℕ) → Tries (doc_of «record».now text.now) row.0 (clause_means rs us clause) true }
 {
     match clause {
         Clause::Types(mask) => plainly_typed(
@@ -70,9 +72,9 @@ pub fn plainly_passed<'a>(
     many: u32,
 ) -> u32
     requires record_read { RecordRead «record».now text.now form × (p.row.0 < form.rows) }
-    requires rules_read { RulesRead rules.now rule_text.now rule_form × (p.rule.0 < rule_form.m) × (many ≡ (schemaAt rules.now p.rule.0).count) }
-    requires unsettled { Unsettled rule_form.m (pairIs p) cells.now }
-    ensures { PassedFirst (docOf «record».now text.now) p.row.0 (clauseIn rules.now rule_text.now p.rule.0) many result }
+    requires rules_read { RulesRead rules.now rule_text.now rule_form × (p.rule.0 < rule_form.m) × (many ≡ (schema_at rules.now p.rule.0).count) }
+    requires unsettled { Unsettled rule_form.m (pair_is p) cells.now }
+    ensures { PassedFirst (doc_of «record».now text.now) p.row.0 (clause_in rules.now rule_text.now p.rule.0) many result }
 {
     let first = schema_at(rules, rule_form, p.rule).first;
     let mut i = 0;

@@ -1,8 +1,8 @@
 -- A condition and its two branches as three steps (36).
---     carriedIf, goesIf     what is carried to step i, and whether it goes
---     if-picked             the condition is applied, and the branch that it chooses
---     if-ends               that branch's verdict, by what is carried in the end
---     if-marks              the marks of both
+--     carried_if, goes_if   what is carried to step i, and whether it goes
+--     if_picked             the condition is applied, and the branch that it chooses
+--     if_ends               that branch's verdict, by what is carried in the end
+--     if_marks              the marks of both
 -- Assumes nothing.
 use mathlib.Core.Bool.{Bool, true, false, not, ◌||◌, cond}
 use mathlib.Core.List.{[], ◌∷◌}
@@ -11,47 +11,47 @@ use Prim.Native.Nat.{ℕ}
 use lib.Dec.{eqb, ltb}
 use borrow.Author.Tests.{eq-eqb}
 use Rattle.meaning.specs.Rules.{Pair, Marks, Result}
-use Rattle.plan.specs.Folds.{picked, tallyBy, gives, marksBy}
-use Rattle.plan.specs.Plan.{moved, branchGoes}
-use Rattle.plan.proofs.Folds.{three-picked}
+use Rattle.plan.specs.Folds.{picked, tally_by, gives, marks_by}
+use Rattle.plan.specs.Plan.{moved, branch_goes}
+use Rattle.plan.proofs.Folds.{three_picked}
 
 module _ (sub : Pair → Result) (aim : ℕ → Pair) where
-  abbrev pub carriedIf : ℕ → ℕ
-  carriedIf n = tallyBy sub branchGoes aim (moved false true) n
+  abbrev pub carried_if : ℕ → ℕ
+  carried_if n = tally_by sub branch_goes aim (moved false true) n
 
-  abbrev pub goesIf : ℕ → Bool
-  goesIf i = branchGoes i (carriedIf i)
+  abbrev pub goes_if : ℕ → Bool
+  goes_if i = branch_goes i (carried_if i)
 
   abbrev verdict : ℕ → Bool
   verdict x = (sub (aim x)).holds
 
-  first_goes : goesIf 0 ≡ true
-  unfolding branchGoes
+  first_goes : goes_if 0 ≡ true
+  unfolding branch_goes
   first_goes = refl
 
-  then-goes : goesIf 1 ≡ verdict 0
-  unfolding branchGoes tallyBy moved
-  then-goes = by (verdict 0)
+  then_goes : goes_if 1 ≡ verdict 0
+  unfolding branch_goes tally_by moved
+  then_goes = by (verdict 0)
     where
       by : (h : Bool) → eqb (cond h 0 1) 0 ≡ h
       by true = refl
       by false = refl
 
-  else-goes : goesIf 2 ≡ not (verdict 0)
-  unfolding branchGoes tallyBy moved
-  else-goes = by (verdict 0) (verdict 1)
+  else_goes : goes_if 2 ≡ not (verdict 0)
+  unfolding branch_goes tally_by moved
+  else_goes = by (verdict 0) (verdict 1)
     where
       by : (h x : Bool) → eqb (cond (eqb (cond h 0 1) 0) (cond x (cond h 0 1) 2) (cond h 0 1)) 1 ≡ not h
       by true true = refl
       by true false = refl
       by false x = refl
 
-  pub if-picked : picked goesIf aim 3 ≡ aim 0 ∷ aim (cond (verdict 0) 1 2) ∷ []
-  if-picked = three-picked goesIf aim (verdict 0) first_goes then-goes else-goes
+  pub if_picked : picked goes_if aim 3 ≡ aim 0 ∷ aim (cond (verdict 0) 1 2) ∷ []
+  if_picked = three_picked goes_if aim (verdict 0) first_goes then_goes else_goes
 
-  pub if-ends : ltb (carriedIf 3) 2 ≡ verdict (cond (verdict 0) 1 2)
-  unfolding branchGoes tallyBy moved
-  if-ends = by (verdict 0) (verdict 1) (verdict 2) ∙ sym (pick (verdict 0))
+  pub if_ends : ltb (carried_if 3) 2 ≡ verdict (cond (verdict 0) 1 2)
+  unfolding branch_goes tally_by moved
+  if_ends = by (verdict 0) (verdict 1) (verdict 2) ∙ sym (pick (verdict 0))
     where
       pick : (h : Bool) → verdict (cond h 1 2) ≡ cond h (verdict 1) (verdict 2)
       pick true = refl
@@ -69,25 +69,25 @@ module _ (sub : Pair → Result) (aim : ℕ → Pair) where
       by false x false = refl
 
   -- of three steps on the row itself, where the condition holds or not
-  marks-by : (p : Pair) (κ : Marks) (k : ℕ) (h : Bool) (go : ℕ → Bool) → ((x : ℕ) → (aim x).row ≡ p.row) → go 0 ≡ true → go 1 ≡ h → go 2 ≡ not h
-      → (κ k || ((sub (aim 0)).marks k || (sub (aim (cond h 1 2))).marks k)) ≡ marksBy sub p true go aim κ 3 k
-  unfolding marksBy gives
-  marks-by p κ k true go row a b c =
-      rw (a, b, c, eq-eqb (aim 0).row p.row (row 0), eq-eqb (aim 1).row p.row (row 1)) (nothing-last (κ k) ((sub (aim 0)).marks k) ((sub (aim 1)).marks k))
+  marks_by_lem : (p : Pair) (κ : Marks) (k : ℕ) (h : Bool) (go : ℕ → Bool) → ((x : ℕ) → (aim x).row ≡ p.row) → go 0 ≡ true → go 1 ≡ h → go 2 ≡ not h
+      → (κ k || ((sub (aim 0)).marks k || (sub (aim (cond h 1 2))).marks k)) ≡ marks_by sub p true go aim κ 3 k
+  unfolding marks_by gives
+  marks_by_lem p κ k true go row a b c =
+      rw (a, b, c, eq-eqb (aim 0).row p.row (row 0), eq-eqb (aim 1).row p.row (row 1)) (nothing_last (κ k) ((sub (aim 0)).marks k) ((sub (aim 1)).marks k))
     where
-      nothing-last : (x y z : Bool) → (x || (y || z)) ≡ (((x || y) || z) || false)
-      nothing-last true y z = refl
-      nothing-last false true z = refl
-      nothing-last false false true = refl
-      nothing-last false false false = refl
-  marks-by p κ k false go row a b c =
-      rw (a, b, c, eq-eqb (aim 0).row p.row (row 0), eq-eqb (aim 2).row p.row (row 2)) (nothing-between (κ k) ((sub (aim 0)).marks k) ((sub (aim 2)).marks k))
+      nothing_last : (x y z : Bool) → (x || (y || z)) ≡ (((x || y) || z) || false)
+      nothing_last true y z = refl
+      nothing_last false true z = refl
+      nothing_last false false true = refl
+      nothing_last false false false = refl
+  marks_by_lem p κ k false go row a b c =
+      rw (a, b, c, eq-eqb (aim 0).row p.row (row 0), eq-eqb (aim 2).row p.row (row 2)) (nothing_between (κ k) ((sub (aim 0)).marks k) ((sub (aim 2)).marks k))
     where
-      nothing-between : (x y z : Bool) → (x || (y || z)) ≡ (((x || y) || false) || z)
-      nothing-between true y z = refl
-      nothing-between false true z = refl
-      nothing-between false false z = refl
+      nothing_between : (x y z : Bool) → (x || (y || z)) ≡ (((x || y) || false) || z)
+      nothing_between true y z = refl
+      nothing_between false true z = refl
+      nothing_between false false z = refl
 
-  pub if-marks : (p : Pair) (κ : Marks) (k : ℕ) → ((x : ℕ) → (aim x).row ≡ p.row)
-      → (κ k || ((sub (aim 0)).marks k || (sub (aim (cond (verdict 0) 1 2))).marks k)) ≡ marksBy sub p true goesIf aim κ 3 k
-  if-marks p κ k row = marks-by p κ k (verdict 0) goesIf row first_goes then-goes else-goes
+  pub if_marks : (p : Pair) (κ : Marks) (k : ℕ) → ((x : ℕ) → (aim x).row ≡ p.row)
+      → (κ k || ((sub (aim 0)).marks k || (sub (aim (cond (verdict 0) 1 2))).marks k)) ≡ marks_by sub p true goes_if aim κ 3 k
+  if_marks p κ k row = marks_by_lem p κ k (verdict 0) goes_if row first_goes then_goes else_goes

@@ -10,25 +10,25 @@ picked go aim zero = []
 picked go aim (suc i) = picked go aim i ++ cond (go i) (aim i ∷ []) []
 
 -- what is carried from one to the next: a step that goes at what is carried moves it by the verdict of its pair
-unfoldable pub tallyBy : (Pair → Result) → (ℕ → ℕ → Bool) → (ℕ → Pair) → (ℕ → ℕ → Bool → ℕ) → ℕ → ℕ
-tallyBy sub go aim move zero = 0
-tallyBy sub go aim move (suc i) = let t = tallyBy sub go aim move i in cond (go i t) (move i t (sub (aim i)).holds) t
+unfoldable pub tally_by : (Pair → Result) → (ℕ → ℕ → Bool) → (ℕ → Pair) → (ℕ → ℕ → Bool → ℕ) → ℕ → ℕ
+tally_by sub go aim move zero = 0
+tally_by sub go aim move (suc i) = let t = tally_by sub go aim move i in cond (go i t) (move i t (sub (aim i)).holds) t
 
 -- of how many of them the pair holds or nothing is applied
-unfoldable pub hitsBy : (Pair → Result) → (ℕ → Bool) → (ℕ → Pair) → ℕ → ℕ
-hitsBy sub go aim zero = 0
-hitsBy sub go aim (suc i) = plus (hitsBy sub go aim i) (not (go i) || (sub (aim i)).holds)
+unfoldable pub hits_by : (Pair → Result) → (ℕ → Bool) → (ℕ → Pair) → ℕ → ℕ
+hits_by sub go aim zero = 0
+hits_by sub go aim (suc i) = plus (hits_by sub go aim i) (not (go i) || (sub (aim i)).holds)
 
 -- the marks that a pair q gives to a pair p that applies it: its own, if it is of the same row, or else its row
 unfoldable pub gives : (Pair → Result) → Pair → Pair → Marks
 gives sub p q k = cond (eqb q.row p.row) ((sub q).marks k) (eqb k q.row)
 
 -- the marks after them, where κ were before; where it is not said to keep them all, a pair that fails gives none
-unfoldable pub marksBy : (Pair → Result) → Pair → Bool → (ℕ → Bool) → (ℕ → Pair) → Marks → ℕ → Marks
-marksBy sub p keeps go aim κ zero = κ
-marksBy sub p keeps go aim κ (suc i) = λ k. marksBy sub p keeps go aim κ i k || (go i && ((keeps || (sub (aim i)).holds) && gives sub p (aim i) k))
+unfoldable pub marks_by : (Pair → Result) → Pair → Bool → (ℕ → Bool) → (ℕ → Pair) → Marks → ℕ → Marks
+marks_by sub p keeps go aim κ zero = κ
+marks_by sub p keeps go aim κ (suc i) = λ k. marks_by sub p keeps go aim κ i k || (go i && ((keeps || (sub (aim i)).holds) && gives sub p (aim i) k))
 
 -- the pairs settled after them, where `done` were before
-unfoldable pub doneBy : (Pair → List Pair → List Pair) → (ℕ → Bool) → (ℕ → Pair) → List Pair → ℕ → List Pair
-doneBy settle go aim done zero = done
-doneBy settle go aim done (suc i) = cond (go i) (settle (aim i) (doneBy settle go aim done i)) (doneBy settle go aim done i)
+unfoldable pub done_by : (Pair → List Pair → List Pair) → (ℕ → Bool) → (ℕ → Pair) → List Pair → ℕ → List Pair
+done_by settle go aim done zero = done
+done_by settle go aim done (suc i) = cond (go i) (settle (aim i) (done_by settle go aim done i)) (done_by settle go aim done i)

@@ -1,5 +1,7 @@
 // What is written of a string as one byte: a byte put into an area, and the character of a short escape
 // (`specs/Letters.antt`, which contracts cite).
+#![tactic(auto)]
+
 ghost use Rattle.std.specs.Prelude.{◌≡◌, set};
 ghost use Rattle.putting.specs.Letters.{short_at};
 

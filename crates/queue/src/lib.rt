@@ -4,10 +4,12 @@
 //
 // The listing is tested whole before anything is judged, and the rules are checked once. The contract
 // of `judge_queue` cites `specs/Queue.antt`.
+#![tactic(auto)]
+
 ghost use Rattle.std.specs.Prelude.{◌≡◌, length};
 ghost use Rattle.listing.specs.Listing.{Tested};
 ghost use Rattle.recordcall.specs.Asked.{RulesChecked};
-ghost use Rattle.queue.specs.Queue.{queueLeaves};
+ghost use Rattle.queue.specs.Queue.{queue_leaves};
 ghost use Rattle.queue.specs.Parts.{AllJudged};
 
 use listing::{Queued, records_in, test_listing};
@@ -28,7 +30,7 @@ pub fn judge_queue<'a>(
     list: &mut [u32],
     answers: &mut [u64],
 ) -> Queued
-    ensures { queueLeaves words.now bytes.now listing.now rules.now rule_text.now cells.old list.old answers.old result cells.new list.new answers.new }
+    ensures { queue_leaves words.now bytes.now listing.now rules.now rule_text.now cells.old list.old answers.old result cells.new list.new answers.new }
 {
     let queued = test_listing(words.len(), bytes.len(), listing, answers.len());
     let Queued::Answered(_) = queued else {

@@ -12,17 +12,17 @@ use lib.Dec.{eqb, ltb}
 use lib.ListN.{length, take, drop, get_or, set, length-set, replicate, length-replicate}
 use lib.Seq.{drop-cons, drop-drop, take-add, take-take, take_all, get_or-set_same, get_or-set_other}
 use borrow.Author.Tests.{eq-eqb, ne_eqb, eqb-true, eqb-false, ltb-true}
-use Rattle.laws.proofs.Tests.{le-or-lt, decide, left}
+use Rattle.laws.proofs.Tests.{le_or_lt, decide, left}
 use Rattle.text.specs.declared.Range.{Range}
 use Rattle.text.specs.Part.{fits, part}
-use Rattle.text.proofs.Ranges.{fits_le, le-fits, part_length, part_end}
+use Rattle.text.proofs.Ranges.{fits_le, le_fits, part_length, part_end}
 use Rattle.utf8.specs.declared.State.{State}
-use Rattle.utf8.specs.Automaton.{waiting, dead, begin, step, after, ends, isUtf8}
+use Rattle.utf8.specs.Automaton.{waiting, dead, begin, step, after, ends, is_utf8}
 use Rattle.utf8range.specs.Places.{continues, inside}
 use Rattle.ascii.specs.Runs.{Ascii}
 use Rattle.reach.specs.Reach.{span, NoneFrom, CharacterAt, Walked, Reach, places, blocks, Told, Known, AllUtf8}
-use Rattle.utf8.proofs.Steps.{step-first, step-under, step-over, ends-dead, ends-cons, after-whole}
-use Rattle.utf8range.proofs.Skips.{run-accepted}
+use Rattle.utf8.proofs.Steps.{step_first, step_under, step_over, ends_dead, ends_cons, after_whole}
+use Rattle.utf8range.proofs.Skips.{run_accepted}
 
 -- ---- spans
 
@@ -40,40 +40,40 @@ module _ (text : List ℕ) where
   unfolding part
   span_none at = let e : at - at ≡ 0 = omega arith in ap (λ (k : ℕ). take k (drop at text)) e
 
-  pub span-cons : (from to : ℕ) → from < to → to ≤ length text → span text from to ≡ get_or text from 0 ∷ span text (from + 1) to
+  pub span_cons : (from to : ℕ) → from < to → to ≤ length text → span text from to ≡ get_or text from 0 ∷ span text (from + 1) to
   unfolding part
-  span-cons from to h room =
+  span_cons from to h room =
       let e : to - from ≡ suc (to - (from + 1)) = omega arith in
       ap (λ (k : ℕ). take k (drop from text)) e ∙ rw (drop-cons text from 0 (omega arith), add-one)
 
   -- what is UTF-8 may be left out in front
-  pub onward : (from at to : ℕ) → from ≤ at → at ≤ to → isUtf8 (span text from at) ≡ true → isUtf8 (span text from to) ≡ isUtf8 (span text at to)
-  onward from at to h g good = ap isUtf8 (join from at to h g) ∙ after-whole (span text from at) (span text at to) good
+  pub onward : (from at to : ℕ) → from ≤ at → at ≤ to → is_utf8 (span text from at) ≡ true → is_utf8 (span text from to) ≡ is_utf8 (span text at to)
+  onward from at to h g good = ap is_utf8 (join from at to h g) ∙ after_whole (span text from at) (span text at to) good
 
-ends-none : (s : State) → ends s [] ≡ eqb s.need 0
+ends_none : (s : State) → ends s [] ≡ eqb s.need 0
 unfolding ends after
-ends-none s = refl
+ends_none s = refl
 
-empty : isUtf8 [] ≡ true
-unfolding isUtf8 ends after
+empty : is_utf8 [] ≡ true
+unfolding is_utf8 ends after
 empty = refl
 
 -- ---- a character, byte by byte: what holds where the bytes before `to` were passed
 pub record Begun (text : List ℕ) (at : ℕ) (s : State) (to : ℕ) : Type 0 where
   pub on : at < to
   pub room : to ≤ length text
-  pub carried : (e : ℕ) → to ≤ e → e ≤ length text → isUtf8 (span text at e) ≡ ends s (span text to e)
-  pub before : (e : ℕ) → at < e → e < to → isUtf8 (span text at e) ≡ false
+  pub carried : (e : ℕ) → to ≤ e → e ≤ length text → is_utf8 (span text at e) ≡ ends s (span text to e)
+  pub before : (e : ℕ) → at < e → e < to → is_utf8 (span text at e) ≡ false
 
 pub first : (text : List ℕ) (at : ℕ) → at < length text → Begun text at (begin (get_or text at 0)) (at + 1)
-unfolding isUtf8
+unfolding is_utf8
 first text at h =
     record {
       on = omega arith;
       room = omega arith;
       carried = λ (e : ℕ) (l : at + 1 ≤ e) (r : e ≤ length text).
-          ap isUtf8 (span-cons text at e (omega arith) r)
-          ∙ ends-cons (waiting 0) (begin (get_or text at 0)) (get_or text at 0) (span text (at + 1) e) (step-first (waiting 0) (get_or text at 0) refl);
+          ap is_utf8 (span_cons text at e (omega arith) r)
+          ∙ ends_cons (waiting 0) (begin (get_or text at 0)) (get_or text at 0) (span text (at + 1) e) (step_first (waiting 0) (get_or text at 0) refl);
       before = λ (e : ℕ) (l : at < e) (r : e < at + 1). absurd (nothing e l r);
     }
   where
@@ -81,11 +81,11 @@ first text at h =
     nothing e l r = omega arith
 
 module _ {text : List ℕ} {at : ℕ} {s : State} {to : ℕ} (g : Begun text at s to) where
-  here : isUtf8 (span text at to) ≡ eqb s.need 0
-  here = g.carried to (omega arith) g.room ∙ ap (λ (l : List ℕ). ends s l) (span_none text to) ∙ ends-none s
+  here : is_utf8 (span text at to) ≡ eqb s.need 0
+  here = g.carried to (omega arith) g.room ∙ ap (λ (l : List ℕ). ends s l) (span_none text to) ∙ ends_none s
 
-  not-here : (s.need ≡ 0 → ⊥) → isUtf8 (span text at to) ≡ false
-  not-here n = here ∙ ne_eqb s.need 0 n
+  not_here : (s.need ≡ 0 → ⊥) → is_utf8 (span text at to) ≡ false
+  not_here n = here ∙ ne_eqb s.need 0 n
 
   pub next : (s.need ≡ 0 → ⊥) → to < length text → Begun text at (step s (get_or text to 0)) (to + 1)
   next n h =
@@ -94,10 +94,10 @@ module _ {text : List ℕ} {at : ℕ} {s : State} {to : ℕ} (g : Begun text at 
         room = omega arith;
         carried = λ (e : ℕ) (l : to + 1 ≤ e) (r : e ≤ length text).
             g.carried e (omega arith) r
-            ∙ ap (λ (b : List ℕ). ends s b) (span-cons text to e (omega arith) r)
-            ∙ ends-cons s (step s (get_or text to 0)) (get_or text to 0) (span text (to + 1) e) refl;
+            ∙ ap (λ (b : List ℕ). ends s b) (span_cons text to e (omega arith) r)
+            ∙ ends_cons s (step s (get_or text to 0)) (get_or text to 0) (span text (to + 1) e) refl;
         before = λ (e : ℕ) (l : at < e) (r : e < to + 1).
-            ⊎_elim (λ (q : e ≡ to). subst (λ (k : ℕ). isUtf8 (span text at k) ≡ false) (sym q) (not-here n)) (λ (q : e < to). g.before e l q)
+            ⊎_elim (λ (q : e ≡ to). subst (λ (k : ℕ). is_utf8 (span text at k) ≡ false) (sym q) (not_here n)) (λ (q : e < to). g.before e l q)
             (eq-or-lt_of_le (let p : e ≤ to = omega arith in p));
       }
 
@@ -108,24 +108,24 @@ module _ {text : List ℕ} {at : ℕ} {s : State} {to : ℕ} (g : Begun text at 
       record {
         room = omega (arith, g.room, g.on);
         whole = rw p (here ∙ eq-eqb s.need 0 e);
-        else-none = λ (z : to - at ≡ 0). absurd (nothing z);
+        else_none = λ (z : to - at ≡ 0). absurd (nothing z);
       }
     where
       nothing : to - at ≡ 0 → ⊥
       nothing z = omega (arith, g.on)
 
-  none_yet : (s.need ≡ 0 → ⊥) → ((e : ℕ) → to < e → e ≤ length text → isUtf8 (span text at e) ≡ false) → CharacterAt text at 0
+  none_yet : (s.need ≡ 0 → ⊥) → ((e : ℕ) → to < e → e ≤ length text → is_utf8 (span text at e) ≡ false) → CharacterAt text at 0
   none_yet n later =
       record {
         room = omega (arith, g.on, g.room);
-        whole = rw zero_more (ap isUtf8 (span_none text at) ∙ empty);
-        else-none = λ z. record {
+        whole = rw zero_more (ap is_utf8 (span_none text at) ∙ empty);
+        else_none = λ z. record {
           none = λ (e : ℕ) (l : at < e) (r : e ≤ length text).
               ⊎_elim
               (λ (p : to ≤ e).
-              ⊎_elim (λ (q : to ≡ e). subst (λ (k : ℕ). isUtf8 (span text at k) ≡ false) q (not-here n)) (λ (q : to < e). later e q r) (eq-or-lt_of_le p))
+              ⊎_elim (λ (q : to ≡ e). subst (λ (k : ℕ). is_utf8 (span text at k) ≡ false) q (not_here n)) (λ (q : to < e). later e q r) (eq-or-lt_of_le p))
               (λ (p : e < to). g.before e l p)
-              (le-or-lt to e);
+              (le_or_lt to e);
         };
       }
     where
@@ -138,12 +138,12 @@ module _ {text : List ℕ} {at : ℕ} {s : State} {to : ℕ} (g : Begun text at 
       none_yet n
       (λ (e : ℕ) (l : to < e) (r : e ≤ length text).
       g.carried e (omega arith) r
-      ∙ ap (λ (b : List ℕ). ends s b) (span-cons text to e l r)
-      ∙ ends-cons s dead (get_or text to 0) (span text (to + 1) e) (no_byte (get_or text to 0))
-      ∙ ends-dead (span text (to + 1) e))
+      ∙ ap (λ (b : List ℕ). ends s b) (span_cons text to e l r)
+      ∙ ends_cons s dead (get_or text to 0) (span text (to + 1) e) (no_byte (get_or text to 0))
+      ∙ ends_dead (span text (to + 1) e))
     where
       no_byte : (b : ℕ) → step s b ≡ dead
-      no_byte b = ⊎_elim (λ (l : s.low ≤ b). step-over s b n (omega arith)) (λ (l : b < s.low). step-under s b n l) (le-or-lt s.low b)
+      no_byte b = ⊎_elim (λ (l : s.low ≤ b). step_over s b n (omega arith)) (λ (l : b < s.low). step_under s b n l) (le_or_lt s.low b)
 
   -- the text ends within the character
   pub cut_short : (s.need ≡ 0 → ⊥) → length text ≤ to → CharacterAt text at 0
@@ -156,14 +156,14 @@ module _ {text : List ℕ} {at : ℕ} {s : State} {to : ℕ} (g : Begun text at 
 pub record Walking (text : List ℕ) (from at : ℕ) : Type 0 where
   pub on : from ≤ at
   pub room : at ≤ length text
-  pub good : isUtf8 (span text from at) ≡ true
+  pub good : is_utf8 (span text from at) ≡ true
 
 pub start : (text : List ℕ) (from : ℕ) → from ≤ length text → Walking text from from
-start text from h = record { on = omega arith; room = h; good = ap isUtf8 (span_none text from) ∙ empty }
+start text from h = record { on = omega arith; room = h; good = ap is_utf8 (span_none text from) ∙ empty }
 
 module _ {text : List ℕ} {from at : ℕ} (g : Walking text from at) where
   -- characters go on from here to r
-  pub further : (r : ℕ) → at ≤ r → r ≤ length text → isUtf8 (span text at r) ≡ true → Walking text from r
+  pub further : (r : ℕ) → at ≤ r → r ≤ length text → is_utf8 (span text at r) ≡ true → Walking text from r
   further r l h good = record { on = omega (arith, g.on); room = h; good = onward text from at r g.on l g.good ∙ good }
 
   pub stride : (size : ℕ) → CharacterAt text at size → Walking text from (at + size)
@@ -188,15 +188,15 @@ module _ {text : List ℕ} {from at : ℕ} (g : Walking text from at) where
         on = omega (arith, g.on, q.on);
         room = q.room;
         good = onward text from at r g.on q.on g.good ∙ q.good;
-        no-further = λ (to : ℕ) (l : r < to) (h : to ≤ length text).
-            onward text from at to g.on (omega (arith, q.on)) g.good ∙ q.no-further to l h;
+        no_further = λ (to : ℕ) (l : r < to) (h : to ≤ length text).
+            onward text from at to g.on (omega (arith, q.on)) g.good ∙ q.no_further to l h;
       }
 
   pub stays : NoneFrom text at → Reach text from at
-  stays n = record { on = g.on; room = g.room; good = g.good; no-further = λ (to : ℕ) (l : at < to) (h : to ≤ length text). onward text from at to g.on (omega arith) g.good ∙ n.none to l h }
+  stays n = record { on = g.on; room = g.room; good = g.good; no_further = λ (to : ℕ) (l : at < to) (h : to ≤ length text). onward text from at to g.on (omega arith) g.good ∙ n.none to l h }
 
-  pub at-end : length text ≤ at → Reach text from at
-  at-end h = stays (record { none = λ (to : ℕ) (l : at < to) (r : to ≤ length text). absurd (nothing to l r) })
+  pub at_end : length text ≤ at → Reach text from at
+  at_end h = stays (record { none = λ (to : ℕ) (l : at < to) (r : to ≤ length text). absurd (nothing to l r) })
     where
       nothing : (to : ℕ) → at < to → to ≤ length text → ⊥
       nothing to l r = omega arith
@@ -244,10 +244,10 @@ unfolding part
 all_of text r s l = rw (s, l) (take_all (length text) text (omega arith))
 
 module _ (text : List ℕ) (r : Range) (f : fits (length text) r ≡ true) (to : ℕ) (q : Reach text r.start to) where
-  pub too_far : to < r.start + r.length → isUtf8 (part text r) ≡ false
+  pub too_far : to < r.start + r.length → is_utf8 (part text r) ≡ false
   too_far h =
       let e : (r.start + r.length) - r.start ≡ r.length = omega arith in
-      rw e at (q.no-further (r.start + r.length) h (fits_le _ _ f))
+      rw e at (q.no_further (r.start + r.length) h (fits_le _ _ f))
 
   -- the range is the front of what goes on from its start
   pub front : r.start + r.length ≤ to → part (span text r.start to) (record { start = 0; length = r.length }) ≡ part text r
@@ -256,20 +256,20 @@ module _ (text : List ℕ) (r : Range) (f : fits (length text) r ≡ true) (to :
 
   pub front_fits : r.start + r.length ≤ to → fits (length (span text r.start to)) (record { start = 0; length = r.length }) ≡ true
   front_fits h =
-      let n = part_length text (record { start = r.start; length = to - r.start }) (le-fits _ _ (omega (arith, q.on, q.room))) in
-      le-fits _ _ (omega arith)
+      let n = part_length text (record { start = r.start; length = to - r.start }) (le_fits _ _ (omega (arith, q.on, q.room))) in
+      le_fits _ _ (omega arith)
 
-accepted : (bytes : List ℕ) → ends (waiting 0) bytes ≡ ends (waiting 0) [] → isUtf8 bytes ≡ true
-unfolding isUtf8 ends after
+accepted : (bytes : List ℕ) → ends (waiting 0) bytes ≡ ends (waiting 0) [] → is_utf8 bytes ≡ true
+unfolding is_utf8 ends after
 accepted bytes e = e
 
 pub all_ascii : (text : List ℕ) → Ascii text 0 (length text) → AllUtf8 text
 all_ascii text a = record { each = one }
   where
-    one : (r : Range) → fits (length text) r ≡ true → isUtf8 (part text r) ≡ true
+    one : (r : Range) → fits (length text) r ≡ true → is_utf8 (part text r) ≡ true
     one r f =
         let room = fits_le (length text) r f in
         let z : r.start - r.start ≡ 0 = omega arith in
         let n : (r.start + r.length) - r.start ≡ r.length = omega arith in
-        let run = run-accepted text r room r.start (r.start + r.length) (omega arith) (omega arith) (omega arith) (λ (i : ℕ) (l : r.start ≤ i) (h : i < r.start + r.length). a i (omega arith) (omega arith)) (waiting 0) refl in
+        let run = run_accepted text r room r.start (r.start + r.length) (omega arith) (omega arith) (omega arith) (λ (i : ℕ) (l : r.start ≤ i) (h : i < r.start + r.length). a i (omega arith) (omega arith)) (waiting 0) refl in
         accepted (part text r) (rw (z, n, part_end text r f r.length (omega arith)) at run)

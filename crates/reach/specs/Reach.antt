@@ -3,7 +3,7 @@
 use Rattle.std.specs.Prelude.{Bool, true, false, List, ◌≡◌, ℕ, ◌+◌, ◌-◌, ◌/◌, ◌%◌, ◌≤◌, ◌<◌, length, get_or}
 use Rattle.text.specs.declared.Range.{Range}
 use Rattle.text.specs.Part.{fits, part}
-use Rattle.utf8.specs.Automaton.{isUtf8}
+use Rattle.utf8.specs.Automaton.{is_utf8}
 
 -- the bytes from one place up to another
 abbrev pub span : List ℕ → ℕ → ℕ → List ℕ
@@ -11,27 +11,27 @@ span text from to = part text (record { start = from; length = to - from })
 
 -- no bytes from the place on are UTF-8
 pub record NoneFrom (text : List ℕ) (from : ℕ) : Type 0 where
-  pub none : (to : ℕ) → from < to → to ≤ length text → isUtf8 (span text from to) ≡ false
+  pub none : (to : ℕ) → from < to → to ≤ length text → is_utf8 (span text from to) ≡ false
 
 -- the r bytes from a place on are UTF-8, and 0 says that none are
 pub record CharacterAt (text : List ℕ) (at r : ℕ) : Type 0 where
   pub room : at + r ≤ length text
-  pub whole : isUtf8 (span text at (at + r)) ≡ true
-  pub else-none : r ≡ 0 → NoneFrom text at
+  pub whole : is_utf8 (span text at (at + r)) ≡ true
+  pub else_none : r ≡ 0 → NoneFrom text at
 
 -- characters go on from one place to r, and to the end or as far as they can
 pub record Walked (text : List ℕ) (from end r : ℕ) : Type 0 where
   pub on : from ≤ r
   pub room : r ≤ length text
-  pub good : isUtf8 (span text from r) ≡ true
+  pub good : is_utf8 (span text from r) ≡ true
   pub stopped : r < end → NoneFrom text r
 
 -- r is the last place to which characters go on
 pub record Reach (text : List ℕ) (from r : ℕ) : Type 0 where
   pub on : from ≤ r
   pub room : r ≤ length text
-  pub good : isUtf8 (span text from r) ≡ true
-  pub no-further : (to : ℕ) → r < to → to ≤ length text → isUtf8 (span text from to) ≡ false
+  pub good : is_utf8 (span text from r) ≡ true
+  pub no_further : (to : ℕ) → r < to → to ≤ length text → is_utf8 (span text from to) ≡ false
 
 -- a word of the table has a place and the last place to which characters go on from there
 abbrev pub places : ℕ
@@ -50,8 +50,8 @@ pub record Told (text memo : List ℕ) : Type 0 where
 -- what is known of a text before its ranges are settled
 pub record Known (text memo : List ℕ) (whole : Bool) : Type 0 where
   pub told : Told text memo
-  pub whole_is : whole ≡ true → isUtf8 text ≡ true
+  pub whole_is : whole ≡ true → is_utf8 text ≡ true
 
 -- every range of the text is UTF-8
 pub record AllUtf8 (text : List ℕ) : Type 0 where
-  pub each : (r : Range) → fits (length text) r ≡ true → isUtf8 (part text r) ≡ true
+  pub each : (r : Range) → fits (length text) r ≡ true → is_utf8 (part text r) ≡ true

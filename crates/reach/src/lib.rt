@@ -4,9 +4,11 @@
 // Where the whole text is UTF-8 a range is by its two ends. Elsewhere one pass from the end fills a
 // table: for each block of 128 bytes, how far characters go on from the first of its places at which
 // one may begin. No answer rests on which places stand in the table, only the time it takes.
+#![tactic(auto)]
+
 ghost use Rattle.std.specs.Prelude.{true, List, ◌≡◌, ℕ, ◌≤◌, ◌<◌, length};
 ghost use Rattle.text.specs.Part.{fits, part};
-ghost use Rattle.utf8.specs.Automaton.{isUtf8};
+ghost use Rattle.utf8.specs.Automaton.{is_utf8};
 ghost use Rattle.reach.specs.Reach.{CharacterAt, Walked, Reach, Told, Known, AllUtf8, places, blocks};
 
 use ascii::all_ascii;
@@ -167,7 +169,7 @@ pub fn know(text: &[u8], memo: &mut [u32]) -> bool
 // Whether the range's bytes are UTF-8.
 pub fn settles(text: &[u8], memo: &[u32], whole: bool, range: Range) -> bool
     requires { Known text.now memo.now whole × (fits (length text.now) range ≡ true) }
-    ensures { result ≡ isUtf8 (part text.now range) }
+    ensures { result ≡ is_utf8 (part text.now range) }
 {
     if whole {
         return range_is_utf8(text, range);

@@ -4,59 +4,59 @@
 -- Assumes nothing.
 use Rattle.std.specs.Prelude.{true, false, List, [], ◌∷◌, ◌++◌, ◌≡◌, ℕ, ◌-◌, ◌≤◌, ◌<◌, ltb, length, drop}
 use Rattle.std.proofs.Math.Option.{Option, none, some}
-use Rattle.json.specs.Datum.{Datum}
-use Rattle.json.specs.Text.{Text, bytes}
-use Rattle.json.specs.Value.{value_of}
-use Rattle.json.specs.Starts.{textStarts}
-use Rattle.json.specs.Refusal as Found
-use Rattle.json.specs.Refusal.{Found}
-use Rattle.sheet.specs.Kinds.{number-max}
-use Rattle.sheet.specs.Refusals.{Outcome, accepted, refused, Line, firstLine}
+use Rattle.jsontext.specs.Datum.{Datum}
+use Rattle.jsontext.specs.Text.{Text, bytes}
+use Rattle.jsontext.specs.Value.{value_of}
+use Rattle.jsontext.specs.Starts.{text_starts}
+use Rattle.jsontext.specs.Refusal as Found
+use Rattle.jsontext.specs.Refusal.{Found}
+use Rattle.sheet.specs.Kinds.{number_max}
+use Rattle.sheet.specs.Refusals.{Outcome, accepted, refused, Line, first_line}
 use Rattle.breadth.specs.Forest.{tree}
 use Rattle.breadth.specs.Sheet.{rows, text}
-use Rattle.breadth.specs.Words.{sheetWords}
-use Rattle.reader.specs.Faults.{Fault, firstFault}
+use Rattle.breadth.specs.Words.{sheet_words}
+use Rattle.reader.specs.Faults.{Fault, first_fault}
 
 -- the most bytes of an input
-abbrev pub input-max : ℕ
-input-max = 65_536
+abbrev pub input_max : ℕ
+input_max = 65_536
 
 -- ---- of a text
 
 -- its value
-abbrev pub datumOf : Text → Datum
-datumOf t = value_of number-max t.root
+abbrev pub datum_of : Text → Datum
+datum_of t = value_of number_max t.root
 
 -- its sheet
-abbrev pub textMade : Text → List ℕ
-textMade t = text (tree (datumOf t))
+abbrev pub text_made : Text → List ℕ
+text_made t = text (tree (datum_of t))
 
-abbrev pub wordsMade : Text → List ℕ
-wordsMade t = sheetWords (rows (tree (datumOf t))) (length (textMade t))
+abbrev pub words_made : Text → List ℕ
+words_made t = sheet_words (rows (tree (datum_of t))) (length (text_made t))
 
 -- a fault's line of the refusal table; its place is the byte at which it starts
-abbrev pub faultLine : ℕ → Option Fault → Line
-faultLine size none = record { number = 22; applies = false; place = 0 }
-faultLine size (some f) = record { number = f.number; applies = true; place = size - length f.behind }
+abbrev pub fault_line : ℕ → Option Fault → Line
+fault_line size none = record { number = 22; applies = false; place = 0 }
+fault_line size (some f) = record { number = f.number; applies = true; place = size - length f.behind }
 
 -- a line that applies where fewer are lent than needed
-abbrev pub shortLine : ℕ → ℕ → ℕ → Line
-shortLine number needed lent = record { number = number; applies = ltb lent needed; place = needed }
+abbrev pub short_line : ℕ → ℕ → ℕ → Line
+short_line number needed lent = record { number = number; applies = ltb lent needed; place = needed }
 
 -- what is answered where `words` words and `room` bytes are lent
-unfoldable pub textOutcome : Text → ℕ → ℕ → Outcome
-textOutcome t words room =
-    firstLine
-    (faultLine (length (bytes t)) (firstFault 0 (textStarts number-max t))
-    ∷ shortLine 27 (length (wordsMade t)) words
-    ∷ shortLine 28 (length (textMade t)) room
+unfoldable pub text_outcome : Text → ℕ → ℕ → Outcome
+text_outcome t words room =
+    first_line
+    (fault_line (length (bytes t)) (first_fault 0 (text_starts number_max t))
+    ∷ short_line 27 (length (words_made t)) words
+    ∷ short_line 28 (length (text_made t)) room
     ∷ [])
-    (length (rows (tree (datumOf t))))
+    (length (rows (tree (datum_of t))))
 
 -- an area at the end: on success what was made stands at its start
-abbrev pub areaAfter : Outcome → List ℕ → List ℕ → List ℕ
-areaAfter (accepted n) made area = made ++ drop (length made) area
-areaAfter (refused k p) made area = area
+abbrev pub area_after : Outcome → List ℕ → List ℕ → List ℕ
+area_after (accepted n) made area = made ++ drop (length made) area
+area_after (refused k p) made area = area
 
 -- ---- of any input
 
@@ -68,13 +68,13 @@ pub record Read : Type 0 where
 
 -- what the call gives for an input and two areas
 pub data Reads (json words room : List ℕ) : Read → Type 0 where
-  too_long : input-max < length json → Reads json words room (record { outcome = refused 20 0; words = words; room = room })
-  not-json : {place : ℕ} → length json ≤ input-max → Found json (Found.refused place)
+  too_long : input_max < length json → Reads json words room (record { outcome = refused 20 0; words = words; room = room })
+  not_json : {place : ℕ} → length json ≤ input_max → Found json (Found.refused place)
       → Reads json words room (record { outcome = refused 21 place; words = words; room = room })
-  is-text : (t : Text) → length json ≤ input-max → bytes t ≡ json
+  is_text : (t : Text) → length json ≤ input_max → bytes t ≡ json
       → Reads json words room
       (record {
-        outcome = textOutcome t (length words) (length room);
-        words = areaAfter (textOutcome t (length words) (length room)) (wordsMade t) words;
-        room = areaAfter (textOutcome t (length words) (length room)) (textMade t) room;
+        outcome = text_outcome t (length words) (length room);
+        words = area_after (text_outcome t (length words) (length room)) (words_made t) words;
+        room = area_after (text_outcome t (length words) (length room)) (text_made t) room;
       })

@@ -1,7 +1,9 @@
 // Reading JSON into a record sheet and its text (`reader/specs/Call.antt`, which the contract cites).
+#![tactic(auto)]
+
 ghost use Rattle.std.specs.Prelude.{◌≤◌, ◌<◌, length};
 ghost use Rattle.reader.specs.Call.{Reads};
-ghost use Rattle.laying.specs.Laying.{outcomeOf};
+ghost use Rattle.laying.specs.Laying.{outcome_of};
 ghost use Rattle.refusing.specs.Refusing.{Lent};
 
 use laying::{Answer, write};
@@ -16,7 +18,7 @@ fn read_with(
     text: &mut [u8],
 ) -> Answer
     requires { (length json.now ≤ 65_536) × Lent json.now names.old ranges.old }
-    ensures { Reads json.now words.old text.old (record { outcome = outcomeOf result; words = words.new; room = text.new }) }
+    ensures { Reads json.now words.old text.old (record { outcome = outcome_of result; words = words.new; room = text.new }) }
 {
     let mut values = [0u32; 32];
     let mut texts = [0u32; 32];
@@ -31,7 +33,7 @@ fn read_with(
 // Reads a text of few bytes, which need not pay for large areas.
 fn read_short(json: &[u8], words: &mut [u32], text: &mut [u8]) -> Answer
     requires { length json.now ≤ 1_024 }
-    ensures { Reads json.now words.old text.old (record { outcome = outcomeOf result; words = words.new; room = text.new }) }
+    ensures { Reads json.now words.old text.old (record { outcome = outcome_of result; words = words.new; room = text.new }) }
 {
     let mut names = [0u8; 1_025];
     let mut ranges = [0u32; 1_538];
@@ -41,7 +43,7 @@ fn read_short(json: &[u8], words: &mut [u32], text: &mut [u8]) -> Answer
 // Reads any other text of no more bytes than are read.
 fn read_long(json: &[u8], words: &mut [u32], text: &mut [u8]) -> Answer
     requires { length json.now ≤ 65_536 }
-    ensures { Reads json.now words.old text.old (record { outcome = outcomeOf result; words = words.new; room = text.new }) }
+    ensures { Reads json.now words.old text.old (record { outcome = outcome_of result; words = words.new; room = text.new }) }
 {
     let mut names = [0u8; 65_537];
     let mut ranges = [0u32; 3_072];
@@ -51,7 +53,7 @@ fn read_long(json: &[u8], words: &mut [u32], text: &mut [u8]) -> Answer
 // Reads JSON, whatever the bytes and the areas: the record sheet and its text are written to the
 // starts of the areas, or nothing is written and the text is refused.
 pub fn read(json: &[u8], words: &mut [u32], text: &mut [u8]) -> Answer
-    ensures { Reads json.now words.old text.old (record { outcome = outcomeOf result; words = words.new; room = text.new }) }
+    ensures { Reads json.now words.old text.old (record { outcome = outcome_of result; words = words.new; room = text.new }) }
 {
     let n = json.len();
     if 65_536 < n {

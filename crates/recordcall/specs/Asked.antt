@@ -2,15 +2,15 @@
 -- Assumes nothing.
 use Rattle.std.specs.Prelude.{ℕ, ◌<◌, false, List, ◌≡◌}
 use Rattle.sheet.specs.declared.refusal.Checked.{Checked}
-use Rattle.sheet.specs.Refusals.{outcomeOf}
-use Rattle.rules.specs.Check.{rulesOutcome}
-use Rattle.listing.specs.Listing.{recordsIn, outside}
+use Rattle.sheet.specs.Refusals.{outcome_of}
+use Rattle.rules.specs.Check.{rules_outcome}
+use Rattle.listing.specs.Listing.{records_in, outside}
 
 -- the rules were checked, with this answer
 abbrev pub RulesChecked : (rs us : List ℕ) → Checked → Type 0
-RulesChecked rs us checked = outcomeOf checked ≡ rulesOutcome rs us
+RulesChecked rs us checked = outcome_of checked ≡ rules_outcome rs us
 
 -- record i stands in the listing, and lies in slices of so many words and bytes
 pub record Inside (words bytes : ℕ) (listing : List ℕ) (i : ℕ) : Type 0 where
-  pub listed : i < recordsIn listing
+  pub listed : i < records_in listing
   pub within : outside words bytes listing i ≡ false

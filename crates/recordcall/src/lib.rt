@@ -1,11 +1,13 @@
 // One record of a queue: the call of `judge` with rules that were checked before. The contracts cite
-// `callLeaves` of crate `answer`, `Called` of crate `number`, and `specs/Asked.antt`.
+// `call_leaves` of crate `answer`, `Called` of crate `number`, and `specs/Asked.antt`.
+#![tactic(auto)]
+
 ghost use Rattle.std.specs.Prelude.{◌≡◌, true, length};
 ghost use Rattle.text.specs.Part.{fits, part};
 ghost use Rattle.meaning.specs.Rules.{whole};
-ghost use Rattle.answer.specs.Call.{callLeaves};
+ghost use Rattle.answer.specs.Call.{call_leaves};
 ghost use Rattle.number.specs.Called.{Called};
-ghost use Rattle.listing.specs.Listing.{wordsAt, textAt};
+ghost use Rattle.listing.specs.Listing.{words_at, text_at};
 ghost use Rattle.recordcall.specs.Asked.{RulesChecked, Inside};
 
 use answer::Answer;
@@ -30,7 +32,7 @@ pub fn judge_listed<'a>(
 ) -> u64
     requires inside { Inside (length words.now) (length bytes.now) listing.now i }
     requires rules_checked { RulesChecked rules.now rule_text.now checked }
-    ensures { Called whole (part words.now (wordsAt listing.now i)) (part bytes.now (textAt listing.now i)) rules.now rule_text.now cells.old list.old cells.new list.new result }
+    ensures { Called whole (part words.now (words_at listing.now i)) (part bytes.now (text_at listing.now i)) rules.now rule_text.now cells.old list.old cells.new list.new result }
 {
     let record = words_of(words, words_at(listing, i));
     let text = bytes_of(bytes, text_at(listing, i));
@@ -59,7 +61,7 @@ fn judge_record<'a>(
     checked: Checked,
 ) -> Answer
     requires { RulesChecked rules.now rule_text.now checked }
-    ensures { callLeaves «record».now text.now rules.now rule_text.now cells.old list.old result cells.new list.new }
+    ensures { call_leaves «record».now text.now rules.now rule_text.now cells.old list.old result cells.new list.new }
 {
     match check_record(record, text) {
         Checked::Accepted(n) => judge_checked(

@@ -1,8 +1,8 @@
 -- The children of a row, as the pass that only says yes meets them.
---     not-child, by-label    which rows are
+--     not_child, by_label    which rows are
 --     told            each is told its level
 --     owns            then the row owns them
---     labels-fit      and the names of an object's children lie within the text
+--     labels_fit      and the names of an object's children lie within the text
 -- Assumes nothing.
 use mathlib.Core.Bool.{true, false, not, ◌&&◌}
 use mathlib.Core.List.{List}
@@ -22,11 +22,11 @@ use Rattle.sheet.specs.declared.kind.RowKind.TheVariants.{Object}
 use Rattle.sheet.specs.declared.record.Row.{Row}
 use Rattle.sheet.specs.declared.record.RecordForm.{RecordForm}
 use Rattle.sheet.specs.Doc.{level}
-use Rattle.sheet.specs.Record.{rowsWord, textWord, row_at, ownerAt, docOf}
-use Rattle.sheet.specs.Faults.{labelOk, placeOk, stranger, ownsOk}
-use Rattle.sheet.proofs.Levels.{level-under}
-use Rattle.sheet.proofs.Trailers.{form-rows}
-use Rattle.recordcheck.specs.Order.{Placed, Levelled, childOk, Holding, Held}
+use Rattle.sheet.specs.Record.{rows_word, text_word, row_at, owner_at, doc_of}
+use Rattle.sheet.specs.Faults.{label_ok, place_ok, stranger, owns_ok}
+use Rattle.sheet.proofs.Levels.{level_under}
+use Rattle.sheet.proofs.Trailers.{form_rows}
+use Rattle.recordcheck.specs.Order.{Placed, Levelled, child_ok, Holding, Held}
 
 pub nothing : {A : Type 0} (k : ℕ) → k < 0 → A
 nothing k h = absurd (none h)
@@ -36,55 +36,55 @@ nothing k h = absurd (none h)
 
 -- whether row c is a child of row j, as the row that was read tells it
 module _ (ws : List ℕ) (kind : RowKind) (j c : ℕ) (row : Row) (read : row ≡ row_at ws c) where
-  by_row : childOk ws kind j c ≡ (eqb row.owner j && labelOk kind (textWord ws) row.label)
-  by_row = ap (λ (r : Row). eqb r.owner j && labelOk kind (textWord ws) r.label) (sym read)
+  by_row : child_ok ws kind j c ≡ (eqb row.owner j && label_ok kind (text_word ws) row.label)
+  by_row = ap (λ (r : Row). eqb r.owner j && label_ok kind (text_word ws) r.label) (sym read)
 
-  pub not-child : (row.owner ≡ j → ⊥) → false ≡ childOk ws kind j c
-  not-child other = sym (by_row ∙ rw (ne_eqb row.owner j other))
+  pub not_child : (row.owner ≡ j → ⊥) → false ≡ child_ok ws kind j c
+  not_child other = sym (by_row ∙ rw (ne_eqb row.owner j other))
 
-  pub by-label : row.owner ≡ j → (size : ℕ) → size ≡ textWord ws → labelOk kind size row.label ≡ childOk ws kind j c
-  by-label same size e = sym (by_row ∙ rw (eq-eqb row.owner j same, e))
+  pub by_label : row.owner ≡ j → (size : ℕ) → size ≡ text_word ws → label_ok kind size row.label ≡ child_ok ws kind j c
+  by_label same size e = sym (by_row ∙ rw (eq-eqb row.owner j same, e))
 
 -- the name of a row that was read, and of an object's child that it lies within the text
-pub named : (ws ts : List ℕ) (c : ℕ) (row : Row) → row ≡ row_at ws c → part ts row.label ≡ (docOf ws ts).name c
-unfolding docOf
+pub named : (ws ts : List ℕ) (c : ℕ) (row : Row) → row ≡ row_at ws c → part ts row.label ≡ (doc_of ws ts).name c
+unfolding doc_of
 named ws ts c row read = rw read
 
-pub label-fits : (ws : List ℕ) (j c : ℕ) (row : Row) → row ≡ row_at ws c → {size : ℕ} → size ≡ textWord ws → childOk ws Object j c ≡ true → fits size row.label ≡ true
-label-fits ws j c row read e ok =
-    rw (e, read) (right (eqb (ownerAt ws c) j) (fits (textWord ws) (row_at ws c).label) ok)
+pub label_fits : (ws : List ℕ) (j c : ℕ) (row : Row) → row ≡ row_at ws c → {size : ℕ} → size ≡ text_word ws → child_ok ws Object j c ≡ true → fits size row.label ≡ true
+label_fits ws j c row read e ok =
+    rw (e, read) (right (eqb (owner_at ws c) j) (fits (text_word ws) (row_at ws c).label) ok)
 
 module _ {ws : List ℕ} {form : RecordForm} {kind : RowKind} {j deep first count : ℕ} (h : Holding ws form kind j deep first count) where
   -- child i of row j
-  module _ (i : ℕ) (l : i < count) (ok : childOk ws kind j (first + i) ≡ true) where
-    owner-is : ownerAt ws (first + i) ≡ j
-    owner-is = eqb-true (ownerAt ws (first + i)) j (left (eqb (ownerAt ws (first + i)) j) (labelOk kind (textWord ws) (row_at ws (first + i)).label) ok)
+  module _ (i : ℕ) (l : i < count) (ok : child_ok ws kind j (first + i) ≡ true) where
+    owner_is : owner_at ws (first + i) ≡ j
+    owner_is = eqb-true (owner_at ws (first + i)) j (left (eqb (owner_at ws (first + i)) j) (label_ok kind (text_word ws) (row_at ws (first + i)).label) ok)
 
-    label-good : labelOk kind (textWord ws) (row_at ws (first + i)).label ≡ true
-    label-good = right (eqb (ownerAt ws (first + i)) j) (labelOk kind (textWord ws) (row_at ws (first + i)).label) ok
+    label_good : label_ok kind (text_word ws) (row_at ws (first + i)).label ≡ true
+    label_good = right (eqb (owner_at ws (first + i)) j) (label_ok kind (text_word ws) (row_at ws (first + i)).label) ok
 
-    place-good : placeOk ws (first + i) (row_at ws (first + i)) ≡ true
-    unfolding placeOk
-    place-good =
+    place_good : place_ok ws (first + i) (row_at ws (first + i)) ≡ true
+    unfolding place_ok
+    place_good =
         simp (
           ne_eqb (first + i) 0 (λ e. omega (arith, h.after)),
-          owner-is,
-          lt-ltb j (rowsWord ws) (omega (arith, h.below, form-rows ws form h.formed)),
-          h.kind-is,
-          label-good,
-          ← h.first-is,
-          ← h.count-is,
+          owner_is,
+          lt-ltb j (rows_word ws) (omega (arith, h.below, form_rows ws form h.formed)),
+          h.kind_is,
+          label_good,
+          ← h.first_is,
+          ← h.count_is,
           le-leb first (first + i) (omega arith),
           lt-ltb (first + i) (first + count) (omega arith),
         )
 
-    level-here : deep ≡ level (ownerAt ws) (first + i)
-    level-here =
+    level_here : deep ≡ level (owner_at ws) (first + i)
+    level_here =
         h.deeper
-        ∙ sym (level-under (ownerAt ws) (first + i) (omega (arith, owner-is, h.after)) ∙ ap (λ (k : ℕ). level (ownerAt ws) k + 1) owner-is)
+        ∙ sym (level_under (owner_at ws) (first + i) (omega (arith, owner_is, h.after)) ∙ ap (λ (k : ℕ). level (owner_at ws) k + 1) owner_is)
 
     placed : Placed ws (first + i) deep
-    placed = record { place-good = place-good; level-is = level-here; shallow = h.shallow }
+    placed = record { place_good = place_good; level_is = level_here; shallow = h.shallow }
 
     pub told : {table : List ℕ} (at : ℕ) → at ≡ first + i → Levelled ws form.rows table → Levelled ws form.rows (set table at deep)
     told {table} at e t =
@@ -102,18 +102,18 @@ module _ {ws : List ℕ} {form : RecordForm} {kind : RowKind} {j deep first coun
               (decide (eqb k at));
         }
 
-  pub owns : Held ws kind j first count → ownsOk ws j (row_at ws j) ≡ true
-  unfolding ownsOk
+  pub owns : Held ws kind j first count → owns_ok ws j (row_at ws j) ≡ true
+  unfolding owns_ok
   owns held =
       let e : stranger ws j first count ≡ first + count =
-      none_found (λ k. not (eqb (ownerAt ws k) j)) count first
+      none_found (λ k. not (eqb (owner_at ws k) j)) count first
       (λ k a b.
       let q : first + (k - first) ≡ k = omega arith in
-      let o = owner-is (k - first) (omega arith) (held.each (k - first) (omega arith)) in
-      ap not (eq-eqb (ownerAt ws k) j (rw q at o))) in
-      simp (h.kind-is, h.holds, ← h.first-is, ← h.count-is, eq-eqb (stranger ws j first count) (first + count) e)
+      let o = owner_is (k - first) (omega arith) (held.each (k - first) (omega arith)) in
+      ap not (eq-eqb (owner_at ws k) j (rw q at o))) in
+      simp (h.kind_is, h.holds, ← h.first_is, ← h.count_is, eq-eqb (stranger ws j first count) (first + count) e)
 
-pub labels-fit : {ws : List ℕ} {j first count : ℕ} → Held ws Object j first count
-    → (i : ℕ) → i < count → fits (textWord ws) (row_at ws (first + i)).label ≡ true
-labels-fit {ws} {j} {first} held i l =
-    right (eqb (ownerAt ws (first + i)) j) (fits (textWord ws) (row_at ws (first + i)).label) (held.each i l)
+pub labels_fit : {ws : List ℕ} {j first count : ℕ} → Held ws Object j first count
+    → (i : ℕ) → i < count → fits (text_word ws) (row_at ws (first + i)).label ≡ true
+labels_fit {ws} {j} {first} held i l =
+    right (eqb (owner_at ws (first + i)) j) (fits (text_word ws) (row_at ws (first + i)).label) (held.each i l)

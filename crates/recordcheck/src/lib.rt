@@ -2,11 +2,13 @@
 // in order; only of one that is not are the lines of the table asked one by one.
 //
 // Contracts cite `sheet`'s specs/Faults.antt, and specs/Order.antt.
+#![tactic(auto)]
+
 pub mod order;
 
 ghost use Rattle.std.specs.Prelude.{◌≡◌, ℕ, ◌<◌};
-ghost use Rattle.sheet.specs.Refusals.{outcomeOf};
-ghost use Rattle.sheet.specs.Faults.{recordOutcome};
+ghost use Rattle.sheet.specs.Refusals.{outcome_of};
+ghost use Rattle.sheet.specs.Faults.{record_outcome};
 ghost use Rattle.recordcheck.specs.Order.{Begun, Ordered};
 
 use reach::is_ascii;
@@ -17,7 +19,7 @@ use sheet::refusal::{Checked, Refusal};
 // ASCII is.
 fn check_texts(words: &[u32], text: &[u8], form: RecordForm) -> Checked
     requires { Begun words.now text.now form × ((j : ℕ) → j < form.rows → Ordered words.now text.now j) }
-    ensures { outcomeOf result ≡ recordOutcome words.now text.now }
+    ensures { outcome_of result ≡ record_outcome words.now text.now }
 {
     let rows = form.rows;
     if is_ascii(text) {
@@ -33,7 +35,7 @@ fn check_texts(words: &[u32], text: &[u8], form: RecordForm) -> Checked
 // The answer where the trailer is in order, line by line of the table.
 fn check_lines(words: &[u32], text: &[u8], form: RecordForm) -> Checked
     requires { Begun words.now text.now form }
-    ensures { outcomeOf result ≡ recordOutcome words.now text.now }
+    ensures { outcome_of result ≡ record_outcome words.now text.now }
 {
     let rows = form.rows;
     let pass = recordlayout::pass_rows(words, form, text.len());
@@ -59,7 +61,7 @@ fn check_lines(words: &[u32], text: &[u8], form: RecordForm) -> Checked
 // Checks a record sheet, whatever the words and the text: accepted with its number of rows, or
 // refused with the first refusal of 1, 2, 3, 13 and 4 that applies and its place.
 pub fn check_record(words: &[u32], text: &[u8]) -> Checked
-    ensures { outcomeOf result ≡ recordOutcome words.now text.now }
+    ensures { outcome_of result ≡ record_outcome words.now text.now }
 {
     if !recordfields::trailer_ok(words, text.len()) {
         return Checked::Refused(Refusal::RecordTrailer, 0);

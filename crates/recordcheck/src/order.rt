@@ -6,9 +6,9 @@
 ghost use Rattle.std.specs.Prelude.{true, ◌≡◌, ℕ, ◌+◌, ◌≤◌, ◌<◌, length, get_or};
 ghost use Rattle.text.specs.Part.{fits};
 ghost use Rattle.sheet.specs.declared.kind.RowKind.TheVariants.{Object};
-ghost use Rattle.sheet.specs.Record.{textWord, row_at};
+ghost use Rattle.sheet.specs.Record.{text_word, row_at};
 ghost use Rattle.sheet.specs.Accepted.{Formed};
-ghost use Rattle.recordcheck.specs.Order.{Levelled, childOk, Holding, Held, Apart, Ordered};
+ghost use Rattle.recordcheck.specs.Order.{Levelled, child_ok, Holding, Held, Apart, Ordered};
 
 use names::Names;
 use recordfields::{fields_ok, label_ok, root_ok};
@@ -26,8 +26,8 @@ const LEVEL_LAST: u8 = 31;
 
 // Whether row c is a child of row j, which is of this kind.
 fn child_ok(words: &[u32], form: RecordForm, size: usize, kind: RowKind, j: u32, c: u32) -> bool
-    requires { Formed words.now form × (size ≡ textWord words.now) × (c < form.rows) }
-    ensures { result ≡ childOk words.now kind j c }
+    requires { Formed words.now form × (size ≡ text_word words.now) × (c < form.rows) }
+    ensures { result ≡ child_ok words.now kind j c }
 {
     let row = row_at(words, form, RecordRow(c));
     let label = row.label;
@@ -49,7 +49,7 @@ fn children_ok(
     first: u32,
     count: u32,
 ) -> bool
-    requires { Holding words.now form kind j level first count × (size ≡ textWord words.now) × Levelled words.now form.rows levels.old }
+    requires { Holding words.now form kind j level first count × (size ≡ text_word words.now) × Levelled words.now form.rows levels.old }
     ensures { result ≡ true → Held words.now kind j first count × Levelled words.now form.rows levels.new }
 {
     let mut i = 0;
@@ -67,8 +67,8 @@ fn children_ok(
 
 // Whether no two of the rows share a name.
 fn apart(words: &[u32], text: &[u8], form: RecordForm, first: u32, count: u32) -> bool
-    requires formed { Formed words.now form × (length text.now ≡ textWord words.now) × (first + count ≤ form.rows) }
-    requires by_index { (i : ℕ) → i < count → fits (textWord words.now) (row_at words.now (first + i)).label ≡ true }
+    requires formed { Formed words.now form × (length text.now ≡ text_word words.now) × (first + count ≤ form.rows) }
+    requires by_index { (i : ℕ) → i < count → fits (text_word words.now) (row_at words.now (first + i)).label ≡ true }
     ensures { result ≡ true → Apart words.now text.now first count }
 {
     let start = wide(first);
@@ -92,7 +92,7 @@ fn members_ok(
     first: u32,
     count: u32,
 ) -> bool
-    requires { Holding words.now form Object j level first count × (length text.now ≡ textWord words.now) × Levelled words.now form.rows levels.old }
+    requires { Holding words.now form Object j level first count × (length text.now ≡ text_word words.now) × Levelled words.now form.rows levels.old }
     ensures { result ≡ true → Held words.now Object j first count × Apart words.now text.now first count × Levelled words.now form.rows levels.new }
 {
     if !children_ok(
@@ -122,7 +122,7 @@ fn few_ok(
     first: u32,
     count: u32,
 ) -> bool
-    requires { Holding words.now form Object j level first count × (length text.now ≡ textWord words.now) × Levelled words.now form.rows levels.old }
+    requires { Holding words.now form Object j level first count × (length text.now ≡ text_word words.now) × Levelled words.now form.rows levels.old }
     ensures { result ≡ true → Held words.now Object j first count × Apart words.now text.now first count × Levelled words.now form.rows levels.new }
 {
     let size = text.len();
@@ -148,7 +148,7 @@ fn few_ok(
 
 // Whether row j is in order, and tells its children their level.
 fn row_ok(words: &[u32], text: &[u8], form: RecordForm, levels: &mut [u8], j: u32) -> bool
-    requires { Formed words.now form × (length text.now ≡ textWord words.now) × (j < form.rows) × Levelled words.now form.rows levels.old }
+    requires { Formed words.now form × (length text.now ≡ text_word words.now) × (j < form.rows) × Levelled words.now form.rows levels.old }
     ensures { result ≡ true → Ordered words.now text.now j × Levelled words.now form.rows levels.new }
 {
     let at = wide(j);
@@ -193,7 +193,7 @@ fn row_ok(words: &[u32], text: &[u8], form: RecordForm, levels: &mut [u8], j: u3
 
 // Whether all rows are, with a table that is clear.
 fn rows_ok(words: &[u32], text: &[u8], form: RecordForm, levels: &mut [u8]) -> bool
-    requires formed { Formed words.now form × (length text.now ≡ textWord words.now) × (form.rows ≤ length levels.old) }
+    requires formed { Formed words.now form × (length text.now ≡ text_word words.now) × (form.rows ≤ length levels.old) }
     requires by_index { (p : ℕ) → get_or levels.old p 0 ≡ 0 }
     ensures { result ≡ true → (j : ℕ) → j < form.rows → Ordered words.now text.now j }
 {
@@ -215,7 +215,7 @@ fn rows_ok(words: &[u32], text: &[u8], form: RecordForm, levels: &mut [u8]) -> b
 // Whether all rows are in order: true only where they are, and then no more is to be asked but
 // whether the text is UTF-8.
 pub(crate) fn in_order(words: &[u32], text: &[u8], form: RecordForm) -> bool
-    requires { Formed words.now form × (length text.now ≡ textWord words.now) }
+    requires { Formed words.now form × (length text.now ≡ text_word words.now) }
     ensures { result ≡ true → (j : ℕ) → j < form.rows → Ordered words.now text.now j }
 {
     if form.rows <= SMALL {

@@ -1,7 +1,9 @@
 // What a record sheet's trailer and the words of one row tell without the other rows: refusal 1, and
 // the parts of 2 that are asked of a row by itself. Contracts cite `sheet`'s specs/Faults.antt.
+#![tactic(auto)]
+
 ghost use Rattle.std.specs.Prelude.{◌&&◌, ◌≡◌};
-ghost use Rattle.sheet.specs.Faults.{trailerFits, wordsOk, textOk, childrenOk, contentOk, fieldsOk, labelOk, rootOk};
+ghost use Rattle.sheet.specs.Faults.{trailer_fits, words_ok, text_ok, children_ok, content_ok, fields_ok, label_ok, root_ok};
 
 use sheet::kind::RowKind;
 use sheet::layout::{TEXT_MAX, scalar_ok};
@@ -10,7 +12,7 @@ use text::Range;
 
 // Whether the trailer's words fit each other and a sheet of `size` words.
 fn trailer_fits(size: usize, rows: u32, back: u32, kind: u32) -> bool
-    ensures { result ≡ trailerFits size rows back kind }
+    ensures { result ≡ trailer_fits size rows back kind }
 {
     let n = rows as usize;
     let b = back as usize;
@@ -22,7 +24,7 @@ fn trailer_fits(size: usize, rows: u32, back: u32, kind: u32) -> bool
 
 // Whether the trailer is in order, over a text of `size` bytes.
 pub fn trailer_ok(words: &[u32], size: usize) -> bool
-    ensures { result ≡ (wordsOk words.now && textOk words.now size) }
+    ensures { result ≡ (words_ok words.now && text_ok words.now size) }
 {
     let n = words.len();
     if n < RecordForm::TRAILER_WORDS {
@@ -35,7 +37,7 @@ pub fn trailer_ok(words: &[u32], size: usize) -> bool
 
 // Whether row j of n may have these children: none, or rows that stand after it.
 fn children_ok(n: u32, j: u32, first: u32, count: u32) -> bool
-    ensures { result ≡ childrenOk n j first count }
+    ensures { result ≡ children_ok n j first count }
 {
     ((first == 0) & (count == 0))
         | ((0 < count) & ((j < first) & (first as usize + count as usize <= n as usize)))
@@ -43,7 +45,7 @@ fn children_ok(n: u32, j: u32, first: u32, count: u32) -> bool
 
 // Whether row j of n may hold this, over a text of `size` bytes.
 fn content_ok(kind: RowKind, size: usize, n: u32, j: u32, first: u32, count: u32) -> bool
-    ensures { result ≡ contentOk kind size n j first count }
+    ensures { result ≡ content_ok kind size n j first count }
 {
     if kind.holds_children() {
         return children_ok(n, j, first, count);
@@ -53,7 +55,7 @@ fn content_ok(kind: RowKind, size: usize, n: u32, j: u32, first: u32, count: u32
 
 // Whether the row's kind is known and its fields are what that kind may hold.
 pub fn fields_ok(size: usize, n: u32, j: u32, row: Row) -> bool
-    ensures { result ≡ fieldsOk size n j row }
+    ensures { result ≡ fields_ok size n j row }
 {
     if !RowKind::known(row.kind) {
         return false;
@@ -63,7 +65,7 @@ pub fn fields_ok(size: usize, n: u32, j: u32, row: Row) -> bool
 
 // Whether a child of an owner of this kind may have this label.
 pub fn label_ok(kind: RowKind, size: usize, label: Range) -> bool
-    ensures { result ≡ labelOk kind size label }
+    ensures { result ≡ label_ok kind size label }
 {
     match kind {
         RowKind::Null => false,
@@ -78,7 +80,7 @@ pub fn label_ok(kind: RowKind, size: usize, label: Range) -> bool
 
 // Whether the row is the root as it must be: it names itself and has no label.
 pub fn root_ok(row: Row) -> bool
-    ensures { result ≡ rootOk row }
+    ensures { result ≡ root_ok row }
 {
     let label = row.label;
     (row.owner == 0) & ((label.start == 0) & (label.length == 0))

@@ -1,8 +1,10 @@
 // Refusals 2 and 4 of a record sheet: one forward pass over the rows that finds the lowest row at
 // fault and the lowest row too deep. Contracts cite `sheet`'s specs/Faults.antt, and specs/Passes.antt.
+#![tactic(auto)]
+
 ghost use Rattle.std.specs.Prelude.{true, cond, ◌≡◌, ◌+◌, ◌≤◌, ◌<◌, eqb, ltb};
-ghost use Rattle.sheet.specs.Record.{textWord};
-ghost use Rattle.sheet.specs.Faults.{fieldsOk, placedUnder, placeOk, stranger, ownsOk, row_ok, level-refused};
+ghost use Rattle.sheet.specs.Record.{text_word};
+ghost use Rattle.sheet.specs.Faults.{fields_ok, placed_under, place_ok, stranger, owns_ok, row_ok, level_refused};
 ghost use Rattle.sheet.specs.Accepted.{Formed};
 ghost use Rattle.recordlayout.specs.Passes.{Passed};
 
@@ -16,7 +18,7 @@ pub const LEVEL_REFUSED: u16 = 33;
 
 // What one pass over the rows finds: the lowest row at fault, and, where none is, the lowest row at
 // the first level that is refused. Each is the number of rows where there is none.
-#[derive(Drop)]
+#[derive(Clone, Copy)]
 pub struct Pass {
     pub fault: u32,
     pub deep: u32,
@@ -24,7 +26,7 @@ pub struct Pass {
 
 // Whether row j, with this label, lies in the range of this owner.
 fn placed_under(owner: Row, j: u32, size: usize, label: Range) -> bool
-    ensures { result ≡ placedUnder owner j size label }
+    ensures { result ≡ placed_under owner j size label }
 {
     let end = owner.first as usize + owner.count as usize;
     label_ok(RowKind::of(owner.kind), size, label) & ((owner.first <= j) & ((j as usize) < end))
@@ -32,8 +34,8 @@ fn placed_under(owner: Row, j: u32, size: usize, label: Range) -> bool
 
 // Whether row j is the root as it must be, or lies in the range of the owner it names.
 fn place_ok(words: &[u32], form: RecordForm, size: usize, j: u32, row: Row) -> bool
-    requires { Formed words.now form × (size ≡ textWord words.now) }
-    ensures { result ≡ placeOk words.now j row }
+    requires { Formed words.now form × (size ≡ text_word words.now) }
+    ensures { result ≡ place_ok words.now j row }
 {
     let label = row.label;
     let owner = row.owner;
@@ -65,8 +67,8 @@ fn first_stranger(words: &[u32], form: RecordForm, j: u32, first: u32, count: u3
 
 // Whether the rows in the range of row j, if it can have children, name it as their owner.
 fn owns_ok(words: &[u32], form: RecordForm, j: u32, row: Row) -> bool
-    requires { Formed words.now form × (fieldsOk (textWord words.now) form.rows j row ≡ true) }
-    ensures { result ≡ ownsOk words.now j row }
+    requires { Formed words.now form × (fields_ok (text_word words.now) form.rows j row ≡ true) }
+    ensures { result ≡ owns_ok words.now j row }
 {
     if !RowKind::of(row.kind).holds_children() {
         return true;
@@ -78,7 +80,7 @@ fn owns_ok(words: &[u32], form: RecordForm, j: u32, row: Row) -> bool
 
 // Whether row j is not at fault.
 fn row_ok(words: &[u32], form: RecordForm, size: usize, j: u32) -> bool
-    requires { Formed words.now form × (size ≡ textWord words.now) × (j < form.rows) }
+    requires { Formed words.now form × (size ≡ text_word words.now) × (j < form.rows) }
     ensures { result ≡ row_ok words.now j }
 {
     let row = row_at(words, form, RecordRow(j));
@@ -93,7 +95,7 @@ fn row_ok(words: &[u32], form: RecordForm, size: usize, j: u32) -> bool
 
 // The row too deep that was found before row j, or j if it is the first: n while there is none.
 fn first_deep(deep: u32, n: u32, j: u32, level: u16) -> u32
-    ensures { result ≡ cond (ltb deep n) deep (cond (eqb level level-refused) j n) }
+    ensures { result ≡ cond (ltb deep n) deep (cond (eqb level level_refused) j n) }
 {
     if deep < n {
         deep
@@ -107,7 +109,7 @@ fn first_deep(deep: u32, n: u32, j: u32, level: u16) -> u32
 // One forward pass over the rows, each asked once for its faults and its level; it ends at the
 // first row at fault.
 pub fn pass_rows(words: &[u32], form: RecordForm, size: usize) -> Pass
-    requires { Formed words.now form × (size ≡ textWord words.now) }
+    requires { Formed words.now form × (size ≡ text_word words.now) }
     ensures { Passed words.now result }
 {
     let n = form.rows;

@@ -1,8 +1,10 @@
 // Refusal 3 of a record sheet: two children of one object that share a name. Contracts cite
 // `sheet`'s specs/Faults.antt.
+#![tactic(auto)]
+
 ghost use Rattle.std.specs.Prelude.{◌≡◌, ◌≤◌, ◌<◌, min, length};
 ghost use Rattle.laws.specs.Lowest.{lowest};
-ghost use Rattle.sheet.specs.Record.{rowsWord, textWord, docOf};
+ghost use Rattle.sheet.specs.Record.{rows_word, text_word, doc_of};
 ghost use Rattle.sheet.specs.Faults.{repeated};
 ghost use Rattle.sheet.specs.Accepted.{Laid, Lowered};
 
@@ -13,8 +15,8 @@ use sheet::record::{RecordForm, RecordRow, row_at, wide};
 // The lower of `least` and the lowest child of row o, if that is an object, whose name an earlier
 // one has.
 fn lowest_under(words: &[u32], text: &[u8], form: RecordForm, o: u32, least: u32) -> u32
-    requires { Laid words.now form × (length text.now ≡ textWord words.now) × (o < form.rows) × (least ≤ form.rows) }
-    ensures { Lowered (docOf words.now text.now) o least result }
+    requires { Laid words.now form × (length text.now ≡ text_word words.now) × (o < form.rows) × (least ≤ form.rows) }
+    ensures { Lowered (doc_of words.now text.now) o least result }
 {
     let owner = row_at(words, form, RecordRow(o));
     if !RowKind::of(owner.kind).is_object() {
@@ -47,8 +49,8 @@ fn lower(found: usize, least: u32) -> u32
 
 // The lowest row whose name an earlier sibling under the same object has, or the number of rows.
 pub fn first_repeated(words: &[u32], text: &[u8], form: RecordForm) -> u32
-    requires { Laid words.now form × (length text.now ≡ textWord words.now) }
-    ensures { result ≡ lowest (repeated (docOf words.now text.now)) (rowsWord words.now) }
+    requires { Laid words.now form × (length text.now ≡ text_word words.now) }
+    ensures { result ≡ lowest (repeated (doc_of words.now text.now)) (rows_word words.now) }
 {
     let n = form.rows;
     let mut least = n;

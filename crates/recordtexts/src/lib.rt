@@ -1,10 +1,12 @@
 // Refusal 13 of a record sheet: a row whose name or, of a string, whose bytes are not UTF-8.
 // Contracts cite `sheet`'s specs/Faults.antt.
+#![tactic(auto)]
+
 ghost use Rattle.std.specs.Prelude.{◌≡◌, ◌<◌, length};
 ghost use Rattle.laws.specs.Lowest.{lowest};
 ghost use Rattle.reach.specs.Reach.{Known, places};
-ghost use Rattle.sheet.specs.Record.{rowsWord, textWord, docOf};
-ghost use Rattle.sheet.specs.Faults.{notUtf8};
+ghost use Rattle.sheet.specs.Record.{rows_word, text_word, doc_of};
+ghost use Rattle.sheet.specs.Faults.{not_utf8};
 ghost use Rattle.sheet.specs.Accepted.{Laid};
 
 use reach::{BLOCKS, know, settles};
@@ -14,8 +16,8 @@ use text::Range;
 
 // Whether row j has a name or a string that is not UTF-8, by what is known of the text.
 fn not_utf8(words: &[u32], text: &[u8], form: RecordForm, memo: &[u32], whole: bool, j: u32) -> bool
-    requires { Laid words.now form × (length text.now ≡ textWord words.now) × Known text.now memo.now whole × (j < form.rows) }
-    ensures { result ≡ notUtf8 (docOf words.now text.now) j }
+    requires { Laid words.now form × (length text.now ≡ text_word words.now) × Known text.now memo.now whole × (j < form.rows) }
+    ensures { result ≡ not_utf8 (doc_of words.now text.now) j }
 {
     let row = row_at(words, form, RecordRow(j));
     let label = row.label;
@@ -34,8 +36,8 @@ fn not_utf8(words: &[u32], text: &[u8], form: RecordForm, memo: &[u32], whole: b
 
 // The lowest such row, or the number of rows.
 fn first_by(words: &[u32], text: &[u8], form: RecordForm, memo: &[u32], whole: bool) -> u32
-    requires { Laid words.now form × (length text.now ≡ textWord words.now) × Known text.now memo.now whole }
-    ensures { result ≡ lowest (notUtf8 (docOf words.now text.now)) (rowsWord words.now) }
+    requires { Laid words.now form × (length text.now ≡ text_word words.now) × Known text.now memo.now whole }
+    ensures { result ≡ lowest (not_utf8 (doc_of words.now text.now)) (rows_word words.now) }
 {
     let n = form.rows;
     let mut j = 0;
@@ -50,8 +52,8 @@ fn first_by(words: &[u32], text: &[u8], form: RecordForm, memo: &[u32], whole: b
 
 // The lowest row that names a text range that is not UTF-8, or the number of rows.
 pub fn first_not_utf8(words: &[u32], text: &[u8], form: RecordForm) -> u32
-    requires { Laid words.now form × (length text.now ≡ textWord words.now) × (length text.now < places) }
-    ensures { result ≡ lowest (notUtf8 (docOf words.now text.now)) (rowsWord words.now) }
+    requires { Laid words.now form × (length text.now ≡ text_word words.now) × (length text.now < places) }
+    ensures { result ≡ lowest (not_utf8 (doc_of words.now text.now)) (rows_word words.now) }
 {
     let mut memo = [0u32; BLOCKS];
     let whole = know(text, &mut memo);

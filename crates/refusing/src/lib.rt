@@ -1,12 +1,14 @@
 // Refusals 21 to 26 of a JSON text (`specs/Refusing.antt`, which contracts cite): from where the first
 // pass halts, whether the text is JSON, and if it is, the fault that starts first.
+#![tactic(auto)]
+
 ghost use Rattle.std.specs.Prelude.{◌≡◌, ◌/◌, ◌≤◌, length};
-ghost use Rattle.json.specs.Automaton.{start};
+ghost use Rattle.jsontext.specs.Automaton.{start};
 ghost use Rattle.follow.specs.Following.{Followed};
 ghost use Rattle.names.specs.Names.{Lying};
-ghost use Rattle.naming.proofs.Lying.{inThrees};
+ghost use Rattle.naming.proofs.Lying.{in_threes};
 ghost use Rattle.scan.specs.Scanning.{areas, Blank};
-ghost use Rattle.refusing.specs.Refusing.{Come, Ended, Endable, first_of, Lent, Told};
+ghost use Rattle.refusing.specs.Refusing.{Come, Ended, Endable, first_one_of, Lent, Told};
 
 use brackets::Open;
 use follow::{End, follow};
@@ -17,14 +19,14 @@ use survey::Watch;
 use watching::numbers::number_ends;
 
 // A fault's number, or 0 where there is none, and how many bytes are left from its start on.
-#[derive(Drop)]
+#[derive(Clone, Copy)]
 struct Amiss {
     number: u32,
     left: usize,
 }
 
 // A refusal's number, or 0 where there is none, and its place.
-#[derive(Drop)]
+#[derive(Clone, Copy)]
 pub struct Refusal {
     pub number: u32,
     pub place: u32,
@@ -70,8 +72,8 @@ fn last_watch(place: u8, depth: u32, watch: Watch) -> Watch
 // The first name that an earlier one repeats, of those that lie in three words each, or else the
 // fault that was watched.
 fn first_amiss(words: &[u32], names: &[u8], filled: usize, watch: Watch) -> Amiss
-    requires { (Lying words.now names.now (inThrees (filled / 3))) × (filled ≤ length words.now) }
-    ensures { result ≡ first_of words.now names.now (filled / 3) watch }
+    requires { (Lying words.now names.now (in_threes (filled / 3))) × (filled ≤ length words.now) }
+    ensures { result ≡ first_one_of words.now names.now (filled / 3) watch }
 {
     let count = filled / 3;
     let all = Names {

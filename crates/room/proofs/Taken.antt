@@ -10,22 +10,22 @@ use mathlib.Core.Path.{◌≡◌, refl, ap, ◌∙◌}
 use Prim.Native.Nat.{ℕ, ◌≤◌}
 use native.Mathlib.Omega.{arith}
 use Rattle.laws.proofs.Tests.{left, right}
-use Rattle.json.specs.Automaton.{Bracket, Place, at, Move, moves, pick, innermost, follow, step}
-use Rattle.json.proofs.Moves.{Fits, fits}
+use Rattle.jsontext.specs.Automaton.{Bracket, Place, at, Move, moves, pick, innermost, follow, step}
+use Rattle.jsontext.proofs.Moves.{Fits, fits}
 
 -- the test holds of every move
 unfoldable pub every : (Move → Bool) → List Move → Bool
 every q [] = true
 every q (m ∷ ms) = q m && every q ms
 
-of-fits : (q : Move → Bool) (ms : List Move) (b : ℕ) (m : Move) → every q ms ≡ true → Fits ms b (λ x. m ≡ x) → (q m ≡ true) × (m.low ≤ b)
+of_fits : (q : Move → Bool) (ms : List Move) (b : ℕ) (m : Move) → every q ms ≡ true → Fits ms b (λ x. m ≡ x) → (q m ≡ true) × (m.low ≤ b)
 unfolding every
-of-fits q [] b m e f = absurd f
-of-fits q (x ∷ ms) b m e (inl f) = rw f.2 (left (q x) (every q ms) e, f.0)
-of-fits q (x ∷ ms) b m e (inr f) = of-fits q ms b m (right (q x) (every q ms) e) f
+of_fits q [] b m e f = absurd f
+of_fits q (x ∷ ms) b m e (inl f) = rw f.2 (left (q x) (every q ms) e, f.0)
+of_fits q (x ∷ ms) b m e (inr f) = of_fits q ms b m (right (q x) (every q ms) e) f
 
-pub of-every : (q : Move → Bool) (ms : List Move) (b : ℕ) (m : Move) → every q ms ≡ true → pick ms b ≡ some m → (q m ≡ true) × (m.low ≤ b)
-of-every q ms b m e p = of-fits q ms b m e (fits (λ x. m ≡ x) ms b m p refl)
+pub of_every : (q : Move → Bool) (ms : List Move) (b : ℕ) (m : Move) → every q ms ≡ true → pick ms b ≡ some m → (q m ≡ true) × (m.low ≤ b)
+of_every q ms b m e p = of_fits q ms b m e (fits (λ x. m ≡ x) ms b m p refl)
 
 -- the move that was taken
 pub record Took (p : Place) (ks : List Bracket) (b : ℕ) (p' : Place) : Type 0 where
@@ -43,11 +43,11 @@ took p ks b p' ks' e = go (pick (moves p (innermost ks)) b) refl e
 
 module _ (p : Place) (ks : List Bracket) (b : ℕ) (p' : Place) (s : Took p ks b p') where
   pub next : (q : Place → Bool) → every (λ m. q m.place) (moves p (innermost ks)) ≡ true → q p' ≡ true
-  next q e = rw s.place_is at (of-every (λ m. q m.place) (moves p (innermost ks)) b s.move e s.picked).0
+  next q e = rw s.place_is at (of_every (λ m. q m.place) (moves p (innermost ks)) b s.move e s.picked).0
 
   -- where the byte is known
-  pub next-at : (c : ℕ) (m : Move) → pick (moves p (innermost ks)) c ≡ some m → b ≡ c → m.place ≡ p'
-  next-at c m e h =
+  pub next_at : (c : ℕ) (m : Move) → pick (moves p (innermost ks)) c ≡ some m → b ≡ c → m.place ≡ p'
+  next_at c m e h =
       let same : pick (moves p (innermost ks)) b ≡ pick (moves p (innermost ks)) c = ap (pick (moves p (innermost ks))) h in
       let f : pick (moves p (innermost ks)) b ≡ some s.move = s.picked in
       let g : m ≡ s.move = cc in

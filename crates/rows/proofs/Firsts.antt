@@ -2,7 +2,7 @@
 --     rows_none    of no rows, anything
 --     rows_all     of all rows, what holds of any
 --     rows_more    one row more
---     rows-so      what follows of each row
+--     rows_so      what follows of each row
 --     rows_both    fewer rows, of which more is known
 -- Assumes nothing.
 use Prim.Native.Nat.{ℕ, ◌+◌, ◌<◌}
@@ -20,8 +20,8 @@ module _ (So : ℕ → Type 0) (row n : ℕ) where
   pub rows_more : (k : ℕ) → FirstRows row n k So → k < n → So (row + k) → FirstRows row n (k + 1) So
   rows_more k firsts low here = record { within = omega arith; each = below_more (λ (i : ℕ). So (row + i)) k firsts.each here }
 
-  pub rows-so : {Then : ℕ → Type 0} {r : ℕ} → FirstRows row n r So → ((j : ℕ) → So j → Then j) → FirstRows row n r Then
-  rows-so firsts so = record { within = firsts.within; each = λ (k : ℕ) l. so (row + k) (firsts.each k l) }
+  pub rows_so : {Then : ℕ → Type 0} {r : ℕ} → FirstRows row n r So → ((j : ℕ) → So j → Then j) → FirstRows row n r Then
+  rows_so firsts so = record { within = firsts.within; each = λ (k : ℕ) l. so (row + k) (firsts.each k l) }
 
   pub rows_both : {Also Then : ℕ → Type 0} {left r : ℕ} → FirstRows row n left So → FirstRows row left r Also → ((j : ℕ) → So j → Also j → Then j) → FirstRows row n r Then
   rows_both {left} {r} firsts fewer both =

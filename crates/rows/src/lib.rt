@@ -5,18 +5,20 @@
 //
 // The contracts cite the tests of `meaning` (`specs/Tests.antt`), how clauses are read and tried
 // (`specs/Read.antt` of `clause`) and `specs/Firsts.antt`.
+#![tactic(auto)]
+
 ghost use Rattle.std.specs.Prelude.{true, List, ◌≡◌, ℕ, ◌+◌, ◌≤◌, ◌<◌, length};
 ghost use Rattle.std.specs.Int.Signed.{le_z};
 ghost use Rattle.decimal.specs.declared.Decimal.{Decimal};
 ghost use Rattle.decimal.specs.Value.{value, Plain};
-ghost use Rattle.sheet.specs.Record.{textWord, docOf};
+ghost use Rattle.sheet.specs.Record.{text_word, doc_of};
 ghost use Rattle.sheet.specs.Accepted.{Laid};
-ghost use Rattle.rulesheet.specs.Sheet.{schemaAt};
-ghost use Rattle.rulesheet.specs.Clauses.{clauseMeans, number, held};
+ghost use Rattle.rulesheet.specs.Sheet.{schema_at};
+ghost use Rattle.rulesheet.specs.Clauses.{clause_means, number, held};
 ghost use Rattle.areas.specs.Cells.{Unsettled};
 ghost use Rattle.meaning.specs.Tests.{number?, bytes?, given, typed, length_of, at_least, at_most};
 ghost use Rattle.looking.specs.Read.{RecordRead};
-ghost use Rattle.clause.specs.Read.{RulesRead, clauseIn, Tries, PassedFirst};
+ghost use Rattle.clause.specs.Read.{RulesRead, clause_in, Tries, PassedFirst};
 ghost use Rattle.rows.specs.Firsts.{FirstRows};
 
 use decimal::Decimal;
@@ -33,7 +35,7 @@ use testing::types::plainly_typed;
 // How many of the first n rows from `row` on have one of the mask's types.
 fn typed_rows(record: &[u32], form: RecordForm, row: RecordRow, n: u32, mask: u32) -> u32
     requires { Laid «record».now form × (row.0 + n ≤ form.rows) }
-    ensures { FirstRows row.0 n result (λ j. (ts : List ℕ) → typed mask ((docOf «record».now ts).value j) ≡ true) }
+    ensures { FirstRows row.0 n result (λ j. (ts : List ℕ) → typed mask ((doc_of «record».now ts).value j) ≡ true) }
 {
     let mut k = 0;
     while k < n {
@@ -49,7 +51,7 @@ fn typed_rows(record: &[u32], form: RecordForm, row: RecordRow, n: u32, mask: u3
 // How many of the first n rows from `row` on are at least the limit, those that are numbers.
 fn minimum_rows(record: &[u32], form: RecordForm, row: RecordRow, n: u32, limit: Decimal) -> u32
     requires { Laid «record».now form × (row.0 + n ≤ form.rows) × Plain limit }
-    ensures { FirstRows row.0 n result (λ j. (ts : List ℕ) → given (number? ((docOf «record».now ts).value j)) (λ y. le_z (value limit) y) ≡ true) }
+    ensures { FirstRows row.0 n result (λ j. (ts : List ℕ) → given (number? ((doc_of «record».now ts).value j)) (λ y. le_z (value limit) y) ≡ true) }
 {
     let mut k = 0;
     while k < n {
@@ -64,7 +66,7 @@ fn minimum_rows(record: &[u32], form: RecordForm, row: RecordRow, n: u32, limit:
 // How many of the first n rows from `row` on are at most the limit, those that are numbers.
 fn maximum_rows(record: &[u32], form: RecordForm, row: RecordRow, n: u32, limit: Decimal) -> u32
     requires { Laid «record».now form × (row.0 + n ≤ form.rows) × Plain limit }
-    ensures { FirstRows row.0 n result (λ j. (ts : List ℕ) → given (number? ((docOf «record».now ts).value j)) (λ y. le_z y (value limit)) ≡ true) }
+    ensures { FirstRows row.0 n result (λ j. (ts : List ℕ) → given (number? ((doc_of «record».now ts).value j)) (λ y. le_z y (value limit)) ≡ true) }
 {
     let mut k = 0;
     while k < n {
@@ -87,7 +89,7 @@ fn long_rows(
     least: u32,
 ) -> u32
     requires { RecordRead «record».now text.now form × (row.0 + n ≤ form.rows) }
-    ensures { FirstRows row.0 n result (λ j. at_least length_of least (bytes? ((docOf «record».now text.now).value j)) ≡ true) }
+    ensures { FirstRows row.0 n result (λ j. at_least length_of least (bytes? ((doc_of «record».now text.now).value j)) ≡ true) }
 {
     if least > FEW {
         return 0;
@@ -105,7 +107,7 @@ fn long_rows(
 // How many of the first n rows from `row` on have at most `most` characters, those that are strings.
 fn short_rows(record: &[u32], form: RecordForm, row: RecordRow, n: u32, most: u32) -> u32
     requires { Laid «record».now form × (row.0 + n ≤ form.rows) }
-    ensures { FirstRows row.0 n result (λ j. (ts : List ℕ) → length ts ≡ textWord «record».now → at_most length_of most (bytes? ((docOf «record».now ts).value j)) ≡ true) }
+    ensures { FirstRows row.0 n result (λ j. (ts : List ℕ) → length ts ≡ text_word «record».now → at_most length_of most (bytes? ((doc_of «record».now ts).value j)) ≡ true) }
 {
     let mut k = 0;
     while k < n {
@@ -128,7 +130,7 @@ fn rows_pass(
 ) -> u32
     requires record_read { RecordRead «record».now text.now form × (row.0 + n ≤ form.rows) }
     requires plain { (limit : Decimal) → held clause ≡ number limit → Plain limit }
-    ensures { FirstRows row.0 n result (λ j. (rs us : List ℕ) → Tries (docOf «record».now text.now) j (clauseMeans rs us clause) true) }
+    ensures { FirstRows row.0 n result (λ j. (rs us : List ℕ) → Tries (doc_of «record».now text.now) j (clause_means rs us clause) true) }
 {
     match clause {
         Clause::Types(mask) => typed_rows(record, form, row, n, mask),
@@ -155,9 +157,9 @@ pub fn rows_passed<'a>(
     many: u32,
 ) -> u32
     requires record_read { RecordRead «record».now text.now form × (p.row.0 + n ≤ form.rows) }
-    requires rules_read { RulesRead rules.now rule_text.now rule_form × (p.rule.0 < rule_form.m) × (many ≡ (schemaAt rules.now p.rule.0).count) }
+    requires rules_read { RulesRead rules.now rule_text.now rule_form × (p.rule.0 < rule_form.m) × (many ≡ (schema_at rules.now p.rule.0).count) }
     requires by_index { (k : ℕ) → k < n → Unsettled rule_form.m (record { row = p.row.0 + k; rule = p.rule.0 }) cells.now }
-    ensures { FirstRows p.row.0 n result (λ j. PassedFirst (docOf «record».now text.now) j (clauseIn rules.now rule_text.now p.rule.0) many many) }
+    ensures { FirstRows p.row.0 n result (λ j. PassedFirst (doc_of «record».now text.now) j (clause_in rules.now rule_text.now p.rule.0) many many) }
 {
     let first = schema_at(rules, rule_form, p.rule).first;
     let mut left = n;

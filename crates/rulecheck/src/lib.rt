@@ -3,12 +3,14 @@
 // that tells most sheets that are in order (`rulepass`).
 //
 // Its contract cites `rules`' specs/Check.antt.
+#![tactic(auto)]
+
 ghost use Rattle.std.specs.Prelude.{true, ◌≡◌, ◌≤◌};
-ghost use Rattle.sheet.specs.Refusals.{outcomeOf};
-ghost use Rattle.rulesheet.specs.Sheet.{schemasWord, next_of};
-ghost use Rattle.unguarded.specs.Places.{chainPlace};
+ghost use Rattle.sheet.specs.Refusals.{outcome_of};
+ghost use Rattle.rulesheet.specs.Sheet.{schemas_word, next_of};
+ghost use Rattle.unguarded.specs.Places.{chain_place};
 ghost use Rattle.rulepass.specs.Pass.{Laid};
-ghost use Rattle.rules.specs.Check.{rulesOutcome};
+ghost use Rattle.rules.specs.Check.{rules_outcome};
 ghost use Rattle.rules.specs.Accepted.{TrailerFine};
 
 use reach::is_ascii;
@@ -20,8 +22,8 @@ use sheet::refusal::{Checked, Refusal};
 // are known not to apply.
 fn check_rest(words: &[u32], text: &[u8], form: RuleForm, short: bool) -> Checked
     requires trailer_fine { TrailerFine words.now text.now form × Laid words.now text.now form }
-    requires words_bound { short ≡ true → schemasWord words.now ≤ chainPlace (schemasWord words.now) (next_of words.now) }
-    ensures { outcomeOf result ≡ rulesOutcome words.now text.now }
+    requires words_bound { short ≡ true → schemas_word words.now ≤ chain_place (schemas_word words.now) (next_of words.now) }
+    ensures { outcome_of result ≡ rules_outcome words.now text.now }
 {
     let m = form.m;
     let c = form.c;
@@ -47,7 +49,7 @@ fn check_rest(words: &[u32], text: &[u8], form: RuleForm, short: bool) -> Checke
 // The lines after 5, one after the other, each with its place.
 fn check_lines(words: &[u32], text: &[u8], form: RuleForm) -> Checked
     requires { TrailerFine words.now text.now form }
-    ensures { outcomeOf result ≡ rulesOutcome words.now text.now }
+    ensures { outcome_of result ≡ rules_outcome words.now text.now }
 {
     let m = form.m;
     let c = form.c;
@@ -75,7 +77,7 @@ fn check_lines(words: &[u32], text: &[u8], form: RuleForm) -> Checked
 // refused with the first refusal of 5, 6, 7, 13, 8 and 9 that applies and its place. Most sheets are
 // in order and their text is ASCII, and one pass tells them; a place is sought only where it does not.
 pub fn check_rules(words: &[u32], text: &[u8]) -> Checked
-    ensures { outcomeOf result ≡ rulesOutcome words.now text.now }
+    ensures { outcome_of result ≡ rules_outcome words.now text.now }
 {
     if !rulelayout::trailer_ok(words, text.len()) {
         return Checked::Refused(Refusal::RuleTrailer, 0);

@@ -1,10 +1,10 @@
 -- Passing the clauses of a schema.
---     list-fields                  what the fields ask of a list
---     list-passed, other-passed    what passing one clause finds, by the row and the shape that were read
---     code-rises                   a code rises, by the code before it
+--     list_fields                  what the fields ask of a list
+--     list_passed, other_passed    what passing one clause finds, by the row and the shape that were read
+--     code_rises                   a code rises, by the code before it
 --     Going                        how far a pass has come
---     going-begins, going_on       it begins, and goes on past a clause that is not at fault
---     going-stops, going-ends      what it gives at one that is, and at the end
+--     going_begins, going_on       it begins, and goes on past a clause that is not at fault
+--     going_stops, going_ends      what it gives at one that is, and at the end
 -- Assumes nothing.
 use mathlib.Core.Bool.{Bool, true, false, cond, not, ◌&&◌, ◌||◌, and-true, and-false}
 use mathlib.Core.List.{List}
@@ -14,8 +14,8 @@ use Prim.Native.Nat.{ℕ, ◌+◌, ◌-◌, ◌≤◌, ◌<◌}
 use native.Mathlib.Omega.{arith}
 use lib.Dec.{eqb, leb, ltb}
 use borrow.Author.Tests.{eq-eqb, ne_eqb}
-use Rattle.laws.specs.Lowest.{lowestFrom}
-use Rattle.laws.proofs.Tests.{le-or-lt}
+use Rattle.laws.specs.Lowest.{lowest_from}
+use Rattle.laws.proofs.Tests.{le_or_lt}
 use Rattle.laws.proofs.Searches.{left, begun, found, passed as on, ended}
 use Rattle.rulesheet.specs.declared.code.Fields.{Fields}
 use Rattle.rulesheet.specs.declared.code.Fields.TheVariants.{Unknown, Bare, Types, Number, Positive, Limit, Schema, Values, Names, Schemas, Members, Branches, Counted}
@@ -26,48 +26,48 @@ use Rattle.rulesheet.specs.declared.form.RuleForm.{RuleForm}
 use Rattle.ruleclauses.specs.declared.Passed.{Passed}
 use Rattle.ruleclauses.specs.declared.Passed.TheVariants.{Fault, Next}
 use Rattle.rulesheet.specs.Codes.{shape_of}
-use Rattle.rulesheet.specs.Sheet.{schemasWord, schemaAt, clauseAt}
-use Rattle.rulesheet.specs.Faults.{isList, fieldsOk, fields_at, rises, listStart, listOk, clauseFineIn, clauseFault}
+use Rattle.rulesheet.specs.Sheet.{schemas_word, schema_at, clause_at}
+use Rattle.rulesheet.specs.Faults.{is_list, fields_ok, fields_at, rises, list_start, list_ok, clause_fine_in, clause_fault}
 use Rattle.rulesheet.specs.Read.{RulesFormed, SchemasLaid}
 use Rattle.ruleclauses.specs.Passes.{passed, passed_by, ClausesPassed}
-use Rattle.rulesheet.proofs.Trailers.{form-m, form-c, form-e}
-use Rattle.rulesheet.proofs.Taking.{schema-within, clause-asked, next-list}
+use Rattle.rulesheet.proofs.Trailers.{form_m, form_c, form_e}
+use Rattle.rulesheet.proofs.Taking.{schema_within, clause_asked, next_list}
 
 -- ---- one clause
 
 -- of a list the fields ask nothing of first and count
-pub list-fields : (fields : Fields) (m first count : ℕ) → isList fields ≡ true → fieldsOk fields m first count ≡ true
-list-fields Unknown m first count l = cc
-list-fields Bare m first count l = cc
-list-fields Types m first count l = cc
-list-fields Number m first count l = cc
-list-fields Positive m first count l = cc
-list-fields Limit m first count l = cc
-list-fields Schema m first count l = cc
-list-fields Values m first count l = refl
-list-fields Names m first count l = refl
-list-fields Schemas m first count l = refl
-list-fields Members m first count l = refl
-list-fields Branches m first count l = refl
-list-fields Counted m first count l = refl
+pub list_fields : (fields : Fields) (m first count : ℕ) → is_list fields ≡ true → fields_ok fields m first count ≡ true
+list_fields Unknown m first count l = cc
+list_fields Bare m first count l = cc
+list_fields Types m first count l = cc
+list_fields Number m first count l = cc
+list_fields Positive m first count l = cc
+list_fields Limit m first count l = cc
+list_fields Schema m first count l = cc
+list_fields Values m first count l = refl
+list_fields Names m first count l = refl
+list_fields Schemas m first count l = refl
+list_fields Members m first count l = refl
+list_fields Branches m first count l = refl
+list_fields Counted m first count l = refl
 
 module _ (ws : List ℕ) (form : RuleForm) (formed : RulesFormed ws form) (start : ℕ) (clause : ClauseRow) (shape : Shape) (known : shape ≡ shape_of clause.code) where
-  pub list-passed : {r : Bool} → isList shape.fields ≡ true
+  pub list_passed : {r : Bool} → is_list shape.fields ≡ true
       → (eqb clause.first start && (leb (clause.first + clause.count) form.e && (leb shape.least clause.count && leb clause.count shape.most))) ≡ r
       → passed r (clause.first + clause.count) ≡ passed_by ws start clause
-  unfolding listOk
-  list-passed l e =
-      sym (rw (← known, list-fields shape.fields (schemasWord ws) clause.first clause.count l, l, ← form-e ws form formed, e))
+  unfolding list_ok
+  list_passed l e =
+      sym (rw (← known, list_fields shape.fields (schemas_word ws) clause.first clause.count l, l, ← form_e ws form formed, e))
 
-  pub other-passed : {t r : Bool} → isList shape.fields ≡ false → t ≡ fieldsOk shape.fields form.m clause.first clause.count → t ≡ r
+  pub other_passed : {t r : Bool} → is_list shape.fields ≡ false → t ≡ fields_ok shape.fields form.m clause.first clause.count → t ≡ r
       → passed r start ≡ passed_by ws start clause
-  unfolding listOk
-  other-passed {t} {r} l e f = sym (rw (← known, l, ← form-m ws form formed, ← e, f, and-true r))
+  unfolding list_ok
+  other_passed {t} {r} l e f = sym (rw (← known, l, ← form_m ws form formed, ← e, f, and-true r))
 
 -- its two tests, and where the next list starts
 module _ (fit listed : Bool) (n : ℕ) where
-  one-fails : (risen : Bool) → passed (fit && listed) n ≡ Fault → (fit && (risen && listed)) ≡ false
-  one-fails = cases fit listed
+  one_fails : (risen : Bool) → passed (fit && listed) n ≡ Fault → (fit && (risen && listed)) ≡ false
+  one_fails = cases fit listed
     where
       cases : (a c b : Bool) → passed (a && c) n ≡ Fault → (a && (b && c)) ≡ false
       cases true true b e = cc
@@ -84,28 +84,28 @@ module _ (fit listed : Bool) (n : ℕ) where
 -- what a clause is, by the rise of its code and what passing it finds
 module _ (ws : List ℕ) (first start k : ℕ) where
   abbrev fit : Bool
-  fit = fieldsOk (fields_at ws k) (schemasWord ws) (clauseAt ws k).first (clauseAt ws k).count
+  fit = fields_ok (fields_at ws k) (schemas_word ws) (clause_at ws k).first (clause_at ws k).count
 
   abbrev listed : Bool
-  listed = listOk ws start (clauseAt ws k)
+  listed = list_ok ws start (clause_at ws k)
 
   abbrev after : ℕ
-  after = cond (isList (fields_at ws k)) ((clauseAt ws k).first + (clauseAt ws k).count) start
+  after = cond (is_list (fields_at ws k)) ((clause_at ws k).first + (clause_at ws k).count) start
 
-  fallen : rises ws first k ≡ false → clauseFineIn ws first start k ≡ false
-  unfolding clauseFineIn
+  fallen : rises ws first k ≡ false → clause_fine_in ws first start k ≡ false
+  unfolding clause_fine_in
   fallen e = rw e (and-false fit)
 
-  faulty : passed_by ws start (clauseAt ws k) ≡ Fault → clauseFineIn ws first start k ≡ false
-  unfolding clauseFineIn
-  faulty e = one-fails fit listed after (rises ws first k) e
+  faulty : passed_by ws start (clause_at ws k) ≡ Fault → clause_fine_in ws first start k ≡ false
+  unfolding clause_fine_in
+  faulty e = one_fails fit listed after (rises ws first k) e
 
-  fine : {next : ℕ} → rises ws first k ≡ true → passed_by ws start (clauseAt ws k) ≡ Next next → clauseFineIn ws first start k ≡ true
-  unfolding clauseFineIn
+  fine : {next : ℕ} → rises ws first k ≡ true → passed_by ws start (clause_at ws k) ≡ Next next → clause_fine_in ws first start k ≡ true
+  unfolding clause_fine_in
   fine r e = rw r (both_hold fit listed after e).0
 
-  starts-next : {next : ℕ} → start ≡ listStart ws k → passed_by ws start (clauseAt ws k) ≡ Next next → next ≡ listStart ws (k + 1)
-  starts-next {next} at e = next-list ws k start next at (both_hold fit listed after e).1
+  starts_next : {next : ℕ} → start ≡ list_start ws k → passed_by ws start (clause_at ws k) ≡ Next next → next ≡ list_start ws (k + 1)
+  starts_next {next} at e = next_list ws k start next at (both_hold fit listed after e).1
 
 -- ---- the clauses of a schema
 
@@ -113,58 +113,58 @@ module _ (ws : List ℕ) (first start k : ℕ) where
 pub record Going (ws : List ℕ) (first end start last k : ℕ) : Type 0 where
   pub low : first ≤ k
   pub high : k ≤ end
-  pub rest : lowestFrom (clauseFault ws) (end - first) first ≡ left (clauseFault ws) end k
-  pub at-start : start ≡ listStart ws k
-  pub before : (k ≡ first → ⊥) → last ≡ (clauseAt ws (k - 1)).code
+  pub rest : lowest_from (clause_fault ws) (end - first) first ≡ left (clause_fault ws) end k
+  pub at_start : start ≡ list_start ws k
+  pub before : (k ≡ first → ⊥) → last ≡ (clause_at ws (k - 1)).code
 
 -- by the code of the clause before, if the schema has one
-pub code-rises : (ws : List ℕ) (first last k : ℕ) → first ≤ k → ((k ≡ first → ⊥) → last ≡ (clauseAt ws (k - 1)).code)
-    → (eqb k first || ltb last (clauseAt ws k).code) ≡ rises ws first k
+pub code_rises : (ws : List ℕ) (first last k : ℕ) → first ≤ k → ((k ≡ first → ⊥) → last ≡ (clause_at ws (k - 1)).code)
+    → (eqb k first || ltb last (clause_at ws k).code) ≡ rises ws first k
 unfolding rises
-code-rises ws first last k low before =
+code_rises ws first last k low before =
     ⊎_elim
     (λ (l : k ≤ first). rw (eq-eqb k first (omega arith)))
     (λ (l : first < k). rw (ne_eqb k first (λ e. omega arith), before (λ e. omega arith)))
-    (le-or-lt k first)
+    (le_or_lt k first)
 
-module _ (ws : List ℕ) (form : RuleForm) (laid : SchemasLaid ws form) (s : ℕ) (inside : s < form.m) (row : SchemaRow) (read : row ≡ schemaAt ws s) where
+module _ (ws : List ℕ) (form : RuleForm) (laid : SchemasLaid ws form) (s : ℕ) (inside : s < form.m) (row : SchemaRow) (read : row ≡ schema_at ws s) where
   abbrev Gone : ℕ → ℕ → ℕ → Type 0
   Gone = Going ws row.first (row.first + row.count)
 
   -- the clauses end within those of the sheet
-  pub ends-inside : row.first + row.count ≤ form.c
-  ends-inside =
-      omega (arith, schema-within ws form laid s inside, ap (λ (x : SchemaRow). x.first) read, ap (λ (x : SchemaRow). x.count) read, form-c ws form laid.formed)
+  pub ends_inside : row.first + row.count ≤ form.c
+  ends_inside =
+      omega (arith, schema_within ws form laid s inside, ap (λ (x : SchemaRow). x.first) read, ap (λ (x : SchemaRow). x.count) read, form_c ws form laid.formed)
 
-  pub going-begins : {from : ℕ} (last : ℕ) → from ≡ listStart ws (schemaAt ws s).first → Gone from last row.first
-  going-begins last e =
-      record { low = omega arith; high = omega arith; rest = refl; at-start = e ∙ rw read; before = λ n. absurd (n refl) }
+  pub going_begins : {from : ℕ} (last : ℕ) → from ≡ list_start ws (schema_at ws s).first → Gone from last row.first
+  going_begins last e =
+      record { low = omega arith; high = omega arith; rest = refl; at_start = e ∙ rw read; before = λ n. absurd (n refl) }
 
   -- at clause k, whose row was read, with what passing it found
-  module _ {start last k : ℕ} (g : Gone start last k) (more : k < row.first + row.count) (clause : ClauseRow) (here : clause ≡ clauseAt ws k) where
-    asked : {r : Bool} → clauseFineIn ws row.first start k ≡ r → clauseFault ws k ≡ not r
-    asked {r} e = ap not (clause-asked ws form laid s k start row r inside read g.low more g.at-start (sym e))
+  module _ {start last k : ℕ} (g : Gone start last k) (more : k < row.first + row.count) (clause : ClauseRow) (here : clause ≡ clause_at ws k) where
+    asked : {r : Bool} → clause_fine_in ws row.first start k ≡ r → clause_fault ws k ≡ not r
+    asked {r} e = ap not (clause_asked ws form laid s k start row r inside read g.low more g.at_start (sym e))
 
-    stopped : clauseFineIn ws row.first start k ≡ false → ClausesPassed ws s (record { fault = k; start = start })
+    stopped : clause_fine_in ws row.first start k ≡ false → ClausesPassed ws s (record { fault = k; start = start })
     stopped e =
         record {
-          fault-is =
+          fault_is =
               rw (← read)
-              (sym (begun (clauseFault ws) row.count row.first ∙ g.rest ∙ found (clauseFault ws) (row.first + row.count) k more (asked e)));
+              (sym (begun (clause_fault ws) row.count row.first ∙ g.rest ∙ found (clause_fault ws) (row.first + row.count) k more (asked e)));
           start_is = λ h. absurd (omega (arith, h, ap (λ (x : SchemaRow). x.first) read, ap (λ (x : SchemaRow). x.count) read));
         }
 
     risen : (eqb k row.first || ltb last clause.code) ≡ rises ws row.first k
-    risen = rw here (code-rises ws row.first last k g.low g.before)
+    risen = rw here (code_rises ws row.first last k g.low g.before)
 
-    passing : {r p : Passed} → r ≡ passed_by ws start clause → r ≡ p → passed_by ws start (clauseAt ws k) ≡ p
+    passing : {r p : Passed} → r ≡ passed_by ws start clause → r ≡ p → passed_by ws start (clause_at ws k) ≡ p
     passing e f = rw (← here, ← e) f
 
-    pub going-falls : (eqb k row.first || ltb last clause.code) ≡ false → ClausesPassed ws s (record { fault = k; start = start })
-    going-falls e = stopped (fallen ws row.first start k (sym risen ∙ e))
+    pub going_falls : (eqb k row.first || ltb last clause.code) ≡ false → ClausesPassed ws s (record { fault = k; start = start })
+    going_falls e = stopped (fallen ws row.first start k (sym risen ∙ e))
 
-    pub going-stops : {r : Passed} → r ≡ passed_by ws start clause → r ≡ Fault → ClausesPassed ws s (record { fault = k; start = start })
-    going-stops e f = stopped (faulty ws row.first start k (passing e f))
+    pub going_stops : {r : Passed} → r ≡ passed_by ws start clause → r ≡ Fault → ClausesPassed ws s (record { fault = k; start = start })
+    going_stops e f = stopped (faulty ws row.first start k (passing e f))
 
     pub going_on : {r : Passed} {next : ℕ} → (eqb k row.first || ltb last clause.code) ≡ true → r ≡ passed_by ws start clause → r ≡ Next next
         → Gone next clause.code (k + 1)
@@ -172,15 +172,15 @@ module _ (ws : List ℕ) (form : RuleForm) (laid : SchemasLaid ws form) (s : ℕ
         record {
           low = omega (arith, g.low);
           high = omega arith;
-          rest = g.rest ∙ on (clauseFault ws) (row.first + row.count) k more (asked (fine ws row.first start k (sym risen ∙ t) (passing e f)));
-          at-start = starts-next ws row.first start k g.at-start (passing e f);
-          before = λ n. ap (λ (x : ClauseRow). x.code) here ∙ ap (λ (i : ℕ). (clauseAt ws i).code) (omega arith);
+          rest = g.rest ∙ on (clause_fault ws) (row.first + row.count) k more (asked (fine ws row.first start k (sym risen ∙ t) (passing e f)));
+          at_start = starts_next ws row.first start k g.at_start (passing e f);
+          before = λ n. ap (λ (x : ClauseRow). x.code) here ∙ ap (λ (i : ℕ). (clause_at ws i).code) (omega arith);
         }
 
-  pub going-ends : {start last k : ℕ} → Gone start last k → row.first + row.count ≤ k → ClausesPassed ws s (record { fault = k; start = start })
-  going-ends {start} {last} {k} g past =
+  pub going_ends : {start last k : ℕ} → Gone start last k → row.first + row.count ≤ k → ClausesPassed ws s (record { fault = k; start = start })
+  going_ends {start} {last} {k} g past =
       record {
-        fault-is =
-            rw (← read) (sym (begun (clauseFault ws) row.count row.first ∙ g.rest ∙ ended (clauseFault ws) (row.first + row.count) k past));
-        start_is = λ h. g.at-start ∙ ap (listStart ws) (omega (arith, g.high, ap (λ (x : SchemaRow). x.first) read, ap (λ (x : SchemaRow). x.count) read));
+        fault_is =
+            rw (← read) (sym (begun (clause_fault ws) row.count row.first ∙ g.rest ∙ ended (clause_fault ws) (row.first + row.count) k past));
+        start_is = λ h. g.at_start ∙ ap (list_start ws) (omega (arith, g.high, ap (λ (x : SchemaRow). x.first) read, ap (λ (x : SchemaRow). x.count) read));
       }

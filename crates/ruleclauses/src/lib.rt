@@ -1,10 +1,12 @@
 // Refusal 6 of a rule sheet whose schemas are in order: their clauses, each passed once.
 //
 // Contracts cite `rulesheet`'s `Faults` and `Read`, and `specs/Passes.antt`.
+#![tactic(auto)]
+
 ghost use Rattle.std.specs.Prelude.{◌≡◌, ◌<◌};
 ghost use Rattle.laws.specs.Lowest.{lowest};
-ghost use Rattle.rulesheet.specs.Sheet.{clausesWord, schemaAt};
-ghost use Rattle.rulesheet.specs.Faults.{positiveOk, fieldsOk, listStart, clauseFault};
+ghost use Rattle.rulesheet.specs.Sheet.{clauses_word, schema_at};
+ghost use Rattle.rulesheet.specs.Faults.{positive_ok, fields_ok, list_start, clause_fault};
 ghost use Rattle.rulesheet.specs.Read.{RulesFormed, SchemasLaid};
 ghost use Rattle.ruleclauses.specs.Passes.{passed_by, ClausesPassed};
 
@@ -17,14 +19,14 @@ use sheet::record::{RuleRow, wide};
 
 // What a pass over a schema's clauses finds: the lowest at fault, or where they end, and where the
 // next list starts.
-#[derive(Drop)]
+#[derive(Clone, Copy)]
 pub struct ClausePass {
     pub fault: u32,
     pub start: usize,
 }
 
 // What passing one clause finds: that it is at fault, or where the next list starts.
-#[derive(Drop)]
+#[derive(Clone, Copy)]
 pub enum Passed {
     Fault,
     Next(usize),
@@ -32,7 +34,7 @@ pub enum Passed {
 
 // Whether first and count are what these fields ask, with m schemas.
 pub fn fields_ok(fields: Fields, m: u32, first: u32, count: u32) -> bool
-    ensures { result ≡ fieldsOk fields m first count }
+    ensures { result ≡ fields_ok fields m first count }
 {
     match fields {
         Fields::Unknown => false,
@@ -53,7 +55,7 @@ pub fn fields_ok(fields: Fields, m: u32, first: u32, count: u32) -> bool
 
 // Whether the two words are a number above 0, within its bounds.
 fn positive_ok(first: u32, count: u32) -> bool
-    ensures { result ≡ positiveOk first count }
+    ensures { result ≡ positive_ok first count }
 {
     (1 <= first) & ((first as u64 <= RowKind::NUMBER_MAX) & (count <= Decimal::SCALE_MAX))
 }
@@ -85,7 +87,7 @@ fn pass_clause(words: &[u32], form: RuleForm, start: usize, clause: ClauseRow) -
 
 // The clauses of a schema, each read once; the pass ends at the first at fault.
 fn pass_clauses(words: &[u32], form: RuleForm, schema: RuleRow, from: usize) -> ClausePass
-    requires { SchemasLaid words.now form × (schema.0 < form.m) × (from ≡ listStart words.now (schemaAt words.now schema.0).first) }
+    requires { SchemasLaid words.now form × (schema.0 < form.m) × (from ≡ list_start words.now (schema_at words.now schema.0).first) }
     ensures { ClausesPassed words.now schema.0 result }
 {
     let row = schema_at(words, form, schema);
@@ -124,7 +126,7 @@ fn pass_clauses(words: &[u32], form: RuleForm, schema: RuleRow, from: usize) -> 
 // by none.
 pub fn first_bad_clause(words: &[u32], form: RuleForm) -> u32
     requires { SchemasLaid words.now form }
-    ensures { result ≡ lowest (clauseFault words.now) (clausesWord words.now) }
+    ensures { result ≡ lowest (clause_fault words.now) (clauses_word words.now) }
 {
     let m = form.m;
     let mut start: usize = 0;

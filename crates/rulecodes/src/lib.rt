@@ -2,9 +2,11 @@
 // of clauses, `rulereader` and `few`.
 //
 // Its contracts cite `rulesheet`'s `Codes`, which has 01's table.
+#![tactic(auto)]
+
 ghost use Rattle.std.specs.Prelude.{◌≡◌, ◌≤◌, ◌<◌};
 ghost use Rattle.rulesheet.specs.declared.code.Fields.TheVariants.{Unknown};
-ghost use Rattle.rulesheet.specs.Codes.{guardedShape, inPlaceShape, exactShape, shape_of};
+ghost use Rattle.rulesheet.specs.Codes.{guarded_shape, in_place_shape, exact_shape, shape_of};
 
 use rulesheet::code::{Fields, Shape};
 
@@ -13,7 +15,7 @@ const NO_MOST: u32 = 4_294_967_295;
 
 // The shape of one of the codes that few sheets have, or of none.
 fn seldom(code: u32) -> Shape
-    requires { (code ≡ 36 → ⊥) → (code ≡ 37 → ⊥) → (code ≡ 45 → ⊥) → shape_of code ≡ guardedShape Unknown 0 }
+    requires { (code ≡ 36 → ⊥) → (code ≡ 37 → ⊥) → (code ≡ 45 → ⊥) → shape_of code ≡ guarded_shape Unknown 0 }
     ensures { result ≡ shape_of code }
 {
     if code == 36 {
@@ -120,7 +122,7 @@ pub fn shape_of(code: u32) -> Shape
 }
 
 fn guarded(fields: Fields, least: u32) -> Shape
-    ensures { result ≡ guardedShape fields least }
+    ensures { result ≡ guarded_shape fields least }
 {
     Shape {
         fields: fields,
@@ -131,7 +133,7 @@ fn guarded(fields: Fields, least: u32) -> Shape
 }
 
 fn in_place(fields: Fields, least: u32) -> Shape
-    ensures { result ≡ inPlaceShape fields least }
+    ensures { result ≡ in_place_shape fields least }
 {
     Shape {
         fields: fields,
@@ -142,7 +144,7 @@ fn in_place(fields: Fields, least: u32) -> Shape
 }
 
 fn exactly(fields: Fields, many: u32, unguarded: bool) -> Shape
-    ensures { result ≡ exactShape fields many unguarded }
+    ensures { result ≡ exact_shape fields many unguarded }
 {
     Shape {
         fields: fields,

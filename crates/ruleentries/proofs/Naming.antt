@@ -1,11 +1,11 @@
 -- The names of a list clause's entries, as names that lie among the words.
---     lie-end, lie-lying       names of entries one after the other lie as the search for a repeated name asks
---     lie-repeats              what it finds, by the entries
---     names-end, names-lie     the names of a clause do
+--     lie_end, lie_lying       names of entries one after the other lie as the search for a repeated name asks
+--     lie_repeats              what it finds, by the entries
+--     names_end, names_lie     the names of a clause do
 --     found_within             what that search gives is small
---     found-named              it is the lowest repeated entry of the clause
---     unnamed-on               a clause whose entries have no names is passed
---     named-list               names are had by entries only
+--     found_named              it is the lowest repeated entry of the clause
+--     unnamed_on               a clause whose entries have no names is passed
+--     named_list               names are had by entries only
 -- Assumes nothing.
 use mathlib.Core.Bool.{true, false, ◌&&◌}
 use mathlib.Core.List.{List}
@@ -15,146 +15,146 @@ use Prim.Native.Nat.{ℕ, ◌+◌, ◌-◌, ◌*◌, ◌≤◌, ◌<◌}
 use native.Mathlib.Nat.{add-zero}
 use native.Mathlib.Omega.{arith}
 use lib.ListN.{length}
-use Rattle.laws.specs.Lowest.{lowest, lowestFrom}
+use Rattle.laws.specs.Lowest.{lowest, lowest_from}
 use Rattle.laws.proofs.Tests.{decide}
-use Rattle.laws.proofs.Searches.{at-most-end, alike, shifted, none_found}
+use Rattle.laws.proofs.Searches.{at_most_end, alike, shifted, none_found}
 use Rattle.text.specs.Part.{fits, part}
 use Rattle.names.specs.declared.Names.{Names}
-use Rattle.names.specs.Names.{rangeAt, name_at, repeatsBy, repeatsAt, Lying}
-use Rattle.names.proofs.Repeats.{repeats-agree}
+use Rattle.names.specs.Names.{range_at, name_at, repeats_by, repeats_at, Lying}
+use Rattle.names.proofs.Repeats.{repeats_agree}
 use Rattle.rulesheet.specs.declared.code.Fields.{Fields}
 use Rattle.rulesheet.specs.declared.code.Fields.TheVariants.{Unknown, Bare, Types, Number, Positive, Limit, Schema, Values, Names as NamesOf, Schemas, Members, Branches, Counted}
 use Rattle.rulesheet.specs.declared.form.RuleForm.{RuleForm}
-use Rattle.rulesheet.specs.Codes.{entryRange, entryName}
-use Rattle.rulesheet.specs.Sheet.{entry-words, schemasWord, clausesWord, entriesWord, textWord, form_of, clauseAt, entry_at}
-use Rattle.rulesheet.specs.Faults.{parts-max, isList, isNamed, fields_at, repeated}
+use Rattle.rulesheet.specs.Codes.{entry_range, entry_name}
+use Rattle.rulesheet.specs.Sheet.{entry_words, schemas_word, clauses_word, entries_word, text_word, form_of, clause_at, entry_at}
+use Rattle.rulesheet.specs.Faults.{parts_max, is_list, is_named, fields_at, repeated}
 use Rattle.rulesheet.specs.Read.{RulesFormed, RulesLaid}
-use Rattle.rulesheet.proofs.Trailers.{facts, form-c, form-e, entries-end}
-use Rattle.rulesheet.proofs.Taking.{list-facts, list_over, entry-taken}
-use Rattle.rulesheet.proofs.Walking.{Walked, walk-past, walk-on}
-use Rattle.rulesheet.proofs.Repeating.{named-fits}
+use Rattle.rulesheet.proofs.Trailers.{facts, form_c, form_e, entries_end}
+use Rattle.rulesheet.proofs.Taking.{list_facts, list_over_lem, entry_taken}
+use Rattle.rulesheet.proofs.Walking.{Walked, walk_past, walk_on}
+use Rattle.rulesheet.proofs.Repeating.{named_fits}
 
-pub named-list : (fields : Fields) → isNamed fields ≡ true → isList fields ≡ true
-named-list Unknown n = cc
-named-list Bare n = cc
-named-list Types n = cc
-named-list Number n = cc
-named-list Positive n = cc
-named-list Limit n = cc
-named-list Schema n = cc
-named-list Values n = cc
-named-list NamesOf n = refl
-named-list Schemas n = cc
-named-list Members n = refl
-named-list Branches n = cc
-named-list Counted n = cc
+pub named_list : (fields : Fields) → is_named fields ≡ true → is_list fields ≡ true
+named_list Unknown n = cc
+named_list Bare n = cc
+named_list Types n = cc
+named_list Number n = cc
+named_list Positive n = cc
+named_list Limit n = cc
+named_list Schema n = cc
+named_list Values n = cc
+named_list NamesOf n = refl
+named_list Schemas n = cc
+named_list Members n = refl
+named_list Branches n = cc
+named_list Counted n = cc
 
 -- ---- names of entries that stand one after the other, from `first` on
 
-module _ (ws ts : List ℕ) (form : RuleForm) (formed : RulesFormed ws form) (first count : ℕ) (within : first + count ≤ entriesWord ws) where
+module _ (ws ts : List ℕ) (form : RuleForm) (formed : RulesFormed ws form) (first count : ℕ) (within : first + count ≤ entries_word ws) where
   abbrev lie : Names
-  lie = record { base = form.entries + entry-words * first; stride = entry-words; count = count }
+  lie = record { base = form.entries + entry_words * first; stride = entry_words; count = count }
 
-  pub lie-range : (i : ℕ) → rangeAt ws lie i ≡ entryRange (entry_at ws (first + i))
+  pub lie_range : (i : ℕ) → range_at ws lie i ≡ entry_range (entry_at ws (first + i))
   unfolding entry_at
-  lie-range i =
-      let s = ap (λ (f : RuleForm). f.entries) formed.same-form in
-      let e : form.entries + entry-words * first + entry-words * i ≡ (form_of ws).entries + entry-words * (first + i) + 0 = omega arith in
-      let g : form.entries + entry-words * first + entry-words * i + 1 ≡ (form_of ws).entries + entry-words * (first + i) + 1 = omega arith in
+  lie_range i =
+      let s = ap (λ (f : RuleForm). f.entries) formed.same_form in
+      let e : form.entries + entry_words * first + entry_words * i ≡ (form_of ws).entries + entry_words * (first + i) + 0 = omega arith in
+      let g : form.entries + entry_words * first + entry_words * i + 1 ≡ (form_of ws).entries + entry_words * (first + i) + 1 = omega arith in
       rw (g, e)
 
-  pub lie-name : (i : ℕ) → name_at ws ts lie i ≡ entryName ts (entry_at ws (first + i))
-  lie-name i = ap (part ts) (lie-range i)
+  pub lie_name : (i : ℕ) → name_at ws ts lie i ≡ entry_name ts (entry_at ws (first + i))
+  lie_name i = ap (part ts) (lie_range i)
 
   -- the words of the last name are within the sheet
-  pub lie-end : form.entries + entry-words * (first + count) ≤ length ws
-  lie-end = omega (arith, entries-end ws form formed, form-e ws form formed)
+  pub lie_end : form.entries + entry_words * (first + count) ≤ length ws
+  lie_end = omega (arith, entries_end ws form formed, form_e ws form formed)
 
-  pub lie-lying : ((i : ℕ) → i < count → fits (length ts) (entryRange (entry_at ws (first + i))) ≡ true) → Lying ws ts lie
-  lie-lying fitting =
+  pub lie_lying : ((i : ℕ) → i < count → fits (length ts) (entry_range (entry_at ws (first + i))) ≡ true) → Lying ws ts lie
+  lie_lying fitting =
       record {
-        inside = λ (i : ℕ) (l : i < count). omega (arith, lie-end);
-        fitting = λ (i : ℕ) (l : i < count). rw (lie-range i) (fitting i l);
-        few = omega (arith, (facts ws form formed).few-entries);
+        inside = λ (i : ℕ) (l : i < count). omega (arith, lie_end);
+        fitting = λ (i : ℕ) (l : i < count). rw (lie_range i) (fitting i l);
+        few = omega (arith, (facts ws form formed).few_entries);
       }
 
-  pub lie-repeats : (i : ℕ) → repeatsAt ws ts lie i ≡ repeatsBy (λ j. entryName ts (entry_at ws (first + j))) i
-  lie-repeats i = repeats-agree (name_at ws ts lie) (λ j. entryName ts (entry_at ws (first + j))) i (λ j l. lie-name j)
+  pub lie_repeats : (i : ℕ) → repeats_at ws ts lie i ≡ repeats_by (λ j. entry_name ts (entry_at ws (first + j))) i
+  lie_repeats i = repeats_agree (name_at ws ts lie) (λ j. entry_name ts (entry_at ws (first + j))) i (λ j l. lie_name j)
 
 -- the search through clause k
 module _ (ws ts : List ℕ) (form : RuleForm) (laid : RulesLaid ws form) (k : ℕ) (h : k < form.c) where
-  below : k < clausesWord ws
-  below = omega (arith, form-c ws form laid.clauses-laid.schemas-laid.formed)
+  below : k < clauses_word ws
+  below = omega (arith, form_c ws form laid.clauses_laid.schemas_laid.formed)
 
-  module _ (list : isList (fields_at ws k) ≡ true) where
-    ends-within : (clauseAt ws k).first + (clauseAt ws k).count ≤ entriesWord ws
-    ends-within = (list-facts ws k (laid.clauses-laid.clauses-fine k h) list).list-within
+  module _ (list : is_list (fields_at ws k) ≡ true) where
+    ends_within : (clause_at ws k).first + (clause_at ws k).count ≤ entries_word ws
+    ends_within = (list_facts ws k (laid.clauses_laid.clauses_fine k h) list).list_within
 
-    repeated-at : (i : ℕ) → i < (clauseAt ws k).count
-        → repeated ws ts ((clauseAt ws k).first + i)
-        ≡ (isNamed (fields_at ws k) && repeatsBy (λ j. entryName ts (entry_at ws ((clauseAt ws k).first + j))) i)
+    repeated_at : (i : ℕ) → i < (clause_at ws k).count
+        → repeated ws ts ((clause_at ws k).first + i)
+        ≡ (is_named (fields_at ws k) && repeats_by (λ j. entry_name ts (entry_at ws ((clause_at ws k).first + j))) i)
     unfolding repeated
-    repeated-at i l =
-        let e : ((clauseAt ws k).first + i) - (clauseAt ws k).first ≡ i = omega arith in
-        rw (list_over ws form laid.clauses-laid k ((clauseAt ws k).first + i) below list (omega arith) (omega arith), e)
+    repeated_at i l =
+        let e : ((clause_at ws k).first + i) - (clause_at ws k).first ≡ i = omega arith in
+        rw (list_over_lem ws form laid.clauses_laid k ((clause_at ws k).first + i) below list (omega arith) (omega arith), e)
 
-    found-unnamed : isNamed (fields_at ws k) ≡ false
-        → (clauseAt ws k).first + (clauseAt ws k).count ≡ lowestFrom (repeated ws ts) (clauseAt ws k).count (clauseAt ws k).first
-    found-unnamed none =
-        sym (none_found (repeated ws ts) (clauseAt ws k).count (clauseAt ws k).first no_name)
+    found_unnamed : is_named (fields_at ws k) ≡ false
+        → (clause_at ws k).first + (clause_at ws k).count ≡ lowest_from (repeated ws ts) (clause_at ws k).count (clause_at ws k).first
+    found_unnamed none =
+        sym (none_found (repeated ws ts) (clause_at ws k).count (clause_at ws k).first no_name)
       where
-        no_name : (x : ℕ) → (clauseAt ws k).first ≤ x → x < (clauseAt ws k).first + (clauseAt ws k).count → repeated ws ts x ≡ false
+        no_name : (x : ℕ) → (clause_at ws k).first ≤ x → x < (clause_at ws k).first + (clause_at ws k).count → repeated ws ts x ≡ false
         no_name x low high =
-            let e : (clauseAt ws k).first + (x - (clauseAt ws k).first) ≡ x = omega arith in
-            ap (λ (y : ℕ). repeated ws ts y) (sym e) ∙ repeated-at (x - (clauseAt ws k).first) (omega arith) ∙ rw none
+            let e : (clause_at ws k).first + (x - (clause_at ws k).first) ≡ x = omega arith in
+            ap (λ (y : ℕ). repeated ws ts y) (sym e) ∙ repeated_at (x - (clause_at ws k).first) (omega arith) ∙ rw none
 
-  pub unnamed-on : isNamed (fields_at ws k) ≡ false → Walked ws (repeated ws ts) k → Walked ws (repeated ws ts) (k + 1)
-  unnamed-on none w =
+  pub unnamed_on : is_named (fields_at ws k) ≡ false → Walked ws (repeated ws ts) k → Walked ws (repeated ws ts) (k + 1)
+  unnamed_on none w =
       ⊎_elim
-      (λ (t : isList (fields_at ws k) ≡ true).
-      walk-on ws form laid.clauses-laid h (clauseAt ws k) refl t (repeated ws ts) w ((clauseAt ws k).first + (clauseAt ws k).count) (found-unnamed t none) (omega arith))
-      (λ (t : isList (fields_at ws k) ≡ false). walk-past ws (repeated ws ts) w t)
-      (decide (isList (fields_at ws k)))
+      (λ (t : is_list (fields_at ws k) ≡ true).
+      walk_on ws form laid.clauses_laid h (clause_at ws k) refl t (repeated ws ts) w ((clause_at ws k).first + (clause_at ws k).count) (found_unnamed t none) (omega arith))
+      (λ (t : is_list (fields_at ws k) ≡ false). walk_past ws (repeated ws ts) w t)
+      (decide (is_list (fields_at ws k)))
 
   -- its names among the words, where it has some
-  module _ (named : isNamed (fields_at ws k) ≡ true) (first count : ℕ) (at_first : first ≡ (clauseAt ws k).first) (all : count ≡ (clauseAt ws k).count) where
-    list : isList (fields_at ws k) ≡ true
-    list = named-list (fields_at ws k) named
+  module _ (named : is_named (fields_at ws k) ≡ true) (first count : ℕ) (at_first : first ≡ (clause_at ws k).first) (all : count ≡ (clause_at ws k).count) where
+    list : is_list (fields_at ws k) ≡ true
+    list = named_list (fields_at ws k) named
 
     formed : RulesFormed ws form
-    formed = laid.clauses-laid.schemas-laid.formed
+    formed = laid.clauses_laid.schemas_laid.formed
 
-    within : first + count ≤ entriesWord ws
-    within = omega (arith, ends-within list)
+    within : first + count ≤ entries_word ws
+    within = omega (arith, ends_within list)
 
     abbrev lying : Names
-    lying = record { base = form.entries + entry-words * first; stride = entry-words; count = count }
+    lying = record { base = form.entries + entry_words * first; stride = entry_words; count = count }
 
-    pub names-end : form.entries + entry-words * (first + count) ≤ length ws
-    names-end = lie-end ws ts form formed first count within
+    pub names_end : form.entries + entry_words * (first + count) ≤ length ws
+    names_end = lie_end ws ts form formed first count within
 
-    pub names-lie : length ts ≡ textWord ws → Lying ws ts lying
-    names-lie text =
-        lie-lying ws ts form formed first count within
+    pub names_lie : length ts ≡ text_word ws → Lying ws ts lying
+    names_lie text =
+        lie_lying ws ts form formed first count within
         (λ (i : ℕ) (l : i < count).
-        let ok = entry-taken ws form laid.clauses-laid k (first + i) below list (omega arith) (omega arith) in
+        let ok = entry_taken ws form laid.clauses_laid k (first + i) below list (omega arith) (omega arith) in
         rw text
-        (named-fits (fields_at ws k) (textWord ws) (schemasWord ws) (entry_at ws (first + i)) named
-        (sym ok ∙ laid.entries-fine (first + i) (omega (arith, form-e ws form formed, within)))))
+        (named_fits (fields_at ws k) (text_word ws) (schemas_word ws) (entry_at ws (first + i)) named
+        (sym ok ∙ laid.entries_fine (first + i) (omega (arith, form_e ws form formed, within)))))
 
-    pub found_within : (r : ℕ) → r ≡ lowest (repeatsAt ws ts lying) count → first + r ≤ parts-max
+    pub found_within : (r : ℕ) → r ≡ lowest (repeats_at ws ts lying) count → first + r ≤ parts_max
     found_within r e =
-        omega (arith, at-most-end (repeatsAt ws ts lying) count 0, ends-within list, (facts ws form laid.clauses-laid.schemas-laid.formed).few-entries)
+        omega (arith, at_most_end (repeats_at ws ts lying) count 0, ends_within list, (facts ws form laid.clauses_laid.schemas_laid.formed).few_entries)
 
-    pub found-named : (r : ℕ) → r ≡ lowest (repeatsAt ws ts lying) count → first + r ≡ lowestFrom (repeated ws ts) (clauseAt ws k).count (clauseAt ws k).first
-    found-named r e =
+    pub found_named : (r : ℕ) → r ≡ lowest (repeats_at ws ts lying) count → first + r ≡ lowest_from (repeated ws ts) (clause_at ws k).count (clause_at ws k).first
+    found_named r e =
         rw at_first
-        (ap (λ (n : ℕ). (clauseAt ws k).first + n) (e ∙ rw all (alike (repeatsAt ws ts lying) (λ i. repeated ws ts ((clauseAt ws k).first + i)) (clauseAt ws k).count 0 agree))
-        ∙ sym (shifted (repeated ws ts) (clauseAt ws k).count (clauseAt ws k).first 0)
-        ∙ ap (λ (a : ℕ). lowestFrom (repeated ws ts) (clauseAt ws k).count a) (add-zero (clauseAt ws k).first))
+        (ap (λ (n : ℕ). (clause_at ws k).first + n) (e ∙ rw all (alike (repeats_at ws ts lying) (λ i. repeated ws ts ((clause_at ws k).first + i)) (clause_at ws k).count 0 agree))
+        ∙ sym (shifted (repeated ws ts) (clause_at ws k).count (clause_at ws k).first 0)
+        ∙ ap (λ (a : ℕ). lowest_from (repeated ws ts) (clause_at ws k).count a) (add-zero (clause_at ws k).first))
       where
-        agree : (i : ℕ) → 0 ≤ i → i < 0 + (clauseAt ws k).count → repeatsAt ws ts lying i ≡ repeated ws ts ((clauseAt ws k).first + i)
+        agree : (i : ℕ) → 0 ≤ i → i < 0 + (clause_at ws k).count → repeats_at ws ts lying i ≡ repeated ws ts ((clause_at ws k).first + i)
         agree i low high =
-            lie-repeats ws ts form formed first count within i
-            ∙ ap (λ (a : ℕ). repeatsBy (λ j. entryName ts (entry_at ws (a + j))) i) at_first
-            ∙ sym (repeated-at list i (omega arith) ∙ rw named)
+            lie_repeats ws ts form formed first count within i
+            ∙ ap (λ (a : ℕ). repeats_by (λ j. entry_name ts (entry_at ws (a + j))) i) at_first
+            ∙ sym (repeated_at list i (omega arith) ∙ rw named)

@@ -2,10 +2,12 @@
 // and their names.
 //
 // Contracts cite `rulesheet`'s `Faults` and `Read`.
+#![tactic(auto)]
+
 ghost use Rattle.std.specs.Prelude.{not, ◌≡◌, ◌-◌, ◌≤◌};
-ghost use Rattle.laws.specs.Lowest.{lowest, lowestFrom};
-ghost use Rattle.rulesheet.specs.Sheet.{schemasWord, entriesWord, textWord, entry_at};
-ghost use Rattle.rulesheet.specs.Faults.{entryOk, entryFault};
+ghost use Rattle.laws.specs.Lowest.{lowest, lowest_from};
+ghost use Rattle.rulesheet.specs.Sheet.{schemas_word, entries_word, text_word, entry_at};
+ghost use Rattle.rulesheet.specs.Faults.{entry_ok, entry_fault};
 ghost use Rattle.rulesheet.specs.Read.{RulesFormed, ClausesLaid};
 
 use rulecodes::shape_of;
@@ -20,7 +22,7 @@ pub mod repeats;
 // Whether an entry of a list of these fields is not at fault, with m schemas and a text of `size`
 // bytes.
 fn entry_ok(fields: Fields, size: usize, m: u32, entry: EntryRow) -> bool
-    ensures { result ≡ entryOk fields size m entry }
+    ensures { result ≡ entry_ok fields size m entry }
 {
     let range = Range {
         start: entry.first,
@@ -55,8 +57,8 @@ pub fn first_bad_in(
     first: u32,
     end: u32,
 ) -> u32
-    requires { RulesFormed words.now form × (size ≡ textWord words.now) × (first ≤ end) × (end ≤ form.e) }
-    ensures { result ≡ lowestFrom (λ x. not (entryOk fields (textWord words.now) (schemasWord words.now) (entry_at words.now x))) (end - first) first }
+    requires { RulesFormed words.now form × (size ≡ text_word words.now) × (first ≤ end) × (end ≤ form.e) }
+    ensures { result ≡ lowest_from (λ x. not (entry_ok fields (text_word words.now) (schemas_word words.now) (entry_at words.now x))) (end - first) first }
 {
     let mut x = first;
     while x < end {
@@ -71,8 +73,8 @@ pub fn first_bad_in(
 // The lowest entry at fault, or the number of entries. Entries after the last list's are taken by
 // none.
 pub fn first_bad_entry(words: &[u32], form: RuleForm, size: usize) -> u32
-    requires { ClausesLaid words.now form × (size ≡ textWord words.now) }
-    ensures { result ≡ lowest (entryFault words.now) (entriesWord words.now) }
+    requires { ClausesLaid words.now form × (size ≡ text_word words.now) }
+    ensures { result ≡ lowest (entry_fault words.now) (entries_word words.now) }
 {
     let c = form.c;
     let mut x = 0;

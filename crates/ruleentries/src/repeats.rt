@@ -1,9 +1,9 @@
 // Refusal 7 of a rule sheet: two entries of one clause that share a name. Contracts cite
 // `rulesheet`'s `Faults`.
 ghost use Rattle.std.specs.Prelude.{true, ◌≡◌, ◌<◌, length};
-ghost use Rattle.laws.specs.Lowest.{lowest, lowestFrom};
-ghost use Rattle.rulesheet.specs.Sheet.{entriesWord, textWord, clauseAt};
-ghost use Rattle.rulesheet.specs.Faults.{isNamed, fields_at, repeated};
+ghost use Rattle.laws.specs.Lowest.{lowest, lowest_from};
+ghost use Rattle.rulesheet.specs.Sheet.{entries_word, text_word, clause_at};
+ghost use Rattle.rulesheet.specs.Faults.{is_named, fields_at, repeated};
 ghost use Rattle.rulesheet.specs.Read.{RulesLaid};
 
 use names::Names;
@@ -14,9 +14,9 @@ use sheet::record::wide;
 // The lowest entry of clause k, whose entries have names, whose name an earlier one has, or where
 // they end.
 fn first_repeated_in(words: &[u32], text: &[u8], form: RuleForm, k: u32) -> u32
-    requires rules_laid { RulesLaid words.now form × (length text.now ≡ textWord words.now) }
-    requires k_lt_c { (k < form.c) × (isNamed (fields_at words.now k) ≡ true) }
-    ensures { result ≡ lowestFrom (repeated words.now text.now) (clauseAt words.now k).count (clauseAt words.now k).first }
+    requires rules_laid { RulesLaid words.now form × (length text.now ≡ text_word words.now) }
+    requires k_lt_c { (k < form.c) × (is_named (fields_at words.now k) ≡ true) }
+    ensures { result ≡ lowest_from (repeated words.now text.now) (clause_at words.now k).count (clause_at words.now k).first }
 {
     let clause = clause_at(words, form, k);
     let lying = Names {
@@ -37,8 +37,8 @@ fn narrow(count: usize) -> u32
 
 // The lowest entry whose name an earlier entry of its clause has, or the number of entries.
 pub fn first_repeated_entry(words: &[u32], text: &[u8], form: RuleForm) -> u32
-    requires { RulesLaid words.now form × (length text.now ≡ textWord words.now) }
-    ensures { result ≡ lowest (repeated words.now text.now) (entriesWord words.now) }
+    requires { RulesLaid words.now form × (length text.now ≡ text_word words.now) }
+    ensures { result ≡ lowest (repeated words.now text.now) (entries_word words.now) }
 {
     let c = form.c;
     let mut k = 0;

@@ -2,10 +2,12 @@
 // in order, and the lowest schema at fault. `ruleclauses` and `ruleentries` go on with 6.
 //
 // Contracts cite `rulesheet`'s `Faults` and `Read`.
+#![tactic(auto)]
+
 ghost use Rattle.std.specs.Prelude.{◌&&◌, ◌≡◌};
 ghost use Rattle.laws.specs.Lowest.{lowest};
-ghost use Rattle.rulesheet.specs.Sheet.{schemasWord};
-ghost use Rattle.rulesheet.specs.Faults.{trailerFits, wordsOk, textOk, schemaFault};
+ghost use Rattle.rulesheet.specs.Sheet.{schemas_word};
+ghost use Rattle.rulesheet.specs.Faults.{trailer_fits, words_ok, text_ok, schema_fault};
 ghost use Rattle.rulesheet.specs.Read.{RulesFormed};
 
 use rulesheet::form::{RuleForm, schema_at};
@@ -14,7 +16,7 @@ use sheet::record::{RuleRow, wide};
 
 // Whether the trailer's words fit each other and a sheet of `size` words.
 fn trailer_fits(size: usize, m: u32, c: u32, e: u32, back: u32, kind: u32) -> bool
-    ensures { result ≡ trailerFits size m c e back kind }
+    ensures { result ≡ trailer_fits size m c e back kind }
 {
     let schemas = m as usize;
     let clauses = c as usize;
@@ -31,7 +33,7 @@ fn trailer_fits(size: usize, m: u32, c: u32, e: u32, back: u32, kind: u32) -> bo
 
 // Whether the trailer is in order, over a text of `size` bytes.
 pub fn trailer_ok(words: &[u32], size: usize) -> bool
-    ensures { result ≡ (wordsOk words.now && textOk words.now size) }
+    ensures { result ≡ (words_ok words.now && text_ok words.now size) }
 {
     let n = words.len();
     if n < RuleForm::TRAILER_WORDS {
@@ -51,7 +53,7 @@ pub fn trailer_ok(words: &[u32], size: usize) -> bool
 // The lowest schema at fault, or the number of schemas.
 pub fn first_bad_schema(words: &[u32], form: RuleForm) -> u32
     requires { RulesFormed words.now form }
-    ensures { result ≡ lowest (schemaFault words.now) (schemasWord words.now) }
+    ensures { result ≡ lowest (schema_fault words.now) (schemas_word words.now) }
 {
     let m = form.m;
     let c = wide(form.c);

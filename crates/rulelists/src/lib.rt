@@ -1,13 +1,15 @@
 // The entries of a list clause: whether all are in order, and their names differ. Contracts cite
 // `specs/Lists.antt`.
+#![tactic(auto)]
+
 ghost use Rattle.std.specs.Prelude.{true, ◌≡◌, ◌+◌, ◌≤◌, ◌<◌, length};
 ghost use Rattle.text.specs.Part.{fits};
 ghost use Rattle.rulesheet.specs.declared.code.Fields.TheVariants.{Values, Schemas};
-ghost use Rattle.rulesheet.specs.Sheet.{textWord, entry_at};
-ghost use Rattle.rulesheet.specs.Codes.{entryRange, entryName};
-ghost use Rattle.rulesheet.specs.Faults.{isNamed};
+ghost use Rattle.rulesheet.specs.Sheet.{text_word, entry_at};
+ghost use Rattle.rulesheet.specs.Codes.{entry_range, entry_name};
+ghost use Rattle.rulesheet.specs.Faults.{is_named};
 ghost use Rattle.rulesheet.specs.Read.{RulesFormed};
-ghost use Rattle.rulelists.specs.Lists.{namedOk, boundOf, key_of, AllNamed, NamesFit, NamesDiffer, ListFine};
+ghost use Rattle.rulelists.specs.Lists.{named_ok, bound_of, key_of, AllNamed, NamesFit, NamesDiffer, ListFine};
 
 use names::Names;
 use ruleentries::first_bad_in;
@@ -22,7 +24,7 @@ const KEYS: u32 = 4;
 // Below which number the third word of an entry stands, of a list of these fields: 0 beside a mere
 // name.
 fn bound_of(fields: Fields, m: u32) -> u32
-    ensures { result ≡ boundOf fields m }
+    ensures { result ≡ bound_of fields m }
 {
     match fields {
         Fields::Unknown => 1,
@@ -43,7 +45,7 @@ fn bound_of(fields: Fields, m: u32) -> u32
 
 // Whether an entry's name lies within a text of `size` bytes, and its third word below the bound.
 fn named_ok(size: usize, bound: u32, entry: EntryRow) -> bool
-    ensures { result ≡ namedOk size bound entry }
+    ensures { result ≡ named_ok size bound entry }
 {
     let range = Range {
         start: entry.first,
@@ -81,8 +83,8 @@ fn key(name: &[u8], size: u32) -> u64
 
 // The key of an entry's name.
 fn key_at(words: &[u32], text: &[u8], form: RuleForm, x: u32) -> u64
-    requires { RulesFormed words.now form × (x < form.e) × (fits (length text.now) (entryRange (entry_at words.now x)) ≡ true) }
-    ensures { result ≡ key_of (entryName text.now (entry_at words.now x)) }
+    requires { RulesFormed words.now form × (x < form.e) × (fits (length text.now) (entry_range (entry_at words.now x)) ≡ true) }
+    ensures { result ≡ key_of (entry_name text.now (entry_at words.now x)) }
 {
     let entry = entry_at(words, form, x);
     let range = Range {
@@ -159,7 +161,7 @@ pub fn named_fine(
     first: u32,
     count: u32,
 ) -> bool
-    requires { RulesFormed words.now form × (length text.now ≡ textWord words.now) × (first + count ≤ form.e) × (isNamed fields ≡ true) }
+    requires { RulesFormed words.now form × (length text.now ≡ text_word words.now) × (first + count ≤ form.e) × (is_named fields ≡ true) }
     ensures { result ≡ true → ListFine words.now text.now fields first count }
 {
     let end = first + count;
@@ -172,7 +174,7 @@ pub fn named_fine(
 
 // Whether the entries of an enum are in order.
 fn values_fine(words: &[u32], text: &[u8], form: RuleForm, first: u32, count: u32) -> bool
-    requires { RulesFormed words.now form × (length text.now ≡ textWord words.now) × (first + count ≤ form.e) }
+    requires { RulesFormed words.now form × (length text.now ≡ text_word words.now) × (first + count ≤ form.e) }
     ensures { result ≡ true → ListFine words.now text.now Values first count }
 {
     let end = first + count;
@@ -181,7 +183,7 @@ fn values_fine(words: &[u32], text: &[u8], form: RuleForm, first: u32, count: u3
 
 // Whether the entries of a list of schemas are.
 fn schemas_fine(words: &[u32], text: &[u8], form: RuleForm, first: u32, count: u32) -> bool
-    requires { RulesFormed words.now form × (length text.now ≡ textWord words.now) × (first + count ≤ form.e) }
+    requires { RulesFormed words.now form × (length text.now ≡ text_word words.now) × (first + count ≤ form.e) }
     ensures { result ≡ true → ListFine words.now text.now Schemas first count }
 {
     let end = first + count;
@@ -197,7 +199,7 @@ fn others_fine(
     first: u32,
     count: u32,
 ) -> bool
-    requires { RulesFormed words.now form × (length text.now ≡ textWord words.now) × (first + count ≤ form.e) }
+    requires { RulesFormed words.now form × (length text.now ≡ text_word words.now) × (first + count ≤ form.e) }
     ensures { result ≡ true → ListFine words.now text.now fields first count }
 {
     let end = first + count;
@@ -219,7 +221,7 @@ pub fn entries_fine(
     first: u32,
     count: u32,
 ) -> bool
-    requires { RulesFormed words.now form × (length text.now ≡ textWord words.now) × (first + count ≤ form.e) }
+    requires { RulesFormed words.now form × (length text.now ≡ text_word words.now) × (first + count ≤ form.e) }
     ensures { result ≡ true → ListFine words.now text.now fields first count }
 {
     match fields {

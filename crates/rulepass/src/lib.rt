@@ -3,12 +3,14 @@
 // those are asked.
 //
 // Its contracts cite `specs/Pass.antt`.
+#![tactic(auto)]
+
 ghost use Rattle.std.specs.Prelude.{true, false, ◌≡◌, ◌+◌, ◌≤◌, ◌<◌, length};
-ghost use Rattle.rulesheet.specs.Sheet.{textWord, schemaAt};
+ghost use Rattle.rulesheet.specs.Sheet.{text_word, schema_at};
 ghost use Rattle.rulesheet.specs.Codes.{shape_of};
-ghost use Rattle.rulesheet.specs.Faults.{isList, isNamed, listStart};
+ghost use Rattle.rulesheet.specs.Faults.{is_list, is_named, list_start};
 ghost use Rattle.rulesheet.specs.Read.{RulesFormed};
-ghost use Rattle.rulepass.specs.Pass.{listedBy, ClausePassed, SchemaPassed, Told};
+ghost use Rattle.rulepass.specs.Pass.{listed_by, ClausePassed, SchemaPassed, Told};
 
 use ruleclauses::fields_ok;
 use rulecodes::shape_of;
@@ -20,7 +22,7 @@ use sheet::record::{RuleRow, wide};
 
 // How far a pass has come: whether all was in order, where the next list starts, and how many
 // clauses had steps.
-#[derive(Drop)]
+#[derive(Clone, Copy)]
 pub struct Pass {
     pub fine: bool,
     pub start: u32,
@@ -28,7 +30,7 @@ pub struct Pass {
 }
 
 // What is told of a sheet. `laid`: none of 6 and 7 applies. `short`: none of 8 and 9.
-#[derive(Drop)]
+#[derive(Clone, Copy)]
 pub struct Order {
     pub laid: bool,
     pub short: bool,
@@ -37,7 +39,7 @@ pub struct Order {
 // Whether the entries of a list clause start where the next list does, end within the sheet's, and
 // are as many as its shape asks.
 fn listed(form: RuleForm, clause: ClauseRow, shape: Shape, start: u32) -> bool
-    ensures { result ≡ listedBy form.e shape start clause }
+    ensures { result ≡ listed_by form.e shape start clause }
 {
     let first = clause.first;
     let count = clause.count;
@@ -57,7 +59,7 @@ fn pass_named(
     start: u32,
     steps: u32,
 ) -> Pass
-    requires { RulesFormed words.now form × (length text.now ≡ textWord words.now) × (shape ≡ shape_of clause.code) × (isList shape.fields ≡ true) × (isNamed shape.fields ≡ true) × (shape.unguarded ≡ false) }
+    requires { RulesFormed words.now form × (length text.now ≡ text_word words.now) × (shape ≡ shape_of clause.code) × (is_list shape.fields ≡ true) × (is_named shape.fields ≡ true) × (shape.unguarded ≡ false) }
     ensures { result.fine ≡ true → ClausePassed words.now text.now s.0 clause start steps result }
 {
     let first = clause.first;
@@ -88,7 +90,7 @@ fn pass_list(
     start: u32,
     steps: u32,
 ) -> Pass
-    requires { RulesFormed words.now form × (length text.now ≡ textWord words.now) × (shape ≡ shape_of clause.code) × (isList shape.fields ≡ true) }
+    requires { RulesFormed words.now form × (length text.now ≡ text_word words.now) × (shape ≡ shape_of clause.code) × (is_list shape.fields ≡ true) }
     ensures { result.fine ≡ true → ClausePassed words.now text.now s.0 clause start steps result }
 {
     let first = clause.first;
@@ -120,7 +122,7 @@ fn pass_clause(
     start: u32,
     steps: u32,
 ) -> Pass
-    requires { RulesFormed words.now form × (length text.now ≡ textWord words.now) }
+    requires { RulesFormed words.now form × (length text.now ≡ text_word words.now) }
     ensures { result.fine ≡ true → ClausePassed words.now text.now s.0 clause start steps result }
 {
     let shape = shape_of(clause.code);
@@ -149,8 +151,8 @@ fn pass_schema(
     from: u32,
     so_far: u32,
 ) -> Pass
-    requires rules_formed { RulesFormed words.now form × (length text.now ≡ textWord words.now) × (end ≤ form.c) }
-    requires first_value { (first ≡ (schemaAt words.now s.0).first) × (end ≡ first + (schemaAt words.now s.0).count) × (from ≡ listStart words.now first) }
+    requires rules_formed { RulesFormed words.now form × (length text.now ≡ text_word words.now) × (end ≤ form.c) }
+    requires first_value { (first ≡ (schema_at words.now s.0).first) × (end ≡ first + (schema_at words.now s.0).count) × (from ≡ list_start words.now first) }
     ensures { result.fine ≡ true → SchemaPassed words.now text.now s.0 so_far result }
 {
     let this = s.0;
@@ -186,7 +188,7 @@ fn pass_schema(
 
 // What one pass over the schemas, their clauses and the entries tells.
 pub fn told(words: &[u32], text: &[u8], form: RuleForm) -> Order
-    requires { RulesFormed words.now form × (length text.now ≡ textWord words.now) }
+    requires { RulesFormed words.now form × (length text.now ≡ text_word words.now) }
     ensures { Told words.now text.now form result }
 {
     let m = form.m;

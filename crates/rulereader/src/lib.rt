@@ -2,10 +2,12 @@
 // and its unguarded steps (`steps`). No word's position and no code's number leaves them.
 //
 // Its contracts cite `rulesheet`'s `Sheet`, `Read` and `Clauses`.
+#![tactic(auto)]
+
 ghost use Rattle.std.specs.Prelude.{List, [], ◌≡◌, ℕ, ◌+◌, ◌≤◌, ◌<◌, get_or};
-ghost use Rattle.rulesheet.specs.Sheet.{entry_at, clauseOf};
+ghost use Rattle.rulesheet.specs.Sheet.{entry_at, clause_of};
 ghost use Rattle.rulesheet.specs.Read.{RulesFormed};
-ghost use Rattle.rulesheet.specs.Clauses.{schemasIn, membersIn, clauseMeans, Tested, Decoded, EntryNameRead};
+ghost use Rattle.rulesheet.specs.Clauses.{schemas_in, members_in, clause_means, Tested, Decoded, EntryNameRead};
 
 use decimal::Decimal;
 use rulesheet::clause::{Clause, Entries};
@@ -62,7 +64,7 @@ fn decoded(code: u32, first: u32, count: u32) -> Clause
 // Clause k.
 pub fn clause_of(words: &[u32], form: RuleForm, k: u32) -> Clause
     requires { RulesFormed words.now form × (k < form.c) }
-    ensures by_index { (ts : List ℕ) → clauseMeans words.now ts result ≡ clauseOf words.now ts k }
+    ensures by_index { (ts : List ℕ) → clause_means words.now ts result ≡ clause_of words.now ts k }
     ensures tested { Tested words.now form result }
 {
     let row = clause_at(words, form, k);
@@ -80,7 +82,7 @@ pub fn entry_of(words: &[u32], form: RuleForm, list: Entries, i: u32) -> EntryRo
 // The schema of entry i of a list of schemas.
 pub fn entry_schema(words: &[u32], form: RuleForm, list: Entries, i: u32) -> RuleRow
     requires { RulesFormed words.now form × (list.first + list.count ≤ form.e) × (i < list.count) }
-    ensures { result.0 ≡ get_or (schemasIn words.now list) i 0 }
+    ensures { result.0 ≡ get_or (schemas_in words.now list) i 0 }
 {
     RuleRow(entry_of(words, form, list, i).first)
 }
@@ -88,7 +90,7 @@ pub fn entry_schema(words: &[u32], form: RuleForm, list: Entries, i: u32) -> Rul
 // The schema of entry i of a list of names with schemas.
 pub fn member_schema(words: &[u32], form: RuleForm, list: Entries, i: u32) -> RuleRow
     requires { RulesFormed words.now form × (list.first + list.count ≤ form.e) × (i < list.count) }
-    ensures { (ts : List ℕ) → result.0 ≡ (get_or (membersIn words.now ts list) i ([], 0)).1 }
+    ensures { (ts : List ℕ) → result.0 ≡ (get_or (members_in words.now ts list) i ([], 0)).1 }
 {
     RuleRow(entry_of(words, form, list, i).third)
 }

@@ -2,7 +2,7 @@
 // on the text. Every clause of a sheet is asked for them, so the codes that have some are told here by
 // their numbers: 30 to 32 have a list of them, 33 and 34 one, 36 three, 37 a list with names.
 ghost use Rattle.std.specs.Prelude.{◌≡◌, ◌<◌, length, get_or};
-ghost use Rattle.rulesheet.specs.Sheet.{targetsOf};
+ghost use Rattle.rulesheet.specs.Sheet.{targets_of};
 ghost use Rattle.rulesheet.specs.Read.{RulesFormed, ClausesLaid};
 
 use rulesheet::form::{RuleForm, clause_at, entry_at};
@@ -11,7 +11,7 @@ use sheet::record::RuleRow;
 // How many schemas clause k reaches unguarded.
 pub fn steps_of(words: &[u32], form: RuleForm, k: u32) -> u32
     requires { RulesFormed words.now form × (k < form.c) }
-    ensures { result ≡ length (targetsOf words.now k) }
+    ensures { result ≡ length (targets_of words.now k) }
 {
     let clause = clause_at(words, form, k);
     if clause.code == 36 {
@@ -29,8 +29,8 @@ pub fn steps_of(words: &[u32], form: RuleForm, k: u32) -> u32
 
 // The ith of them.
 pub fn step_at(words: &[u32], form: RuleForm, k: u32, i: u32) -> RuleRow
-    requires { ClausesLaid words.now form × (k < form.c) × (i < length (targetsOf words.now k)) }
-    ensures { result.0 ≡ get_or (targetsOf words.now k) i 0 }
+    requires { ClausesLaid words.now form × (k < form.c) × (i < length (targets_of words.now k)) }
+    ensures { result.0 ≡ get_or (targets_of words.now k) i 0 }
 {
     let clause = clause_at(words, form, k);
     if clause.code == 37 {

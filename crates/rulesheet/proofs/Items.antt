@@ -1,8 +1,8 @@
 -- Items of the lists that a clause's entries and a schema's clauses make.
---     schemas-long, values-long, names-long, members-long    each list of a clause is as long as its count says
---     schema-item, value-item, name-item, member-item        its item i is made of entry i
---     name-read                                              and its range is the one that is read as its name
---     clauses-long, clause-item                              a schema's clauses are as many as its row says, from its first on
+--     schemas_long, values_long, names_long, members_long    each list of a clause is as long as its count says
+--     schema_item, value_item, name_item, member_item        its item i is made of entry i
+--     name_read                                              and its range is the one that is read as its name
+--     clauses_long, clause_item                              a schema's clauses are as many as its row says, from its first on
 -- Assumes nothing.
 use mathlib.Core.List.{List, [], map}
 use mathlib.Core.Path.{◌≡◌, sym, ap, ◌∙◌}
@@ -13,65 +13,65 @@ use Rattle.sheet.specs.Doc.{Value}
 use Rattle.rulesheet.specs.declared.form.EntryRow.{EntryRow}
 use Rattle.rulesheet.specs.declared.clause.Entries.{Entries}
 use Rattle.rulesheet.specs.Ruleset.{Clause}
-use Rattle.rulesheet.specs.Codes.{entryValue, entryRange, entryName, entryMember}
-use Rattle.rulesheet.specs.Sheet.{schemasWord, textWord, schemaAt, entry_at, run, clauseOf, rulesOf}
-use Rattle.rulesheet.specs.Clauses.{entriesOf, schemasIn, valuesIn, namesIn, membersIn, EntryNameRead}
-use Rattle.rulesheet.proofs.Reaching.{run_long, made_at, item-is}
-use Rattle.rulesheet.proofs.Repeating.{named-fits}
+use Rattle.rulesheet.specs.Codes.{entry_value, entry_range, entry_name, entry_member}
+use Rattle.rulesheet.specs.Sheet.{schemas_word, text_word, schema_at, entry_at, run, clause_of, rules_of}
+use Rattle.rulesheet.specs.Clauses.{entries_of, schemas_in, values_in, names_in, members_in, EntryNameRead}
+use Rattle.rulesheet.proofs.Reaching.{run_long, made_at, item_is}
+use Rattle.rulesheet.proofs.Repeating.{named_fits}
 
 -- ---- the entries of a list clause
 
 module _ (ws : List ℕ) (es : Entries) where
-  entries-long : {B : Type 0} (make : EntryRow → B) → length (map make (entriesOf ws es)) ≡ es.count
-  entries-long make = simp (length-map, run_long)
+  entries_long : {B : Type 0} (make : EntryRow → B) → length (map make (entries_of ws es)) ≡ es.count
+  entries_long make = simp (length-map, run_long)
 
-  pub schemas-long : length (schemasIn ws es) ≡ es.count
-  schemas-long = entries-long (λ (e : EntryRow). e.first)
+  pub schemas_long : length (schemas_in ws es) ≡ es.count
+  schemas_long = entries_long (λ (e : EntryRow). e.first)
 
-  pub values-long : (ts : List ℕ) → length (valuesIn ws ts es) ≡ es.count
-  values-long ts = entries-long (entryValue ts)
+  pub values_long : (ts : List ℕ) → length (values_in ws ts es) ≡ es.count
+  values_long ts = entries_long (entry_value ts)
 
-  pub names-long : (ts : List ℕ) → length (namesIn ws ts es) ≡ es.count
-  names-long ts = entries-long (entryName ts)
+  pub names_long : (ts : List ℕ) → length (names_in ws ts es) ≡ es.count
+  names_long ts = entries_long (entry_name ts)
 
-  pub members-long : (ts : List ℕ) → length (membersIn ws ts es) ≡ es.count
-  members-long ts = entries-long (entryMember ts)
+  pub members_long : (ts : List ℕ) → length (members_in ws ts es) ≡ es.count
+  members_long ts = entries_long (entry_member ts)
 
   -- entry i, as it was read
   module _ (i : ℕ) (h : i < es.count) (e : EntryRow) (read : e ≡ entry_at ws (es.first + i)) where
-    entry-item : {B : Type 0} (make : EntryRow → B) (d : B) → make e ≡ get_or (map make (entriesOf ws es)) i d
-    entry-item make d = ap make read ∙ sym (item-is ws make es.count es.first i d h)
+    entry_item : {B : Type 0} (make : EntryRow → B) (d : B) → make e ≡ get_or (map make (entries_of ws es)) i d
+    entry_item make d = ap make read ∙ sym (item_is ws make es.count es.first i d h)
 
-    pub schema-item : (d : ℕ) → e.first ≡ get_or (schemasIn ws es) i d
-    schema-item = entry-item (λ (x : EntryRow). x.first)
+    pub schema_item : (d : ℕ) → e.first ≡ get_or (schemas_in ws es) i d
+    schema_item = entry_item (λ (x : EntryRow). x.first)
 
-    pub value-item : (ts : List ℕ) (d : Value) → entryValue ts e ≡ get_or (valuesIn ws ts es) i d
-    value-item ts = entry-item (entryValue ts)
+    pub value_item : (ts : List ℕ) (d : Value) → entry_value ts e ≡ get_or (values_in ws ts es) i d
+    value_item ts = entry_item (entry_value ts)
 
-    pub name-item : (ts : List ℕ) (d : List ℕ) → entryName ts e ≡ get_or (namesIn ws ts es) i d
-    name-item ts = entry-item (entryName ts)
+    pub name_item : (ts : List ℕ) (d : List ℕ) → entry_name ts e ≡ get_or (names_in ws ts es) i d
+    name_item ts = entry_item (entry_name ts)
 
-    pub member-item : (ts : List ℕ) (d : List ℕ × ℕ) → entryMember ts e ≡ get_or (membersIn ws ts es) i d
-    member-item ts = entry-item (entryMember ts)
+    pub member_item : (ts : List ℕ) (d : List ℕ × ℕ) → entry_member ts e ≡ get_or (members_in ws ts es) i d
+    member_item ts = entry_item (entry_member ts)
 
-    pub name-read : EntryNameRead ws es i (entryRange e)
-    name-read =
+    pub name_read : EntryNameRead ws es i (entry_range e)
+    name_read =
         record {
-          name-is = λ ts. name-item ts [];
-          member_is = λ ts. ap (λ (m : List ℕ × ℕ). m.0) (member-item ts ([], 0));
-          name-fits = λ fields named ok. rw read (named-fits fields (textWord ws) (schemasWord ws) (entry_at ws (es.first + i)) named (ok i h));
+          name_is = λ ts. name_item ts [];
+          member_is = λ ts. ap (λ (m : List ℕ × ℕ). m.0) (member_item ts ([], 0));
+          name_fits = λ fields named ok. rw read (named_fits fields (text_word ws) (schemas_word ws) (entry_at ws (es.first + i)) named (ok i h));
         }
 
 -- ---- the clauses of a schema
 
-module _ (ws ts : List ℕ) (s : ℕ) (h : s < schemasWord ws) where
-  clauses-are : (rulesOf ws ts).clauses s ≡ map (clauseOf ws ts) (run (schemaAt ws s).count (schemaAt ws s).first)
-  unfolding rulesOf
-  clauses-are = rw (lt-ltb s (schemasWord ws) h)
+module _ (ws ts : List ℕ) (s : ℕ) (h : s < schemas_word ws) where
+  clauses_are : (rules_of ws ts).clauses s ≡ map (clause_of ws ts) (run (schema_at ws s).count (schema_at ws s).first)
+  unfolding rules_of
+  clauses_are = rw (lt-ltb s (schemas_word ws) h)
 
-  pub clauses-long : length ((rulesOf ws ts).clauses s) ≡ (schemaAt ws s).count
-  clauses-long = ap length clauses-are ∙ simp (length-map, run_long)
+  pub clauses_long : length ((rules_of ws ts).clauses s) ≡ (schema_at ws s).count
+  clauses_long = ap length clauses_are ∙ simp (length-map, run_long)
 
-  pub clause-item : (i : ℕ) (d : Clause) → i < (schemaAt ws s).count → get_or ((rulesOf ws ts).clauses s) i d ≡ clauseOf ws ts ((schemaAt ws s).first + i)
-  clause-item i d l =
-      ap (λ (cs : List Clause). get_or cs i d) clauses-are ∙ made_at (clauseOf ws ts) (schemaAt ws s).count (schemaAt ws s).first i d l
+  pub clause_item : (i : ℕ) (d : Clause) → i < (schema_at ws s).count → get_or ((rules_of ws ts).clauses s) i d ≡ clause_of ws ts ((schema_at ws s).first + i)
+  clause_item i d l =
+      ap (λ (cs : List Clause). get_or cs i d) clauses_are ∙ made_at (clause_of ws ts) (schema_at ws s).count (schema_at ws s).first i d l

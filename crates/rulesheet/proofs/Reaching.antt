@@ -1,7 +1,7 @@
 -- The unguarded steps of a clause, by its code's shape and its words; the text does not matter for them.
---     targets-are        a clause's steps, by the row and the shape that were read
---     steps-over         they are the same over any text
---     item-is            item i of a clause's list is made of its i-th entry
+--     targets_are        a clause's steps, by the row and the shape that were read
+--     steps_over         they are the same over any text
+--     item_is            item i of a clause's list is made of its i-th entry
 -- Assumes nothing.
 use mathlib.Core.Bool.{Bool, true, false, cond}
 use mathlib.Core.List.{List, [], ◌∷◌, map}
@@ -19,8 +19,8 @@ use Rattle.rulesheet.specs.declared.code.Shape.{Shape}
 use Rattle.rulesheet.specs.declared.form.ClauseRow.{ClauseRow}
 use Rattle.rulesheet.specs.declared.form.EntryRow.{EntryRow}
 use Rattle.rulesheet.specs.Ruleset.{unguarded}
-use Rattle.rulesheet.specs.Codes.{Parts, CodeLine, codes, unknown, pick_line, lineIn, no-entry, entryName, shape_of, meansOf}
-use Rattle.rulesheet.specs.Sheet.{clauseAt, entry_at, run, clauseOf, targetsOf}
+use Rattle.rulesheet.specs.Codes.{Parts, CodeLine, codes, unknown, pick_line, line_in, no_entry, entry_name, shape_of, means_of}
+use Rattle.rulesheet.specs.Sheet.{clause_at, entry_at, run, clause_of, targets_of}
 
 -- ---- runs of numbers
 
@@ -54,9 +54,9 @@ made_at make many first i d h =
     map_at make (run many first) i 0 d inside ∙ ap make (run_at many first i h)
 
 -- item i of a list that is made of entries is made of the entry at `first + i`
-pub item-is : {B : Type 0} (ws : List ℕ) (make : EntryRow → B) (many first i : ℕ) (d : B) → i < many
+pub item_is : {B : Type 0} (ws : List ℕ) (make : EntryRow → B) (many first i : ℕ) (d : B) → i < many
     → get_or (map make (map (entry_at ws) (run many first))) i d ≡ make (entry_at ws (first + i))
-item-is ws make many first i d h =
+item_is ws make many first i d h =
     let none : EntryRow = record { first = 0; second = 0; third = 0 } in
     let inside : i < length (run many first) = omega (arith, run_long many first) in
     map_at make (map (entry_at ws) (run many first)) i none d (simp length-map inside) ∙ ap make (made_at (entry_at ws) many first i none h)
@@ -67,12 +67,12 @@ pub data Every (P : CodeLine → Type 0) : List CodeLine → Type 0 where
   done : Every P []
   and : {line : CodeLine} {lines : List CodeLine} → P line → Every P lines → Every P (line ∷ lines)
 
-pub in_table : (P : CodeLine → Type 0) (lines : List CodeLine) (code : ℕ) → P unknown → Every P lines → P (lineIn lines code)
-unfolding lineIn
+pub in_table : (P : CodeLine → Type 0) (lines : List CodeLine) (code : ℕ) → P unknown → Every P lines → P (line_in lines code)
+unfolding line_in
 in_table P [] code u done = u
 in_table P (line ∷ lines) code u (and p ps) = pick (eqb code line.code) (in_table P lines code u ps)
   where
-    pick : (b : Bool) → P (lineIn lines code) → P (pick_line b line (lineIn lines code))
+    pick : (b : Bool) → P (line_in lines code) → P (pick_line b line (line_in lines code))
     pick true q = p
     pick false q = q
 
@@ -89,12 +89,12 @@ named_by Values first es = []
 named_by Names first es = []
 named_by Schemas first es = map (λ (e : EntryRow). e.first) es
 named_by Members first es = map (λ (e : EntryRow). e.third) es
-named_by Branches first es = (get_or es 0 no-entry).first ∷ (get_or es 1 no-entry).first ∷ (get_or es 2 no-entry).first ∷ []
-named_by Counted first es = (get_or es 0 no-entry).first ∷ []
+named_by Branches first es = (get_or es 0 no_entry).first ∷ (get_or es 1 no_entry).first ∷ (get_or es 2 no_entry).first ∷ []
+named_by Counted first es = (get_or es 0 no_entry).first ∷ []
 
 -- the steps of a clause of this shape: those that it names, if it is unguarded
-abbrev pub byShape : Shape → ℕ → List EntryRow → List ℕ
-byShape shape first es = cond shape.unguarded (named_by shape.fields first es) []
+abbrev pub by_shape : Shape → ℕ → List EntryRow → List ℕ
+by_shape shape first es = cond shape.unguarded (named_by shape.fields first es) []
 
 -- members are mapped twice: to names with schemas, and to schemas
 pub third_of : (name : EntryRow → List ℕ) (es : List EntryRow)
@@ -103,15 +103,15 @@ third_of name [] = refl
 third_of name (e ∷ es) = ap (λ l. e.third ∷ l) (third_of name es)
 
 Shaped : CodeLine → Type 0
-Shaped line = (p : Parts) → unguarded (line.means p) ≡ byShape line.shape p.first p.entries
+Shaped line = (p : Parts) → unguarded (line.means p) ≡ by_shape line.shape p.first p.entries
 
-table-shaped : Every Shaped codes
+table_shaped : Every Shaped codes
 unfolding Shaped
-table-shaped = and (λ p. refl) (and (λ p. refl) (and (λ p. refl) (and (λ p. refl) (and (λ p. refl) (and (λ p. refl) (and (λ p. refl) (and (λ p. refl) (and (λ p. refl) (and (λ p. refl) (and (λ p. refl) (and (λ p. refl) (and (λ p. refl) (and (λ p. refl) (and (λ p. refl) (and (λ p. refl) (and (λ p. refl) (and (λ p. refl) (and (λ p. refl) (and (λ p. refl) (and (λ p. refl) (and (λ p. third_of (entryName p.text) p.entries) (and (λ p. refl) (and (λ p. refl) (and (λ p. refl) (and (λ p. refl) (and (λ p. refl) (and (λ p. refl) (and (λ p. refl) done))))))))))))))))))))))))))))
+table_shaped = and (λ p. refl) (and (λ p. refl) (and (λ p. refl) (and (λ p. refl) (and (λ p. refl) (and (λ p. refl) (and (λ p. refl) (and (λ p. refl) (and (λ p. refl) (and (λ p. refl) (and (λ p. refl) (and (λ p. refl) (and (λ p. refl) (and (λ p. refl) (and (λ p. refl) (and (λ p. refl) (and (λ p. refl) (and (λ p. refl) (and (λ p. refl) (and (λ p. refl) (and (λ p. refl) (and (λ p. third_of (entry_name p.text) p.entries) (and (λ p. refl) (and (λ p. refl) (and (λ p. refl) (and (λ p. refl) (and (λ p. refl) (and (λ p. refl) (and (λ p. refl) done))))))))))))))))))))))))))))
 
-pub shaped : (code : ℕ) (p : Parts) → unguarded (meansOf code p) ≡ byShape (shape_of code) p.first p.entries
+pub shaped : (code : ℕ) (p : Parts) → unguarded (means_of code p) ≡ by_shape (shape_of code) p.first p.entries
 unfolding Shaped
-shaped code = in_table Shaped codes code (λ p. refl) table-shaped
+shaped code = in_table Shaped codes code (λ p. refl) table_shaped
 
 -- ---- a clause's steps
 
@@ -119,15 +119,15 @@ abbrev pub parts_at : List ℕ → List ℕ → ℕ → Parts
 parts_at ws ts k =
     record {
       text = ts;
-      first = (clauseAt ws k).first;
-      count = (clauseAt ws k).count;
-      entries = map (entry_at ws) (run (clauseAt ws k).count (clauseAt ws k).first);
+      first = (clause_at ws k).first;
+      count = (clause_at ws k).count;
+      entries = map (entry_at ws) (run (clause_at ws k).count (clause_at ws k).first);
     }
 
-pub steps-over : (ws ts : List ℕ) (k : ℕ) → unguarded (clauseOf ws ts k) ≡ targetsOf ws k
-unfolding clauseOf targetsOf
-steps-over ws ts k = shaped (clauseAt ws k).code (parts_at ws ts k) ∙ sym (shaped (clauseAt ws k).code (parts_at ws [] k))
+pub steps_over : (ws ts : List ℕ) (k : ℕ) → unguarded (clause_of ws ts k) ≡ targets_of ws k
+unfolding clause_of targets_of
+steps_over ws ts k = shaped (clause_at ws k).code (parts_at ws ts k) ∙ sym (shaped (clause_at ws k).code (parts_at ws [] k))
 
-pub targets-are : (ws : List ℕ) (k : ℕ) → targetsOf ws k ≡ byShape (shape_of (clauseAt ws k).code) (clauseAt ws k).first (map (entry_at ws) (run (clauseAt ws k).count (clauseAt ws k).first))
-unfolding clauseOf targetsOf
-targets-are ws k = shaped (clauseAt ws k).code (parts_at ws [] k)
+pub targets_are : (ws : List ℕ) (k : ℕ) → targets_of ws k ≡ by_shape (shape_of (clause_at ws k).code) (clause_at ws k).first (map (entry_at ws) (run (clause_at ws k).count (clause_at ws k).first))
+unfolding clause_of targets_of
+targets_are ws k = shaped (clause_at ws k).code (parts_at ws [] k)

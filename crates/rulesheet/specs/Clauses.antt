@@ -19,62 +19,62 @@ use Rattle.rulesheet.specs.declared.clause.Clause.TheVariants.{MinLength, MaxLen
 use Rattle.rulesheet.specs.declared.clause.Clause.TheVariants.{AllOf, AnyOf, OneOf, Not, Ref, IfThenElse, DependentSchemas, Properties, AdditionalProperties, PrefixItems, Items, Contains}
 use Rattle.rulesheet.specs.declared.clause.Clause.TheVariants.{UnevaluatedProperties, UnevaluatedItems}
 use Rattle.rulesheet.specs.Ruleset as R
-use Rattle.rulesheet.specs.Codes.{no-entry, entryValue, entryName, entryMember, shape_of, meansOf}
-use Rattle.rulesheet.specs.Sheet.{schemasWord, textWord, entry_at, run, parts_of}
-use Rattle.rulesheet.specs.Faults.{isList, entryOk, isNamed}
+use Rattle.rulesheet.specs.Codes.{no_entry, entry_value, entry_name, entry_member, shape_of, means_of}
+use Rattle.rulesheet.specs.Sheet.{schemas_word, text_word, entry_at, run, parts_of}
+use Rattle.rulesheet.specs.Faults.{is_list, entry_ok, is_named}
 use Rattle.rulesheet.specs.Read.{ClausesLaid, RulesLaid}
 
 -- the entries of a list, read from the words
-abbrev pub entriesOf : List ℕ → Entries → List EntryRow
-entriesOf ws es = map (entry_at ws) (run es.count es.first)
+abbrev pub entries_of : List ℕ → Entries → List EntryRow
+entries_of ws es = map (entry_at ws) (run es.count es.first)
 
 -- entry i of them
-abbrev pub entryIn : List ℕ → Entries → ℕ → EntryRow
-entryIn ws es i = get_or (entriesOf ws es) i no-entry
+abbrev pub entry_in : List ℕ → Entries → ℕ → EntryRow
+entry_in ws es i = get_or (entries_of ws es) i no_entry
 
 -- the lists that they stand for: schemas, values, names, names with schemas
-abbrev pub schemasIn : List ℕ → Entries → List ℕ
-schemasIn ws es = map (λ (e : EntryRow). e.first) (entriesOf ws es)
+abbrev pub schemas_in : List ℕ → Entries → List ℕ
+schemas_in ws es = map (λ (e : EntryRow). e.first) (entries_of ws es)
 
-abbrev pub valuesIn : List ℕ → List ℕ → Entries → List Value
-valuesIn ws ts es = map (entryValue ts) (entriesOf ws es)
+abbrev pub values_in : List ℕ → List ℕ → Entries → List Value
+values_in ws ts es = map (entry_value ts) (entries_of ws es)
 
-abbrev pub namesIn : List ℕ → List ℕ → Entries → List (List ℕ)
-namesIn ws ts es = map (entryName ts) (entriesOf ws es)
+abbrev pub names_in : List ℕ → List ℕ → Entries → List (List ℕ)
+names_in ws ts es = map (entry_name ts) (entries_of ws es)
 
-abbrev pub membersIn : List ℕ → List ℕ → Entries → List (List ℕ × ℕ)
-membersIn ws ts es = map (entryMember ts) (entriesOf ws es)
+abbrev pub members_in : List ℕ → List ℕ → Entries → List (List ℕ × ℕ)
+members_in ws ts es = map (entry_member ts) (entries_of ws es)
 
-abbrev pub clauseMeans : List ℕ → List ℕ → Clause → R.Clause
-clauseMeans ws ts Never = R.asserts R.never
-clauseMeans ws ts (Types mask) = R.asserts (R.type mask)
-clauseMeans ws ts (Enum es) = R.asserts (R.enum (valuesIn ws ts es))
-clauseMeans ws ts (Minimum d) = R.asserts (R.minimum (value d))
-clauseMeans ws ts (Maximum d) = R.asserts (R.maximum (value d))
-clauseMeans ws ts (ExclusiveMinimum d) = R.asserts (R.exclusiveMinimum (value d))
-clauseMeans ws ts (ExclusiveMaximum d) = R.asserts (R.exclusiveMaximum (value d))
-clauseMeans ws ts (MultipleOf d) = R.asserts (R.multipleOf (value d))
-clauseMeans ws ts (MinLength n) = R.asserts (R.minLength n)
-clauseMeans ws ts (MaxLength n) = R.asserts (R.maxLength n)
-clauseMeans ws ts (MinItems n) = R.asserts (R.minItems n)
-clauseMeans ws ts (MaxItems n) = R.asserts (R.maxItems n)
-clauseMeans ws ts (MinProperties n) = R.asserts (R.minProperties n)
-clauseMeans ws ts (MaxProperties n) = R.asserts (R.maxProperties n)
-clauseMeans ws ts (Required es) = R.asserts (R.required (namesIn ws ts es))
-clauseMeans ws ts (AllOf es) = R.inPlace R.all_of (schemasIn ws es)
-clauseMeans ws ts (AnyOf es) = R.inPlace R.any_of (schemasIn ws es)
-clauseMeans ws ts (OneOf es) = R.inPlace R.one_of (schemasIn ws es)
-clauseMeans ws ts (Not row) = R.inPlace R.notOf (row.0 ∷ [])
-clauseMeans ws ts (Ref row) = R.inPlace R.ref (row.0 ∷ [])
-clauseMeans ws ts (IfThenElse es) = R.ifThenElse (entryIn ws es 0).first (entryIn ws es 1).first (entryIn ws es 2).first
-clauseMeans ws ts (DependentSchemas es) = R.dependentSchemas (membersIn ws ts es)
-clauseMeans ws ts (Properties es) = R.takes (R.properties (membersIn ws ts es))
-clauseMeans ws ts (AdditionalProperties row) = R.takes (R.additionalProperties row.0)
-clauseMeans ws ts (PrefixItems es) = R.takes (R.prefixItems (schemasIn ws es))
-clauseMeans ws ts (Items row) = R.takes (R.items row.0)
-clauseMeans ws ts (Contains es) = R.contains (entryIn ws es 0).first (entryIn ws es 0).second (entryIn ws es 0).third
-clauseMeans ws ts (UnevaluatedProperties row) = R.takes (R.unevaluatedProperties row.0)
-clauseMeans ws ts (UnevaluatedItems row) = R.takes (R.unevaluatedItems row.0)
+abbrev pub clause_means : List ℕ → List ℕ → Clause → R.Clause
+clause_means ws ts Never = R.asserts R.never
+clause_means ws ts (Types mask) = R.asserts (R.type mask)
+clause_means ws ts (Enum es) = R.asserts (R.enum (values_in ws ts es))
+clause_means ws ts (Minimum d) = R.asserts (R.minimum (value d))
+clause_means ws ts (Maximum d) = R.asserts (R.maximum (value d))
+clause_means ws ts (ExclusiveMinimum d) = R.asserts (R.exclusive_minimum (value d))
+clause_means ws ts (ExclusiveMaximum d) = R.asserts (R.exclusive_maximum (value d))
+clause_means ws ts (MultipleOf d) = R.asserts (R.multiple_of (value d))
+clause_means ws ts (MinLength n) = R.asserts (R.min_length n)
+clause_means ws ts (MaxLength n) = R.asserts (R.max_length n)
+clause_means ws ts (MinItems n) = R.asserts (R.min_items n)
+clause_means ws ts (MaxItems n) = R.asserts (R.max_items n)
+clause_means ws ts (MinProperties n) = R.asserts (R.min_properties n)
+clause_means ws ts (MaxProperties n) = R.asserts (R.max_properties n)
+clause_means ws ts (Required es) = R.asserts (R.required (names_in ws ts es))
+clause_means ws ts (AllOf es) = R.in_place R.all_of (schemas_in ws es)
+clause_means ws ts (AnyOf es) = R.in_place R.any_of (schemas_in ws es)
+clause_means ws ts (OneOf es) = R.in_place R.one_of (schemas_in ws es)
+clause_means ws ts (Not row) = R.in_place R.not_of (row.0 ∷ [])
+clause_means ws ts (Ref row) = R.in_place R.ref (row.0 ∷ [])
+clause_means ws ts (IfThenElse es) = R.if_then_else (entry_in ws es 0).first (entry_in ws es 1).first (entry_in ws es 2).first
+clause_means ws ts (DependentSchemas es) = R.dependent_schemas (members_in ws ts es)
+clause_means ws ts (Properties es) = R.takes (R.properties (members_in ws ts es))
+clause_means ws ts (AdditionalProperties row) = R.takes (R.additional_properties row.0)
+clause_means ws ts (PrefixItems es) = R.takes (R.prefix_items (schemas_in ws es))
+clause_means ws ts (Items row) = R.takes (R.items row.0)
+clause_means ws ts (Contains es) = R.contains (entry_in ws es 0).first (entry_in ws es 0).second (entry_in ws es 0).third
+clause_means ws ts (UnevaluatedProperties row) = R.takes (R.unevaluated_properties row.0)
+clause_means ws ts (UnevaluatedItems row) = R.takes (R.unevaluated_items row.0)
 
 -- ---- what the tests of the sheet say of a clause
 
@@ -128,7 +128,7 @@ abbrev pub Listed : List ℕ → Held → Type 0
 Listed ws bare = Unit
 Listed ws (number d) = Unit
 Listed ws (schema row) = Unit
-Listed ws (list fields es) = (i : ℕ) → i < es.count → entryOk fields (textWord ws) (schemasWord ws) (entry_at ws (es.first + i)) ≡ true
+Listed ws (list fields es) = (i : ℕ) → i < es.count → entry_ok fields (text_word ws) (schemas_word ws) (entry_at ws (es.first + i)) ≡ true
 
 -- how many entries lists of these fields have, where that is fixed
 abbrev pub SizedBy : Fields → ℕ → Type 0
@@ -165,17 +165,17 @@ abbrev pub Holds : Fields → ℕ → ℕ → Held → Type 0
 Holds fields first count bare = Unit
 Holds fields first count (number d) = OfWord first count d × ((fields ≡ Number) ⊎ (fields ≡ Positive))
 Holds fields first count (schema row) = (row.0 ≡ first) × (fields ≡ Schema)
-Holds fields first count (list named es) = (es.first ≡ first) × (es.count ≡ count) × (named ≡ fields) × (isList fields ≡ true)
+Holds fields first count (list named es) = (es.first ≡ first) × (es.count ≡ count) × (named ≡ fields) × (is_list fields ≡ true)
 
 -- and it means what its code's line makes of them, whatever the entries and the text
 pub record Decoded (code first count : ℕ) (clause : Clause) : Type 0 where
-  pub means : (ws ts : List ℕ) → clauseMeans ws ts clause ≡ meansOf code (parts_of ws ts first count)
+  pub means : (ws ts : List ℕ) → clause_means ws ts clause ≡ means_of code (parts_of ws ts first count)
   pub holds : Holds (shape_of code).fields first count (held clause)
 
 -- ---- what is read of a list
 
 -- the range that is read as the name of item i of a list: its bytes, and that a list of names has them within the text
 pub record EntryNameRead (ws : List ℕ) (es : Entries) (i : ℕ) (r : Range) : Type 0 where
-  pub name-is : (ts : List ℕ) → part ts r ≡ get_or (namesIn ws ts es) i []
-  pub member_is : (ts : List ℕ) → part ts r ≡ (get_or (membersIn ws ts es) i ([], 0)).0
-  pub name-fits : (fields : Fields) → isNamed fields ≡ true → Listed ws (list fields es) → fits (textWord ws) r ≡ true
+  pub name_is : (ts : List ℕ) → part ts r ≡ get_or (names_in ws ts es) i []
+  pub member_is : (ts : List ℕ) → part ts r ≡ (get_or (members_in ws ts es) i ([], 0)).0
+  pub name_fits : (fields : Fields) → is_named fields ≡ true → Listed ws (list fields es) → fits (text_word ws) r ≡ true

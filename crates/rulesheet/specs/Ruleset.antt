@@ -11,29 +11,29 @@ pub data Test : Type 0 where
   never : Test
   type : ℕ → Test
   enum : List Value → Test
-  minimum maximum exclusiveMinimum exclusiveMaximum multipleOf : ℤ → Test
-  minLength maxLength minItems maxItems minProperties maxProperties : ℕ → Test
+  minimum maximum exclusive_minimum exclusive_maximum multiple_of : ℤ → Test
+  min_length max_length min_items max_items min_properties max_properties : ℕ → Test
   required : List (List ℕ) → Test
 
 -- how the results of schemas on the row itself are joined
 pub data Mode : Type 0 where
-  all_of any_of one_of notOf ref : Mode
+  all_of any_of one_of not_of ref : Mode
 
 -- which children of the row are taken, with which schemas
 pub data Reach : Type 0 where
   properties : List (List ℕ × ℕ) → Reach
-  additionalProperties : ℕ → Reach
-  prefixItems : List ℕ → Reach
+  additional_properties : ℕ → Reach
+  prefix_items : List ℕ → Reach
   items : ℕ → Reach
-  unevaluatedProperties unevaluatedItems : ℕ → Reach
+  unevaluated_properties unevaluated_items : ℕ → Reach
 
 pub data Clause : Type 0 where
   asserts : Test → Clause
-  inPlace : Mode → List ℕ → Clause
+  in_place : Mode → List ℕ → Clause
   -- the condition, and the schemas for where it holds and where it fails
-  ifThenElse : ℕ → ℕ → ℕ → Clause
+  if_then_else : ℕ → ℕ → ℕ → Clause
   -- names, each with the schema for objects that have it
-  dependentSchemas : List (List ℕ × ℕ) → Clause
+  dependent_schemas : List (List ℕ × ℕ) → Clause
   -- a schema for elements, and how many must hold at least and at most
   contains : ℕ → ℕ → ℕ → Clause
   takes : Reach → Clause
@@ -44,27 +44,27 @@ pub record Ruleset : Type 0 where
 -- the schemas that a clause applies to the row itself: its unguarded steps
 abbrev pub unguarded : Clause → List ℕ
 unguarded (asserts test) = []
-unguarded (inPlace mode schemas) = schemas
-unguarded (ifThenElse i t e) = i ∷ t ∷ e ∷ []
-unguarded (dependentSchemas members) = map (λ m. m.1) members
+unguarded (in_place mode schemas) = schemas
+unguarded (if_then_else i t e) = i ∷ t ∷ e ∷ []
+unguarded (dependent_schemas members) = map (λ m. m.1) members
 unguarded (contains schema least most) = []
 unguarded (takes reach) = []
 
 -- those that it applies to children
 abbrev pub guarded : Reach → List ℕ
 guarded (properties members) = map (λ m. m.1) members
-guarded (additionalProperties schema) = schema ∷ []
-guarded (prefixItems schemas) = schemas
+guarded (additional_properties schema) = schema ∷ []
+guarded (prefix_items schemas) = schemas
 guarded (items schema) = schema ∷ []
-guarded (unevaluatedProperties schema) = schema ∷ []
-guarded (unevaluatedItems schema) = schema ∷ []
+guarded (unevaluated_properties schema) = schema ∷ []
+guarded (unevaluated_items schema) = schema ∷ []
 
 -- all the schemas that a clause names
 abbrev pub named : Clause → List ℕ
 named (asserts test) = []
-named (inPlace mode schemas) = schemas
-named (ifThenElse i t e) = i ∷ t ∷ e ∷ []
-named (dependentSchemas members) = map (λ m. m.1) members
+named (in_place mode schemas) = schemas
+named (if_then_else i t e) = i ∷ t ∷ e ∷ []
+named (dependent_schemas members) = map (λ m. m.1) members
 named (contains schema least most) = schema ∷ []
 named (takes reach) = guarded reach
 

@@ -2,56 +2,56 @@
 -- Words before schema 0 change nothing.
 -- Assumes nothing.
 use Rattle.std.specs.Prelude.{cond, List, [], ◌∷◌, map, ℕ, zero, suc, ◌+◌, ◌-◌, ◌*◌, ltb, length, get_or}
-use Rattle.sheet.specs.Record.{fromEnd}
+use Rattle.sheet.specs.Record.{from_end}
 use Rattle.rulesheet.specs.declared.form.SchemaRow.{SchemaRow}
 use Rattle.rulesheet.specs.declared.form.ClauseRow.{ClauseRow}
 use Rattle.rulesheet.specs.declared.form.EntryRow.{EntryRow}
 use Rattle.rulesheet.specs.declared.form.RuleForm.{RuleForm}
 use Rattle.rulesheet.specs.Ruleset.{Clause, Ruleset, unguarded, next}
-use Rattle.rulesheet.specs.Codes.{Parts, meansOf}
+use Rattle.rulesheet.specs.Codes.{Parts, means_of}
 
-abbrev pub trailer-words : ℕ
-trailer-words = 6
+abbrev pub trailer_words : ℕ
+trailer_words = 6
 
-abbrev pub schema-words : ℕ
-schema-words = 2
+abbrev pub schema_words : ℕ
+schema_words = 2
 
-abbrev pub clause-words : ℕ
-clause-words = 3
+abbrev pub clause_words : ℕ
+clause_words = 3
 
-abbrev pub entry-words : ℕ
-entry-words = 3
+abbrev pub entry_words : ℕ
+entry_words = 3
 
 -- ---- the trailer, by name
 
-abbrev pub schemasWord : List ℕ → ℕ
-schemasWord ws = fromEnd ws 6
+abbrev pub schemas_word : List ℕ → ℕ
+schemas_word ws = from_end ws 6
 
-abbrev pub clausesWord : List ℕ → ℕ
-clausesWord ws = fromEnd ws 5
+abbrev pub clauses_word : List ℕ → ℕ
+clauses_word ws = from_end ws 5
 
-abbrev pub entriesWord : List ℕ → ℕ
-entriesWord ws = fromEnd ws 4
+abbrev pub entries_word : List ℕ → ℕ
+entries_word ws = from_end ws 4
 
-abbrev pub backWord : List ℕ → ℕ
-backWord ws = fromEnd ws 3
+abbrev pub back_word : List ℕ → ℕ
+back_word ws = from_end ws 3
 
-abbrev pub textWord : List ℕ → ℕ
-textWord ws = fromEnd ws 2
+abbrev pub text_word : List ℕ → ℕ
+text_word ws = from_end ws 2
 
-abbrev pub kindWord : List ℕ → ℕ
-kindWord ws = fromEnd ws 1
+abbrev pub kind_word : List ℕ → ℕ
+kind_word ws = from_end ws 1
 
 -- where schemas, clauses and entries start, and how many there are
 unfoldable pub form_of : List ℕ → RuleForm
 form_of ws =
     record {
-      schemas = length ws - trailer-words - backWord ws;
-      clauses = length ws - trailer-words - entry-words * entriesWord ws - clause-words * clausesWord ws;
-      entries = length ws - trailer-words - entry-words * entriesWord ws;
-      m = schemasWord ws;
-      c = clausesWord ws;
-      e = entriesWord ws;
+      schemas = length ws - trailer_words - back_word ws;
+      clauses = length ws - trailer_words - entry_words * entries_word ws - clause_words * clauses_word ws;
+      entries = length ws - trailer_words - entry_words * entries_word ws;
+      m = schemas_word ws;
+      c = clauses_word ws;
+      e = entries_word ws;
     }
 
 -- ---- schemas, clauses and entries, their words by name
@@ -59,14 +59,14 @@ form_of ws =
 abbrev pub word_at : List ℕ → ℕ → ℕ → ℕ → ℕ → ℕ
 word_at ws start width k i = get_or ws (start + width * k + i) 0
 
-unfoldable pub schemaAt : List ℕ → ℕ → SchemaRow
-schemaAt ws s = let word = word_at ws (form_of ws).schemas schema-words s in record { first = word 0; count = word 1 }
+unfoldable pub schema_at : List ℕ → ℕ → SchemaRow
+schema_at ws s = let word = word_at ws (form_of ws).schemas schema_words s in record { first = word 0; count = word 1 }
 
-unfoldable pub clauseAt : List ℕ → ℕ → ClauseRow
-clauseAt ws k = let word = word_at ws (form_of ws).clauses clause-words k in record { code = word 0; first = word 1; count = word 2 }
+unfoldable pub clause_at : List ℕ → ℕ → ClauseRow
+clause_at ws k = let word = word_at ws (form_of ws).clauses clause_words k in record { code = word 0; first = word 1; count = word 2 }
 
 unfoldable pub entry_at : List ℕ → ℕ → EntryRow
-entry_at ws x = let word = word_at ws (form_of ws).entries entry-words x in record { first = word 0; second = word 1; third = word 2 }
+entry_at ws x = let word = word_at ws (form_of ws).entries entry_words x in record { first = word 0; second = word 1; third = word 2 }
 
 -- ---- the rules that the words and the text stand for
 
@@ -79,20 +79,20 @@ run (suc many) from = from ∷ run many (from + 1)
 abbrev pub parts_of : List ℕ → List ℕ → ℕ → ℕ → Parts
 parts_of ws ts first count = record { text = ts; first = first; count = count; entries = map (entry_at ws) (run count first) }
 
-unfoldable pub clauseOf : List ℕ → List ℕ → ℕ → Clause
-clauseOf ws ts k = let row = clauseAt ws k in meansOf row.code (parts_of ws ts row.first row.count)
+unfoldable pub clause_of : List ℕ → List ℕ → ℕ → Clause
+clause_of ws ts k = let row = clause_at ws k in means_of row.code (parts_of ws ts row.first row.count)
 
 -- past the schemas there are no clauses
-unfoldable pub rulesOf : List ℕ → List ℕ → Ruleset
-rulesOf ws ts =
+unfoldable pub rules_of : List ℕ → List ℕ → Ruleset
+rules_of ws ts =
     record {
-      clauses = λ s. let row = schemaAt ws s in let all = map (clauseOf ws ts) (run row.count row.first) in cond (ltb s (schemasWord ws)) all [];
+      clauses = λ s. let row = schema_at ws s in let all = map (clause_of ws ts) (run row.count row.first) in cond (ltb s (schemas_word ws)) all [];
     }
 
 -- the schemas that clause k reaches unguarded; the text does not matter for them
-unfoldable pub targetsOf : List ℕ → ℕ → List ℕ
-targetsOf ws k = unguarded (clauseOf ws [] k)
+unfoldable pub targets_of : List ℕ → ℕ → List ℕ
+targets_of ws k = unguarded (clause_of ws [] k)
 
 -- those that schema s reaches
 unfoldable pub next_of : List ℕ → ℕ → List ℕ
-next_of ws s = next (rulesOf ws []) s
+next_of ws s = next (rules_of ws []) s

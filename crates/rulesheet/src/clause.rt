@@ -4,14 +4,14 @@ use decimal::Decimal;
 use sheet::record::RuleRow;
 
 // The entries of a list clause: `count` of them from `first` on.
-#[derive(Drop)]
+#[derive(Clone, Copy)]
 pub struct Entries {
     pub first: u32,
     pub count: u32,
 }
 
 // A clause by its keyword. `Types` is the keyword `type`, with its mask.
-#[derive(Drop)]
+#[derive(Clone, Copy)]
 pub enum Clause {
     Never,
     Types(u32),

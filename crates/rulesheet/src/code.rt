@@ -1,10 +1,10 @@
 // What belongs to a code: its shape. `specs/Codes.antt` has 01's table, and `rulecodes` tells a code's
 // shape by it.
 ghost use Rattle.std.specs.Prelude.{◌≡◌};
-ghost use Rattle.rulesheet.specs.Faults.{isList, isNamed};
+ghost use Rattle.rulesheet.specs.Faults.{is_list, is_named};
 
 // What a clause's first and count are, or what the entries are that they name.
-#[derive(Drop)]
+#[derive(Clone, Copy)]
 pub enum Fields {
     Unknown,
     Bare,
@@ -23,7 +23,7 @@ pub enum Fields {
 
 // A code's fields, how many entries it has at least and at most, and whether it applies its schemas to
 // the row itself.
-#[derive(Drop)]
+#[derive(Clone, Copy)]
 pub struct Shape {
     pub fields: Fields,
     pub least: u32,
@@ -34,7 +34,7 @@ pub struct Shape {
 impl Fields {
     // Whether the fields are a list of entries.
     pub fn is_list(self) -> bool
-        ensures { result ≡ isList self }
+        ensures { result ≡ is_list self }
     {
         match self {
             Fields::Unknown => false,
@@ -55,7 +55,7 @@ impl Fields {
 
     // Whether they are a list of things with names, each of which may stand once only.
     pub fn is_named(self) -> bool
-        ensures { result ≡ isNamed self }
+        ensures { result ≡ is_named self }
     {
         match self {
             Fields::Unknown => false,

@@ -1,13 +1,13 @@
 // The schemas, clauses and entries of a rule sheet, their words by name.
 ghost use Rattle.std.specs.Prelude.{true, ◌≡◌, ◌<◌};
-ghost use Rattle.rulesheet.specs.Sheet.{form_of, schemaAt, clauseAt, entry_at};
-ghost use Rattle.rulesheet.specs.Faults.{wordsOk};
+ghost use Rattle.rulesheet.specs.Sheet.{form_of, schema_at, clause_at, entry_at};
+ghost use Rattle.rulesheet.specs.Faults.{words_ok};
 ghost use Rattle.rulesheet.specs.Read.{RulesFormed};
 
 use sheet::record::{RuleRow, wide};
 
 // Where schemas, clauses and entries start among the words, and how many there are.
-#[derive(Drop)]
+#[derive(Clone, Copy)]
 pub struct RuleForm {
     pub schemas: usize,
     pub clauses: usize,
@@ -18,20 +18,20 @@ pub struct RuleForm {
 }
 
 // A schema's clauses: `count` of them from `first` on.
-#[derive(Drop)]
+#[derive(Clone, Copy)]
 pub struct SchemaRow {
     pub first: u32,
     pub count: u32,
 }
 
-#[derive(Drop)]
+#[derive(Clone, Copy)]
 pub struct ClauseRow {
     pub code: u32,
     pub first: u32,
     pub count: u32,
 }
 
-#[derive(Drop)]
+#[derive(Clone, Copy)]
 pub struct EntryRow {
     pub first: u32,
     pub second: u32,
@@ -56,7 +56,7 @@ impl RuleForm {
 
     // The form of words whose trailer is in order.
     pub fn of(words: &[u32]) -> RuleForm
-        requires { wordsOk words.now ≡ true }
+        requires { words_ok words.now ≡ true }
         ensures { result ≡ form_of words.now }
     {
         let size = words.len();
@@ -78,7 +78,7 @@ impl RuleForm {
 // The schema's words.
 pub fn schema_at(words: &[u32], form: RuleForm, schema: RuleRow) -> SchemaRow
     requires { RulesFormed words.now form × (schema.0 < form.m) }
-    ensures { result ≡ schemaAt words.now schema.0 }
+    ensures { result ≡ schema_at words.now schema.0 }
 {
     let at = form.schemas + RuleForm::SCHEMA_WORDS * wide(schema.0);
     SchemaRow {
@@ -90,7 +90,7 @@ pub fn schema_at(words: &[u32], form: RuleForm, schema: RuleRow) -> SchemaRow
 // The words of clause k.
 pub fn clause_at(words: &[u32], form: RuleForm, k: u32) -> ClauseRow
     requires { RulesFormed words.now form × (k < form.c) }
-    ensures { result ≡ clauseAt words.now k }
+    ensures { result ≡ clause_at words.now k }
 {
     let at = form.clauses + RuleForm::CLAUSE_WORDS * wide(k);
     ClauseRow {

@@ -5,6 +5,8 @@
 //
 // Its contracts, and those of these crates, cite specs/, in reading order: `Ruleset`, `Codes`, `Sheet`,
 // `Faults`, `Read`, `Clauses`.
+#![tactic(auto)]
+
 pub mod clause;
 pub mod code;
 pub mod form;

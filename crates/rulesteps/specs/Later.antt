@@ -10,13 +10,13 @@ unit true = 1
 unit false = 0
 
 -- the schema of an entry, which has a name or not
-abbrev pub schemaIn : Bool → EntryRow → ℕ
-schemaIn true entry = entry.third
-schemaIn false entry = entry.first
+abbrev pub schema_in : Bool → EntryRow → ℕ
+schema_in true entry = entry.third
+schema_in false entry = entry.first
 
 -- the schemas of these entries stand after s
 pub record AllLater (ws : List ℕ) (named : Bool) (s first end : ℕ) : Type 0 where
-  pub later : (x : ℕ) → first ≤ x → x < end → s < schemaIn named (entry_at ws x)
+  pub later : (x : ℕ) → first ≤ x → x < end → s < schema_in named (entry_at ws x)
 
 -- one more than `steps` if the clause has steps, and then they lead to later schemas; from `chain_steps` on nothing is told
 pub record Counted (unguarded : Bool) (later : Type 0) (steps r : ℕ) : Type 0 where

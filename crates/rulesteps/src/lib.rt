@@ -1,9 +1,11 @@
 // How many clauses of a rule sheet had steps, as long as each step led to a later schema. Contracts
 // cite `specs/Later.antt`.
+#![tactic(auto)]
+
 ghost use Rattle.std.specs.Prelude.{true, ◌≡◌, ◌≤◌, ◌<◌};
-ghost use Rattle.rulesheet.specs.Faults.{isNamed};
+ghost use Rattle.rulesheet.specs.Faults.{is_named};
 ghost use Rattle.rulesheet.specs.Read.{RulesFormed};
-ghost use Rattle.rulesteps.specs.Later.{schemaIn, AllLater, Counted};
+ghost use Rattle.rulesteps.specs.Later.{schema_in, AllLater, Counted};
 
 use rulesheet::code::Fields;
 use rulesheet::form::{EntryRow, RuleForm, entry_at};
@@ -15,7 +17,7 @@ pub const MANY: u32 = 32;
 
 // The schema of an entry, which has a name or not.
 fn schema_in(named: bool, entry: EntryRow) -> u32
-    ensures { result ≡ schemaIn named entry }
+    ensures { result ≡ schema_in named entry }
 {
     if named { entry.third } else { entry.first }
 }
@@ -61,7 +63,7 @@ pub fn after_list(
     steps: u32,
 ) -> u32
     requires { RulesFormed words.now form × (end ≤ form.e) }
-    ensures { Counted unguarded (AllLater words.now (isNamed fields) s.0 first end) steps result }
+    ensures { Counted unguarded (AllLater words.now (is_named fields) s.0 first end) steps result }
 {
     if !unguarded {
         return steps;

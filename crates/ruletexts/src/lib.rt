@@ -1,11 +1,13 @@
 // Refusal 13 of a rule sheet: an entry whose name or, of an enum, whose string is not UTF-8.
 //
 // Contracts cite `rulesheet`'s `Faults` and `Read`, and `specs/Ranges.antt`.
+#![tactic(auto)]
+
 ghost use Rattle.std.specs.Prelude.{true, ◌≡◌, ◌<◌, length};
-ghost use Rattle.laws.specs.Lowest.{lowest, lowestFrom};
+ghost use Rattle.laws.specs.Lowest.{lowest, lowest_from};
 ghost use Rattle.reach.specs.Reach.{Known, places};
-ghost use Rattle.rulesheet.specs.Sheet.{entriesWord, textWord, clauseAt};
-ghost use Rattle.rulesheet.specs.Faults.{isList, fields_at, notUtf8};
+ghost use Rattle.rulesheet.specs.Sheet.{entries_word, text_word, clause_at};
+ghost use Rattle.rulesheet.specs.Faults.{is_list, fields_at, not_utf8};
 ghost use Rattle.rulesheet.specs.Read.{RulesLaid};
 ghost use Rattle.ruletexts.specs.Ranges.{StringRange, TextRange};
 
@@ -63,9 +65,9 @@ fn text_range(fields: Fields, entry: EntryRow) -> Range
 
 // The lowest entry of clause k, which is a list, whose text is not UTF-8, or where they end.
 fn first_in(words: &[u32], text: &[u8], form: RuleForm, memo: &[u32], whole: bool, k: u32) -> u32
-    requires rules_laid { RulesLaid words.now form × (length text.now ≡ textWord words.now) × Known text.now memo.now whole }
-    requires k_lt_c { (k < form.c) × (isList (fields_at words.now k) ≡ true) }
-    ensures { result ≡ lowestFrom (notUtf8 words.now text.now) (clauseAt words.now k).count (clauseAt words.now k).first }
+    requires rules_laid { RulesLaid words.now form × (length text.now ≡ text_word words.now) × Known text.now memo.now whole }
+    requires k_lt_c { (k < form.c) × (is_list (fields_at words.now k) ≡ true) }
+    ensures { result ≡ lowest_from (not_utf8 words.now text.now) (clause_at words.now k).count (clause_at words.now k).first }
 {
     let clause = clause_at(words, form, k);
     let shape = shape_of(clause.code);
@@ -84,8 +86,8 @@ fn first_in(words: &[u32], text: &[u8], form: RuleForm, memo: &[u32], whole: boo
 
 // The lowest such entry of all the clauses, or the number of entries.
 fn first_by(words: &[u32], text: &[u8], form: RuleForm, memo: &[u32], whole: bool) -> u32
-    requires { RulesLaid words.now form × (length text.now ≡ textWord words.now) × Known text.now memo.now whole }
-    ensures { result ≡ lowest (notUtf8 words.now text.now) (entriesWord words.now) }
+    requires { RulesLaid words.now form × (length text.now ≡ text_word words.now) × Known text.now memo.now whole }
+    ensures { result ≡ lowest (not_utf8 words.now text.now) (entries_word words.now) }
 {
     let c = form.c;
     let mut k = 0;
@@ -107,8 +109,8 @@ fn first_by(words: &[u32], text: &[u8], form: RuleForm, memo: &[u32], whole: boo
 // The lowest entry that names a text range that is not UTF-8, or the number of entries. A text of
 // ASCII settles all ranges at once.
 pub fn first_not_utf8(words: &[u32], text: &[u8], form: RuleForm) -> u32
-    requires { RulesLaid words.now form × (length text.now ≡ textWord words.now) × (length text.now < places) }
-    ensures { result ≡ lowest (notUtf8 words.now text.now) (entriesWord words.now) }
+    requires { RulesLaid words.now form × (length text.now ≡ text_word words.now) × (length text.now < places) }
+    ensures { result ≡ lowest (not_utf8 words.now text.now) (entries_word words.now) }
 {
     if is_ascii(text) {
         return form.e;

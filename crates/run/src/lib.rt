@@ -1,12 +1,14 @@
 // The run after both checks: the cells are cleared, the root pair is judged, its marks are counted.
 //
 // The contracts cite `specs/Whole.antt`, and of the root pair `specs/State.antt` of `progress`.
+#![tactic(auto)]
+
 ghost use Rattle.std.specs.Prelude.{◌≡◌, ◌+◌};
-ghost use Rattle.areas.specs.Cells.{pairIs, Unsettled};
-ghost use Rattle.lent.specs.Lent.{Lent, lentCase, Sheets, case_of, wayBy};
-ghost use Rattle.meaning.specs.Answer.{listRoom};
+ghost use Rattle.areas.specs.Cells.{pair_is, Unsettled};
+ghost use Rattle.lent.specs.Lent.{Lent, lent_case, Sheets, case_of, way_by};
+ghost use Rattle.meaning.specs.Answer.{list_room};
 ghost use Rattle.progress.specs.State.{rank_of, Ready, Judged};
-ghost use Rattle.run.specs.Whole.{Exact, Roomy, leftBy, judgedOf};
+ghost use Rattle.run.specs.Whole.{Exact, Roomy, left_by, judged_of};
 
 use areas::clear;
 use columns::marked_of;
@@ -19,7 +21,7 @@ use trying::plain;
 
 // What judging a record gives: whether it is valid, how many pairs are settled, and how many
 // children of the root are marked.
-#[derive(Drop)]
+#[derive(Clone, Copy)]
 pub struct Verdict {
     pub ok: bool,
     pub count: usize,
@@ -28,7 +30,7 @@ pub struct Verdict {
 
 // How many places of the list are asked, for so many pairs: none if judging is cut.
 pub fn list_room(pairs: usize, cut: bool) -> usize
-    ensures { result ≡ listRoom (wayBy cut) pairs }
+    ensures { result ≡ list_room (way_by cut) pairs }
 {
     if cut { 0 } else { pairs }
 }
@@ -43,9 +45,9 @@ fn judge_root<'a, 'b>(
     p: Pair,
 ) -> usize
     requires lent { Lent sheets.now texts.now forms.now }
-    requires ready { Ready (lentCase sheets.now texts.now forms.now) (rank_of (lentCase sheets.now texts.now forms.now) (pairIs p) + 1) (pairIs p) cells.old list.old 0 }
-    requires unsettled { Unsettled (lentCase sheets.now texts.now forms.now).m (pairIs p) cells.old }
-    ensures { Judged (lentCase sheets.now texts.now forms.now) (pairIs p) cells.old list.old 0 cells.new list.new result }
+    requires ready { Ready (lent_case sheets.now texts.now forms.now) (rank_of (lent_case sheets.now texts.now forms.now) (pair_is p) + 1) (pair_is p) cells.old list.old 0 }
+    requires unsettled { Unsettled (lent_case sheets.now texts.now forms.now).m (pair_is p) cells.old }
+    ensures { Judged (lent_case sheets.now texts.now forms.now) (pair_is p) cells.old list.old 0 cells.new list.new result }
 {
     let many = clauses_of(sheets[RULES], forms, p.rule);
     let passed = plain(sheets, texts, forms, cells, p, many);
@@ -65,8 +67,8 @@ fn run_exact<'a>(
     cut: bool,
 ) -> Verdict
     requires sheets { Sheets «record».now text.now rules.now rule_text.now form rule_form }
-    requires exact { Exact (case_of (wayBy cut) «record».now text.now rules.now rule_text.now) cells.old list.old }
-    ensures { leftBy result cells.new list.new ≡ judgedOf (case_of (wayBy cut) «record».now text.now rules.now rule_text.now) cells.old list.old }
+    requires exact { Exact (case_of (way_by cut) «record».now text.now rules.now rule_text.now) cells.old list.old }
+    ensures { left_by result cells.new list.new ≡ judged_of (case_of (way_by cut) «record».now text.now rules.now rule_text.now) cells.old list.old }
 {
     clear(cells);
     let sheets = [record, rules];
@@ -100,8 +102,8 @@ pub fn run<'a>(
     cut: bool,
 ) -> Verdict
     requires sheets { Sheets «record».now text.now rules.now rule_text.now form rule_form }
-    requires roomy { Roomy (case_of (wayBy cut) «record».now text.now rules.now rule_text.now) cells.old list.old }
-    ensures { leftBy result cells.new list.new ≡ judgedOf (case_of (wayBy cut) «record».now text.now rules.now rule_text.now) cells.old list.old }
+    requires roomy { Roomy (case_of (way_by cut) «record».now text.now rules.now rule_text.now) cells.old list.old }
+    ensures { left_by result cells.new list.new ≡ judged_of (case_of (way_by cut) «record».now text.now rules.now rule_text.now) cells.old list.old }
 {
     let k = wide(form.rows) * wide(rule_form.m);
     run_exact(

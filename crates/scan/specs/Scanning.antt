@@ -3,8 +3,8 @@
 -- Assumes nothing.
 use Rattle.std.specs.Prelude.{false, List, ◌≢◌, ◌≡◌, ℕ, suc, ◌≤◌, ◌<◌, length, get_or, drop, replicate}
 use Rattle.std.proofs.Math.Option.{none, some}
-use Rattle.json.specs.Automaton.{State, at, step}
-use Rattle.grammar.specs.Codes.{placeAt, dead}
+use Rattle.jsontext.specs.Automaton.{State, at, step}
+use Rattle.grammar.specs.Codes.{place_at, dead}
 use Rattle.brackets.specs.Brackets.{brackets, Fits}
 use Rattle.survey.specs.Bounds.{Sound}
 use Rattle.survey.specs.Watching.{watch, watching}
@@ -39,15 +39,15 @@ at_start =
     }
 
 pub record Blank (a : Areas) : Type 0 where
-  pub values-blank : a.values ≡ replicate levels 0
-  pub texts-blank : a.texts ≡ replicate levels 0
-  pub objects-blank : a.objects ≡ replicate Gathering.levels 0
+  pub values_blank : a.values ≡ replicate levels 0
+  pub texts_blank : a.texts ≡ replicate levels 0
+  pub objects_blank : a.objects ≡ replicate Gathering.levels 0
 
 abbrev pub state_of : Scan → State
-state_of p = at (placeAt p.place) (brackets p.opened)
+state_of p = at (place_at p.place) (brackets p.opened)
 
-abbrev pub tallyIn : Scan → Areas → Tally
-tallyIn p a = tally_of p.units a.values a.texts
+abbrev pub tally_in : Scan → Areas → Tally
+tally_in p a = tally_of p.units a.values a.texts
 
 -- what is asked before byte i
 pub record Ready (i : ℕ) (p : Scan) (a : Areas) : Type 0 where
@@ -56,8 +56,8 @@ pub record Ready (i : ℕ) (p : Scan) (a : Areas) : Type 0 where
   pub shallow : p.opened.depth < 62
   pub sound : Sound p.watch
   pub values_low : UpTo most a.values
-  pub texts-low : UpTo most a.texts
-  pub names-low : Names.Sound i p.gathered a.objects
+  pub texts_low : UpTo most a.texts
+  pub names_low : Names.Sound i p.gathered a.objects
 
 -- byte i of the text is read
 module _ (json : List ℕ) (i : ℕ) (p : Scan) (a : Areas) where
@@ -71,8 +71,8 @@ module _ (json : List ℕ) (i : ℕ) (p : Scan) (a : Areas) where
     pub known : r.place < 50
     pub fits : Fits r.opened
     pub steps : step (state_of p) byte ≡ some (state_of r)
-    pub watched : r.watch ≡ watching (placeAt p.place) (brackets p.opened) byte behind p.watch
-    pub tallied : tallyIn r z ≡ tallying (placeAt p.place) (brackets p.opened) byte behind (tallyIn p a)
+    pub watched : r.watch ≡ watching (place_at p.place) (brackets p.opened) byte behind p.watch
+    pub tallied : tally_in r z ≡ tallying (place_at p.place) (brackets p.opened) byte behind (tally_in p a)
     pub gathered : Names.Within json i p.place (brackets p.opened) a.names a.words a.objects p.gathered z.names z.words z.objects r.gathered
 
   pub data Stepped (r : Scan) (z : Areas) : Type 0 where
@@ -86,14 +86,14 @@ pub record Carried (json : List ℕ) (a₀ : Areas) (i : ℕ) (p : Scan) (a : Ar
   pub fits : Fits p.opened
   pub kept : Kept
   pub trail : Trail json i (state_of p) kept
-  pub watch-is : kept.watch ≡ p.watch
-  pub tally-is : kept.tally ≡ tallyIn p a
-  pub names-are : Names.Held a₀.names a₀.words a.names a.words a.objects p.gathered kept.names
+  pub watch_is : kept.watch ≡ p.watch
+  pub tally_is : kept.tally ≡ tally_in p a
+  pub names_are : Names.Held a₀.names a₀.words a.names a.words a.objects p.gathered kept.names
   pub sound : Sound p.watch
 
 -- the pass halts at the first byte with which no text goes on so, at a fault, once no name is under way, or at the end; far beyond level 33 it would halt too
 pub data Halted (json : List ℕ) (a₀ : Areas) (r : Halt) (a : Areas) : Type 0 where
   broken : {s : State} {x : Kept} → r.scan.place ≡ dead → r.at < length json → Trail json r.at s x → step s (get_or json r.at 0) ≡ none → Halted json a₀ r a
-  at-end : Carried json a₀ r.at r.scan a → r.at ≡ length json → Halted json a₀ r a
-  at-fault : Carried json a₀ r.at r.scan a → r.scan.watch.fault ≢ 0 → r.scan.gathered.on ≡ false → Halted json a₀ r a
+  at_end : Carried json a₀ r.at r.scan a → r.at ≡ length json → Halted json a₀ r a
+  at_fault : Carried json a₀ r.at r.scan a → r.scan.watch.fault ≢ 0 → r.scan.gathered.on ≡ false → Halted json a₀ r a
   deep : Carried json a₀ r.at r.scan a → 62 ≤ r.scan.opened.depth → Halted json a₀ r a

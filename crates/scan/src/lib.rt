@@ -1,7 +1,9 @@
 // The first pass over a JSON text (`specs/Scanning.antt`, which contracts cite): the automaton, what
 // is kept of faults, the counters and the gathered names, byte by byte.
+#![tactic(auto)]
+
 ghost use Rattle.std.specs.Prelude.{cond, ◌≡◌, ◌≤◌, ◌<◌, eqb, length};
-ghost use Rattle.grammar.specs.Codes.{placeAt};
+ghost use Rattle.grammar.specs.Codes.{place_at};
 ghost use Rattle.survey.specs.Bounds.{Sound};
 ghost use Rattle.survey.specs.Watching.{moved};
 ghost use Rattle.naming.specs.Gathering.{nothing_yet};
@@ -18,7 +20,7 @@ use watching::move_on;
 
 // The place in the grammar, 63 where no text goes on so; the open brackets; what is kept of faults;
 // the escape under way, for the counters; the numbers of the gathered names.
-#[derive(Drop)]
+#[derive(Clone, Copy)]
 pub struct Scan {
     pub place: u8,
     pub opened: Open,
@@ -30,7 +32,7 @@ pub struct Scan {
 // What is kept of faults after a byte: after a fault it stays.
 fn watch_on(place: u8, depth: u32, byte: u8, left: usize, s: Watch) -> Watch
     requires { (place < 50) × (depth < 100) × Sound s }
-    ensures { result ≡ cond (eqb s.fault 0) (moved (placeAt place) depth byte left s) s }
+    ensures { result ≡ cond (eqb s.fault 0) (moved (place_at place) depth byte left s) s }
 {
     if s.fault == 0 {
         return move_on(place, depth, byte, left, s);
@@ -80,7 +82,7 @@ fn next(
 }
 
 // Where the pass halts, and what it has come to there.
-#[derive(Drop)]
+#[derive(Clone, Copy)]
 pub struct Halt {
     pub at: usize,
     pub scan: Scan,

@@ -2,14 +2,16 @@
 // container is closed, and the trailer.
 //
 // Contracts cite `placing`'s specs/Desk.antt.
+#![tactic(auto)]
+
 ghost use Rattle.std.specs.Prelude.{◌≡◌, [], ◌∷◌, ◌+◌, ◌*◌, ◌≤◌, ◌<◌, length};
 ghost use Rattle.sheet.specs.Record.{row_words};
-ghost use Rattle.placing.specs.Desk.{rowPut, rowShut, ownerAt, cleared, finished};
+ghost use Rattle.placing.specs.Desk.{row_put, row_shut, owner_at, cleared, finished};
 
 use text::Range;
 
 // The words of a row but for its label.
-#[derive(Drop)]
+#[derive(Clone, Copy)]
 pub struct Content {
     pub kind: u32,
     pub first: u32,
@@ -20,7 +22,7 @@ pub struct Content {
 // Row r of n takes these words.
 pub fn put_row(words: &mut [u32], n: usize, r: usize, row: Content, label: Range)
     requires { row_words * n ≤ length words.old }
-    ensures { words.new ≡ rowPut n words.old r (row.kind ∷ row.first ∷ row.count ∷ row.owner ∷ label.start ∷ label.length ∷ []) }
+    ensures { words.new ≡ row_put n words.old r (row.kind ∷ row.first ∷ row.count ∷ row.owner ∷ label.start ∷ label.length ∷ []) }
 {
     if r >= n {
         return;
@@ -38,7 +40,7 @@ pub fn put_row(words: &mut [u32], n: usize, r: usize, row: Content, label: Range
 // level.
 pub fn shut_row(words: &mut [u32], n: usize, r: usize, next: u32)
     requires { row_words * n ≤ length words.old }
-    ensures { words.new ≡ rowShut n words.old r next }
+    ensures { words.new ≡ row_shut n words.old r next }
 {
     if r >= n {
         return;
@@ -60,7 +62,7 @@ pub fn shut_row(words: &mut [u32], n: usize, r: usize, next: u32)
 // The owner of a row of level k: the last row that was taken one level higher.
 pub fn owner_at(rows: &[u32], k: usize) -> u32
     requires { k < length rows.now }
-    ensures { result ≡ ownerAt k rows.now }
+    ensures { result ≡ owner_at k rows.now }
 {
     if k == 0 {
         return 0;

@@ -1,7 +1,7 @@
 -- The levels of the rows: the equations that a reader expects of `level`, and the table that a loop fills with them from the front.
---     level-root, level-under    the root is at level 1, a row one level below an owner that stands before it
+--     level_root, level_under    the root is at level 1, a row one level below an owner that stands before it
 --     filled                     the table once n rows were passed
---     table-level, table_more    the next row's level, and the table with it
+--     table_level, table_more    the next row's level, and the table with it
 -- Assumes nothing.
 use mathlib.Core.List.{List, [], ◌∷◌, ◌++◌, append_assoc}
 use mathlib.Core.Logic.{⊎_elim}
@@ -12,55 +12,55 @@ use native.Mathlib.Numerals.{add-one}
 use native.Mathlib.Omega.{arith}
 use lib.ListN.{length, get_or, set, replicate, length-append, get_or-replicate, get_or-append, get_or-eq_default}
 use lib.Seq.{get_or_at, set_at, get_or-append-add}
-use Rattle.laws.proofs.Tests.{le-or-lt}
+use Rattle.laws.proofs.Tests.{le_or_lt}
 use Rattle.sheet.specs.Doc.{levels, level}
 
 module _ (owner : ℕ → ℕ) where
-  pub levels-long : (n : ℕ) → length (levels owner n) ≡ n
+  pub levels_long : (n : ℕ) → length (levels owner n) ≡ n
   unfolding levels
-  levels-long zero = refl
-  levels-long (suc n) = simp (length-append, levels-long n) (add-one n)
+  levels_long zero = refl
+  levels_long (suc n) = simp (length-append, levels_long n) (add-one n)
 
   -- the level of row n, from those before it
-  pub level-next : (n : ℕ) → level owner n ≡ get_or (levels owner n) (owner n) 0 + 1
+  pub level_next : (n : ℕ) → level owner n ≡ get_or (levels owner n) (owner n) 0 + 1
   unfolding level levels
-  level-next n = get_or_at (levels owner n) (get_or (levels owner n) (owner n) 0 + 1) [] 0 n (levels-long n)
+  level_next n = get_or_at (levels owner n) (get_or (levels owner n) (owner n) 0 + 1) [] 0 n (levels_long n)
 
-  pub levels-at : (n j : ℕ) → j < n → get_or (levels owner n) j 0 ≡ level owner j
+  pub levels_at : (n j : ℕ) → j < n → get_or (levels owner n) j 0 ≡ level owner j
   unfolding levels
-  levels-at zero j h = absurd (nothing h)
+  levels_at zero j h = absurd (nothing h)
     where
       nothing : j < 0 → ⊥
       nothing l = omega arith
-  levels-at (suc n) j h =
+  levels_at (suc n) j h =
       ⊎_elim
-      (λ (e : j ≡ n). rw e (get_or_at (levels owner n) (get_or (levels owner n) (owner n) 0 + 1) [] 0 n (levels-long n) ∙ sym (level-next n)))
-      (λ (l : j < n). get_or-append (levels owner n) ((get_or (levels owner n) (owner n) 0 + 1) ∷ []) 0 j (rw (levels-long n) l) ∙ levels-at n j l)
-      (eq-or-lt_of_le (less-or-same h))
+      (λ (e : j ≡ n). rw e (get_or_at (levels owner n) (get_or (levels owner n) (owner n) 0 + 1) [] 0 n (levels_long n) ∙ sym (level_next n)))
+      (λ (l : j < n). get_or-append (levels owner n) ((get_or (levels owner n) (owner n) 0 + 1) ∷ []) 0 j (rw (levels_long n) l) ∙ levels_at n j l)
+      (eq-or-lt_of_le (less_or_same h))
     where
-      less-or-same : j < suc n → j ≤ n
-      less-or-same l = omega arith
+      less_or_same : j < suc n → j ≤ n
+      less_or_same l = omega arith
 
-  pub level-root : level owner 0 ≡ 1
+  pub level_root : level owner 0 ≡ 1
   unfolding levels
-  level-root = level-next 0
+  level_root = level_next 0
 
-  pub level-under : (j : ℕ) → owner j < j → level owner j ≡ level owner (owner j) + 1
-  level-under j h = level-next j ∙ ap (λ (l : ℕ). l + 1) (levels-at j (owner j) h)
+  pub level_under : (j : ℕ) → owner j < j → level owner j ≡ level owner (owner j) + 1
+  level_under j h = level_next j ∙ ap (λ (l : ℕ). l + 1) (levels_at j (owner j) h)
 
   -- no level of the first n rows is above n
-  pub levels-small : (n j : ℕ) → get_or (levels owner n) j 0 ≤ n
+  pub levels_small : (n j : ℕ) → get_or (levels owner n) j 0 ≤ n
   unfolding levels
-  levels-small zero j = omega arith
-  levels-small (suc n) j =
+  levels_small zero j = omega arith
+  levels_small (suc n) j =
       ⊎_elim
       (λ (g : n ≤ j).
       ⊎_elim
-      (λ (e : n ≡ j). rw (← e) (rw (get_or_at (levels owner n) (get_or (levels owner n) (owner n) 0 + 1) [] 0 n (levels-long n)) (omega (arith, levels-small n (owner n)))))
-      (λ (l : n < j). rw (get_or-eq_default (levels owner n ++ (get_or (levels owner n) (owner n) 0 + 1) ∷ []) 0 {n = j} (simp (length-append, levels-long n) (omega arith))) (omega arith))
+      (λ (e : n ≡ j). rw (← e) (rw (get_or_at (levels owner n) (get_or (levels owner n) (owner n) 0 + 1) [] 0 n (levels_long n)) (omega (arith, levels_small n (owner n)))))
+      (λ (l : n < j). rw (get_or-eq_default (levels owner n ++ (get_or (levels owner n) (owner n) 0 + 1) ∷ []) 0 {n = j} (simp (length-append, levels_long n) (omega arith))) (omega arith))
       (eq-or-lt_of_le g))
-      (λ (l : j < n). rw (get_or-append (levels owner n) ((get_or (levels owner n) (owner n) 0 + 1) ∷ []) 0 j (rw (levels-long n) l)) (omega (arith, levels-small n j)))
-      (le-or-lt n j)
+      (λ (l : j < n). rw (get_or-append (levels owner n) ((get_or (levels owner n) (owner n) 0 + 1) ∷ []) 0 j (rw (levels_long n) l)) (omega (arith, levels_small n j)))
+      (le_or_lt n j)
 
   -- the table of `size` places once n rows were passed
   abbrev pub filled : ℕ → ℕ → List ℕ
@@ -71,36 +71,36 @@ module _ (owner : ℕ → ℕ) where
   filled_at size n j h g =
       ⊎_elim
       (λ (l : n ≤ j). past l)
-      (λ (l : j < n). get_or-append (levels owner n) (replicate (size - n) 0) 0 j (rw (levels-long n) l))
-      (le-or-lt n j)
+      (λ (l : j < n). get_or-append (levels owner n) (replicate (size - n) 0) 0 j (rw (levels_long n) l))
+      (le_or_lt n j)
     where
       past : n ≤ j → get_or (filled size n) j 0 ≡ get_or (levels owner n) j 0
       past l =
-          let e : j ≡ length (levels owner n) + (j - n) = omega (arith, levels-long n) in
+          let e : j ≡ length (levels owner n) + (j - n) = omega (arith, levels_long n) in
           let r : j - n < size - n = omega arith in
           ap (λ (k : ℕ). get_or (filled size n) k 0) e
           ∙ get_or-append-add (levels owner n) (replicate (size - n) 0) (j - n) 0
           ∙ get_or-replicate (size - n) (j - n) 0 0 r
-          ∙ sym (get_or-eq_default (levels owner n) 0 {n = j} (rw (levels-long n) l))
+          ∙ sym (get_or-eq_default (levels owner n) 0 {n = j} (rw (levels_long n) l))
 
   pub filled_more : (size n : ℕ) → n < size → set (filled size n) n (get_or (levels owner n) (owner n) 0 + 1) ≡ filled size (n + 1)
   unfolding levels
   filled_more size n h =
       let e : size - n ≡ suc (size - suc n) = omega arith in
       rw (add-one n, e)
-      (set_at (levels owner n) 0 (replicate (size - suc n) 0) (get_or (levels owner n) (owner n) 0 + 1) n (levels-long n)
+      (set_at (levels owner n) 0 (replicate (size - suc n) 0) (get_or (levels owner n) (owner n) 0 + 1) n (levels_long n)
       ∙ sym (append_assoc (levels owner n) ((get_or (levels owner n) (owner n) 0 + 1) ∷ []) (replicate (size - suc n) 0)))
 
 -- the next row's level, read from the table at its owner's place i, and the table with it at place k
-module _ (owner : ℕ → ℕ) (size n i k : ℕ) (table : List ℕ) (full : table ≡ filled owner size n) (h : n < size) (o : owner n < size) (at-owner : i ≡ owner n) (at_row : k ≡ n) where
+module _ (owner : ℕ → ℕ) (size n i k : ℕ) (table : List ℕ) (full : table ≡ filled owner size n) (h : n < size) (o : owner n < size) (at_owner : i ≡ owner n) (at_row : k ≡ n) where
   here : get_or table i 0 ≡ get_or (levels owner n) (owner n) 0
-  here = rw (full, at-owner) (filled_at owner size n (owner n) (omega arith) o)
+  here = rw (full, at_owner) (filled_at owner size n (owner n) (omega arith) o)
 
-  pub table-small : get_or table i 0 ≤ n
-  table-small = rw here (levels-small owner n (owner n))
+  pub table_small : get_or table i 0 ≤ n
+  table_small = rw here (levels_small owner n (owner n))
 
-  pub table-level : get_or table i 0 + 1 ≡ level owner n
-  table-level = ap (λ (l : ℕ). l + 1) here ∙ sym (level-next owner n)
+  pub table_level : get_or table i 0 + 1 ≡ level owner n
+  table_level = ap (λ (l : ℕ). l + 1) here ∙ sym (level_next owner n)
 
   pub table_more : set table k (get_or table i 0 + 1) ≡ filled owner size (n + 1)
   table_more = rw (here, at_row, full) (filled_more owner size n h)

@@ -1,62 +1,62 @@
 -- The kinds of a record row and what belongs to a kind (paper 01, "Record sheet"): its number, and the bounds of a number's digits and scale.
 -- Assumes nothing.
 use Rattle.std.specs.Prelude.{Bool, true, false, ◌&&◌, ℕ, eqb, leb, nat_abs}
-use Rattle.decimal.specs.Value.{signed, scale-max}
+use Rattle.decimal.specs.Value.{signed, scale_max}
 use Rattle.sheet.specs.declared.kind.RowKind.{RowKind}
 use Rattle.sheet.specs.declared.kind.RowKind.TheVariants.{Null, False, True, Number, String, Array, Object}
 
 -- 01's number of each kind
-abbrev pub kindNumber : RowKind → ℕ
-kindNumber Null = 0
-kindNumber False = 1
-kindNumber True = 2
-kindNumber Number = 3
-kindNumber String = 4
-kindNumber Array = 5
-kindNumber Object = 6
+abbrev pub kind_number : RowKind → ℕ
+kind_number Null = 0
+kind_number False = 1
+kind_number True = 2
+kind_number Number = 3
+kind_number String = 4
+kind_number Array = 5
+kind_number Object = 6
 
 -- the numbers of the kinds run from 0 to that of the last
-abbrev pub isKind : ℕ → Bool
-isKind n = leb n (kindNumber Object)
+abbrev pub is_kind : ℕ → Bool
+is_kind n = leb n (kind_number Object)
 
-abbrev pub pickKind : Bool → RowKind → RowKind → RowKind
-pickKind true a b = a
-pickKind false a b = b
+abbrev pub pick_kind : Bool → RowKind → RowKind → RowKind
+pick_kind true a b = a
+pick_kind false a b = b
 
 -- the kind of a number; a number that is no kind's reads as `Null`, and no sheet with it is accepted
 unfoldable pub kind_of : ℕ → RowKind
 kind_of n =
-    pickKind (eqb n (kindNumber False)) False
-    (pickKind (eqb n (kindNumber True)) True
-    (pickKind (eqb n (kindNumber Number)) Number
-    (pickKind (eqb n (kindNumber String)) String
-    (pickKind (eqb n (kindNumber Array)) Array
-    (pickKind (eqb n (kindNumber Object)) Object Null)))))
+    pick_kind (eqb n (kind_number False)) False
+    (pick_kind (eqb n (kind_number True)) True
+    (pick_kind (eqb n (kind_number Number)) Number
+    (pick_kind (eqb n (kind_number String)) String
+    (pick_kind (eqb n (kind_number Array)) Array
+    (pick_kind (eqb n (kind_number Object)) Object Null)))))
 
 -- rows of these kinds can have children
-abbrev pub holdsChildren : RowKind → Bool
-holdsChildren Null = false
-holdsChildren False = false
-holdsChildren True = false
-holdsChildren Number = false
-holdsChildren String = false
-holdsChildren Array = true
-holdsChildren Object = true
+abbrev pub holds_children : RowKind → Bool
+holds_children Null = false
+holds_children False = false
+holds_children True = false
+holds_children Number = false
+holds_children String = false
+holds_children Array = true
+holds_children Object = true
 
 -- and the children of these have names
-abbrev pub isObjectKind : RowKind → Bool
-isObjectKind Null = false
-isObjectKind False = false
-isObjectKind True = false
-isObjectKind Number = false
-isObjectKind String = false
-isObjectKind Array = false
-isObjectKind Object = true
+abbrev pub is_object_kind : RowKind → Bool
+is_object_kind Null = false
+is_object_kind False = false
+is_object_kind True = false
+is_object_kind Number = false
+is_object_kind String = false
+is_object_kind Array = false
+is_object_kind Object = true
 
 -- the most digits of a number, on either side of zero
-abbrev pub number-max : ℕ
-number-max = 999_999_999
+abbrev pub number_max : ℕ
+number_max = 999_999_999
 
 -- a number's two words are within its bounds
-abbrev pub numberOk : ℕ → ℕ → Bool
-numberOk first count = leb (nat_abs (signed first)) number-max && leb count scale-max
+abbrev pub number_ok : ℕ → ℕ → Bool
+number_ok first count = leb (nat_abs (signed first)) number_max && leb count scale_max

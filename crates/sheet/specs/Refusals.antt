@@ -8,19 +8,19 @@ use Rattle.sheet.specs.declared.refusal.Checked.{Checked}
 use Rattle.sheet.specs.declared.refusal.Checked.TheVariants.{Accepted, Refused}
 
 -- the number of each refusal: 01's, and 13 of request #102
-abbrev pub refusalNumber : Refusal → ℕ
-refusalNumber RecordTrailer = 1
-refusalNumber RecordLayout = 2
-refusalNumber RepeatedName = 3
-refusalNumber TooDeep = 4
-refusalNumber RuleTrailer = 5
-refusalNumber RuleLayout = 6
-refusalNumber RepeatedEntry = 7
-refusalNumber UnguardedLoop = 8
-refusalNumber LongChain = 9
-refusalNumber FewCells = 10
-refusalNumber ShortList = 11
-refusalNumber NotUtf8 = 13
+abbrev pub refusal_number : Refusal → ℕ
+refusal_number RecordTrailer = 1
+refusal_number RecordLayout = 2
+refusal_number RepeatedName = 3
+refusal_number TooDeep = 4
+refusal_number RuleTrailer = 5
+refusal_number RuleLayout = 6
+refusal_number RepeatedEntry = 7
+refusal_number UnguardedLoop = 8
+refusal_number LongChain = 9
+refusal_number FewCells = 10
+refusal_number ShortList = 11
+refusal_number NotUtf8 = 13
 
 -- what a check gives: the number of rows (of the record, or of the rules: the schemas), or a refusal's number and place
 pub data Outcome : Type 0 where
@@ -28,9 +28,9 @@ pub data Outcome : Type 0 where
   refused : ℕ → ℕ → Outcome
 
 -- an answer, in 01's numbers
-abbrev pub outcomeOf : Checked → Outcome
-outcomeOf (Accepted rows) = accepted rows
-outcomeOf (Refused refusal place) = refused (refusalNumber refusal) place
+abbrev pub outcome_of : Checked → Outcome
+outcome_of (Accepted rows) = accepted rows
+outcome_of (Refused refusal place) = refused (refusal_number refusal) place
 
 -- a line of the table: its number, whether it applies, and its place
 pub record Line : Type 0 where
@@ -39,10 +39,10 @@ pub record Line : Type 0 where
   pub place : ℕ
 
 -- a line that applies where one of n things passes the test, and gives the lowest; places count the things `before` them first
-abbrev pub lowestLine : ℕ → ℕ → ℕ → (ℕ → Bool) → Line
-lowestLine number before n test = record { number = number; applies = ltb (lowest test n) n; place = before + lowest test n }
+abbrev pub lowest_line : ℕ → ℕ → ℕ → (ℕ → Bool) → Line
+lowest_line number before n test = record { number = number; applies = ltb (lowest test n) n; place = before + lowest test n }
 
 -- the first line that applies, or else what acceptance gives
-unfoldable pub firstLine : List Line → ℕ → Outcome
-firstLine [] rows = accepted rows
-firstLine (line ∷ lines) rows = cond line.applies (refused line.number line.place) (firstLine lines rows)
+unfoldable pub first_line : List Line → ℕ → Outcome
+first_line [] rows = accepted rows
+first_line (line ∷ lines) rows = cond line.applies (refused line.number line.place) (first_line lines rows)

@@ -1,11 +1,11 @@
 // The kinds of a record row, their numbers and the bounds of a number. These numbers stand here and
 // nowhere else in the code; `specs/Kinds.antt` has 01's.
 ghost use Rattle.std.specs.Prelude.{◌≡◌};
-ghost use Rattle.sheet.specs.Kinds.{kindNumber, isKind, kind_of, holdsChildren, isObjectKind, numberOk};
+ghost use Rattle.sheet.specs.Kinds.{kind_number, is_kind, kind_of, holds_children, is_object_kind, number_ok};
 
 use decimal::Decimal;
 
-#[derive(Drop)]
+#[derive(Clone, Copy)]
 pub enum RowKind {
     Null,
     False,
@@ -39,7 +39,7 @@ impl RowKind {
 
     // Whether the number is a kind's.
     pub fn known(code: u32) -> bool
-        ensures { result ≡ isKind code }
+        ensures { result ≡ is_kind code }
     {
         code <= RowKind::OBJECT
     }
@@ -61,7 +61,7 @@ impl RowKind {
 
     // 01's number of the kind.
     pub fn number(self) -> u32
-        ensures { result ≡ kindNumber self }
+        ensures { result ≡ kind_number self }
     {
         match self {
             RowKind::Null => RowKind::NULL,
@@ -76,7 +76,7 @@ impl RowKind {
 
     // Whether a row of this kind can have children.
     pub fn holds_children(self) -> bool
-        ensures { result ≡ holdsChildren self }
+        ensures { result ≡ holds_children self }
     {
         match self {
             RowKind::Null => false,
@@ -91,7 +91,7 @@ impl RowKind {
 
     // Whether a row of this kind is an object, whose children have names.
     pub fn is_object(self) -> bool
-        ensures { result ≡ isObjectKind self }
+        ensures { result ≡ is_object_kind self }
     {
         match self {
             RowKind::Null => false,
@@ -106,7 +106,7 @@ impl RowKind {
 
     // Whether a number's two words, digits in two's complement and scale, are within its bounds.
     pub fn number_ok(first: u32, count: u32) -> bool
-        ensures { result ≡ numberOk first count }
+        ensures { result ≡ number_ok first count }
     {
         let digits = first as u64;
         let near = (digits <= RowKind::NUMBER_MAX) | (RowKind::NUMBER_MIN <= digits);

@@ -4,6 +4,8 @@
 //
 // Its contracts cite specs/, in reading order: `Kinds`, `Refusals`, `Doc`, `Record`, `Faults`,
 // `Accepted`.
+#![tactic(auto)]
+
 pub mod kind;
 pub mod layout;
 pub mod record;

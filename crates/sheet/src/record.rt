@@ -1,9 +1,9 @@
 // The rows of a record sheet, read by name. Contracts speak of the record that the words stand for
-// (`docOf`), whatever the text; no word's position leaves this file.
+// (`doc_of`), whatever the text; no word's position leaves this file.
 ghost use Rattle.std.specs.Prelude.{true, List, ◌≡◌, ℕ, ◌<◌};
-ghost use Rattle.sheet.specs.Doc.{valueKind};
-ghost use Rattle.sheet.specs.Record.{form_of, row_at, docOf};
-ghost use Rattle.sheet.specs.Faults.{wordsOk};
+ghost use Rattle.sheet.specs.Doc.{value_kind};
+ghost use Rattle.sheet.specs.Record.{form_of, row_at, doc_of};
+ghost use Rattle.sheet.specs.Faults.{words_ok};
 ghost use Rattle.sheet.specs.Accepted.{Formed, Laid, ChildrenRead, NameRead, StringRead, NumberRead};
 
 use crate::kind::RowKind;
@@ -11,29 +11,29 @@ use decimal::Decimal;
 use text::Range;
 
 // A row of the record: never a schema.
-#[derive(Drop)]
+#[derive(Clone, Copy)]
 pub struct RecordRow(pub u32);
 
 // A row of the rules, which is a schema: never a row of the record.
-#[derive(Drop)]
+#[derive(Clone, Copy)]
 pub struct RuleRow(pub u32);
 
 // A row and a schema that judges it.
-#[derive(Drop)]
+#[derive(Clone, Copy)]
 pub struct Pair {
     pub row: RecordRow,
     pub rule: RuleRow,
 }
 
 // Where row 0 stands among the words, and how many rows there are.
-#[derive(Drop)]
+#[derive(Clone, Copy)]
 pub struct RecordForm {
     pub start: usize,
     pub rows: u32,
 }
 
 // A row's six words, by name.
-#[derive(Drop)]
+#[derive(Clone, Copy)]
 pub struct Row {
     pub kind: u32,
     pub first: u32,
@@ -43,7 +43,7 @@ pub struct Row {
 }
 
 // The children of a row: `count` rows from `first` on; 0 and 0 where there are none.
-#[derive(Drop)]
+#[derive(Clone, Copy)]
 pub struct Children {
     pub first: u32,
     pub count: u32,
@@ -67,7 +67,7 @@ impl RecordForm {
 
     // The form of words whose trailer is in order.
     pub fn of(words: &[u32]) -> RecordForm
-        requires { wordsOk words.now ≡ true }
+        requires { words_ok words.now ≡ true }
         ensures { result ≡ form_of words.now }
     {
         let size = words.len();
@@ -100,7 +100,7 @@ pub fn row_at(words: &[u32], form: RecordForm, row: RecordRow) -> Row
 // The row's kind.
 pub fn kind_of(words: &[u32], form: RecordForm, row: RecordRow) -> RowKind
     requires { Formed words.now form × (row.0 < form.rows) }
-    ensures { (ts : List ℕ) → result ≡ valueKind ((docOf words.now ts).value row.0) }
+    ensures { (ts : List ℕ) → result ≡ value_kind ((doc_of words.now ts).value row.0) }
 {
     RowKind::of(row_at(words, form, row).kind)
 }

@@ -1,9 +1,9 @@
 // The answers of a check. `specs/Refusals.antt` gives each case 01's number and values.
 ghost use Rattle.std.specs.Prelude.{◌≡◌};
-ghost use Rattle.sheet.specs.Refusals.{refusalNumber};
+ghost use Rattle.sheet.specs.Refusals.{refusal_number};
 
 // Why a sheet is refused or, of `FewCells` and `ShortList`, why areas are too small for judging.
-#[derive(Drop)]
+#[derive(Clone, Copy)]
 pub enum Refusal {
     RecordTrailer,
     RecordLayout,
@@ -20,7 +20,7 @@ pub enum Refusal {
 }
 
 // What a check gives: the number of rows (of rules, the schemas), or the refusal and its place.
-#[derive(Drop)]
+#[derive(Clone, Copy)]
 pub enum Checked {
     Accepted(u32),
     Refused(Refusal, u32),
@@ -29,7 +29,7 @@ pub enum Checked {
 impl Refusal {
     // 01's number of the refusal.
     pub fn number(self) -> u32
-        ensures { result ≡ refusalNumber self }
+        ensures { result ≡ refusal_number self }
     {
         match self {
             Refusal::RecordTrailer => 1,

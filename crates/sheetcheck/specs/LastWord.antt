@@ -2,27 +2,27 @@
 -- call only, comes refusal 12 with place 0: no words at all, or a last word of no known kind.
 -- Assumes nothing.
 use Rattle.std.specs.Prelude.{Bool, cond, not, ◌||◌, List, ℕ, eqb, length}
-use Rattle.sheet.specs.Refusals.{Outcome, refused, outcomeOf}
-use Rattle.sheet.specs.Record.{record-kind, kindWord}
-use Rattle.sheet.specs.Faults.{recordOutcome}
-use Rattle.rulesheet.specs.Faults.{rule-kind}
-use Rattle.rules.specs.Check.{rulesOutcome}
+use Rattle.sheet.specs.Refusals.{Outcome, refused, outcome_of}
+use Rattle.sheet.specs.Record.{record_kind, kind_word}
+use Rattle.sheet.specs.Faults.{record_outcome}
+use Rattle.rulesheet.specs.Faults.{rule_kind}
+use Rattle.rules.specs.Check.{rules_outcome}
 use Rattle.sheetcheck.specs.declared.ByKind.{ByKind}
 use Rattle.sheetcheck.specs.declared.ByKind.TheVariants.{Known, Unknown}
 
 -- 02's number of the refusal of a sheet of no known kind
-abbrev pub unknown-kind : ℕ
-unknown-kind = 12
+abbrev pub unknown_kind : ℕ
+unknown_kind = 12
 
 -- an answer, in the papers' numbers
-abbrev pub outcomeByKind : ByKind → Outcome
-outcomeByKind (Known checked) = outcomeOf checked
-outcomeByKind Unknown = refused unknown-kind 0
+abbrev pub outcome_by_kind : ByKind → Outcome
+outcome_by_kind (Known checked) = outcome_of checked
+outcome_by_kind Unknown = refused unknown_kind 0
 
 -- no words at all, or a last word of no known kind
-abbrev pub noKind : List ℕ → Bool
-noKind ws = eqb (length ws) 0 || not (eqb (kindWord ws) record-kind || eqb (kindWord ws) rule-kind)
+abbrev pub no_kind : List ℕ → Bool
+no_kind ws = eqb (length ws) 0 || not (eqb (kind_word ws) record_kind || eqb (kind_word ws) rule_kind)
 
 -- what the check gives
-unfoldable pub checkOutcome : List ℕ → List ℕ → Outcome
-checkOutcome ws ts = cond (noKind ws) (refused unknown-kind 0) (cond (eqb (kindWord ws) record-kind) (recordOutcome ws ts) (rulesOutcome ws ts))
+unfoldable pub check_outcome : List ℕ → List ℕ → Outcome
+check_outcome ws ts = cond (no_kind ws) (refused unknown_kind 0) (cond (eqb (kind_word ws) record_kind) (record_outcome ws ts) (rules_outcome ws ts))

@@ -1,8 +1,10 @@
 // The check of a sheet, be it a record sheet or a rule sheet: the last word says which.
 //
 // Its contract cites `specs/LastWord.antt`.
+#![tactic(auto)]
+
 ghost use Rattle.std.specs.Prelude.{◌≡◌};
-ghost use Rattle.sheetcheck.specs.LastWord.{outcomeByKind, checkOutcome};
+ghost use Rattle.sheetcheck.specs.LastWord.{outcome_by_kind, check_outcome};
 
 use recordcheck::check_record;
 use rulecheck::check_rules;
@@ -15,7 +17,7 @@ pub const UNKNOWN_KIND: u32 = 12;
 
 // What the check answers: what the check of the sheet's kind gives, or that no kind is known. No
 // other call has the second case.
-#[derive(Drop)]
+#[derive(Clone, Copy)]
 pub enum ByKind {
     Known(Checked),
     Unknown,
@@ -24,7 +26,7 @@ pub enum ByKind {
 // Checks a sheet, whatever the words and the text: accepted with its number of rows (of rules, the
 // schemas), or refused by the check of its kind, or of no known kind.
 pub fn check(words: &[u32], text: &[u8]) -> ByKind
-    ensures { outcomeByKind result ≡ checkOutcome words.now text.now }
+    ensures { outcome_by_kind result ≡ check_outcome words.now text.now }
 {
     let n = words.len();
     if n == 0 {

@@ -3,12 +3,14 @@
 // in the end. No pair is open here, so what these functions keep costs no stack.
 //
 // The contracts cite `specs/Lent.antt` of `lent`.
+#![tactic(auto)]
+
 ghost use Rattle.std.specs.Prelude.{◌≡◌, ◌+◌, ◌≤◌, ◌<◌};
-ghost use Rattle.areas.specs.Cells.{pairIs};
+ghost use Rattle.areas.specs.Cells.{pair_is};
 ghost use Rattle.plan.specs.Plan as P;
 ghost use Rattle.told.specs.Read.{Started};
 ghost use Rattle.line.specs.Lines.{InLine};
-ghost use Rattle.lent.specs.Lent.{lentCase, clauseAt, beforeOf, row_of, ReadsClause, Applying, Turns, TurnsTo, finishAt, next_at};
+ghost use Rattle.lent.specs.Lent.{lent_case, clause_at, before_of, row_of, ReadsClause, Applying, Turns, TurnsTo, finish_at, next_at};
 
 use finish::{after_miss, finish_of};
 use lent::{RECORD, RULES, goes_on, record_form, rules_form};
@@ -26,8 +28,8 @@ pub fn start<'a, 'b>(
     p: Pair,
     i: u32,
 ) -> u32
-    requires { ReadsClause sheets.now texts.now forms.now (pairIs p) i }
-    ensures { Started (beforeOf (lentCase sheets.now texts.now forms.now) (pairIs p) i) (clauseAt (lentCase sheets.now texts.now forms.now) (pairIs p) i) result }
+    requires { ReadsClause sheets.now texts.now forms.now (pair_is p) i }
+    ensures { Started (before_of (lent_case sheets.now texts.now forms.now) (pair_is p) i) (clause_at (lent_case sheets.now texts.now forms.now) (pair_is p) i) result }
 {
     let rule_form = rules_form(forms);
     start_of(sheets[RULES], texts[RULES], rule_form, p.rule, i)
@@ -43,10 +45,10 @@ pub fn line<'a, 'b>(
     row: ClauseRow,
     from: u32,
 ) -> Line
-    requires reads_clause { ReadsClause sheets.now texts.now forms.now (pairIs p) i × (row ≡ row_of sheets.now (pairIs p) i) }
-    requires started { Started (beforeOf (lentCase sheets.now texts.now forms.now) (pairIs p) i) (clauseAt (lentCase sheets.now texts.now forms.now) (pairIs p) i) from }
-    ensures in_line { InLine (lentCase sheets.now texts.now forms.now).doc (pairIs p) (beforeOf (lentCase sheets.now texts.now forms.now) (pairIs p) i) (clauseAt (lentCase sheets.now texts.now forms.now) (pairIs p) i) result.first result.count result.rule.0 }
-    ensures count_bound { result.first + result.count ≤ (lentCase sheets.now texts.now forms.now).n }
+    requires reads_clause { ReadsClause sheets.now texts.now forms.now (pair_is p) i × (row ≡ row_of sheets.now (pair_is p) i) }
+    requires started { Started (before_of (lent_case sheets.now texts.now forms.now) (pair_is p) i) (clause_at (lent_case sheets.now texts.now forms.now) (pair_is p) i) from }
+    ensures in_line { InLine (lent_case sheets.now texts.now forms.now).doc (pair_is p) (before_of (lent_case sheets.now texts.now forms.now) (pair_is p) i) (clause_at (lent_case sheets.now texts.now forms.now) (pair_is p) i) result.first result.count result.rule.0 }
+    ensures count_bound { result.first + result.count ≤ (lent_case sheets.now texts.now forms.now).n }
 {
     let form = record_form(forms);
     line_of(sheets[RECORD], form, p, i, row, from)
@@ -65,9 +67,9 @@ pub fn turn<'a, 'b>(
     x: u32,
     tally: u32,
 ) -> Turn
-    requires reads_clause { ReadsClause sheets.now texts.now forms.now (pairIs p) i × (row ≡ row_of sheets.now (pairIs p) i) }
-    requires turns { Turns (lentCase sheets.now texts.now forms.now) (pairIs p) i from x cells.now }
-    ensures { TurnsTo (lentCase sheets.now texts.now forms.now) (pairIs p) i x tally cells.now result }
+    requires reads_clause { ReadsClause sheets.now texts.now forms.now (pair_is p) i × (row ≡ row_of sheets.now (pair_is p) i) }
+    requires turns { Turns (lent_case sheets.now texts.now forms.now) (pair_is p) i from x cells.now }
+    ensures { TurnsTo (lent_case sheets.now texts.now forms.now) (pair_is p) i x tally cells.now result }
 {
     let form = record_form(forms);
     let rule_form = rules_form(forms);
@@ -124,8 +126,8 @@ pub fn next_step<'a, 'b>(
     step: u32,
     tally: u32,
 ) -> u32
-    requires { ReadsClause sheets.now texts.now forms.now (pairIs p) i × (row ≡ row_of sheets.now (pairIs p) i) × (step < 4294967295) }
-    ensures { result ≡ next_at (lentCase sheets.now texts.now forms.now) (pairIs p) i step tally }
+    requires { ReadsClause sheets.now texts.now forms.now (pair_is p) i × (row ≡ row_of sheets.now (pair_is p) i) × (step < 4294967295) }
+    ensures { result ≡ next_at (lent_case sheets.now texts.now forms.now) (pair_is p) i step tally }
 {
     if goes_on(forms, tally == 0) {
         return step + 1;
@@ -144,8 +146,8 @@ pub fn finish<'a, 'b>(
     row: ClauseRow,
     tally: u32,
 ) -> bool
-    requires { ReadsClause sheets.now texts.now forms.now (pairIs p) i × (row ≡ row_of sheets.now (pairIs p) i) × Applying (lentCase sheets.now texts.now forms.now) (pairIs p) i }
-    ensures { result ≡ finishAt (lentCase sheets.now texts.now forms.now) (pairIs p) i tally }
+    requires { ReadsClause sheets.now texts.now forms.now (pair_is p) i × (row ≡ row_of sheets.now (pair_is p) i) × Applying (lent_case sheets.now texts.now forms.now) (pair_is p) i }
+    ensures { result ≡ finish_at (lent_case sheets.now texts.now forms.now) (pair_is p) i tally }
 {
     let form = record_form(forms);
     let rule_form = rules_form(forms);

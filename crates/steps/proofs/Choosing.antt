@@ -1,7 +1,7 @@
 -- Where a clause stands that chooses schemas for the row itself, or counts elements.
---     branch-first, branch-then, branch-else, branch-end     36: the condition, the one branch or the other
---     depended-turn, depended-more, depended-end, depended-none     37: schemas whose names members have
---     counted-turn, counted-end     45: each element
+--     branch_first, branch_then, branch_else, branch_end     36: the condition, the one branch or the other
+--     depended_turn, depended_more, depended_end, depended_none     37: schemas whose names members have
+--     counted_turn, counted_end     45: each element
 -- Assumes nothing.
 use mathlib.Core.Bool.{true, false}
 use mathlib.Core.List.{List}
@@ -12,32 +12,32 @@ use native.Mathlib.Omega.{arith}
 use lib.Dec.{ltb}
 use lib.ListN.{get_or}
 use borrow.Author.Tests.{lt-ltb, le-ltb, eq-eqb, ne_eqb}
-use Rattle.laws.proofs.Tests.{le-or-lt}
-use Rattle.sheet.specs.Doc.{Doc, firstChild}
+use Rattle.laws.proofs.Tests.{le_or_lt}
+use Rattle.sheet.specs.Doc.{Doc, first_child}
 use Rattle.sheet.specs.declared.record.RecordRow.{RecordRow}
 use Rattle.sheet.specs.declared.record.RuleRow.{RuleRow}
 use Rattle.rulesheet.specs.declared.clause.Entries.{Entries}
 use Rattle.rulesheet.specs.Ruleset as R
 use Rattle.rulesheet.specs.declared.form.EntryRow.{EntryRow}
-use Rattle.rulesheet.specs.Codes.{no-entry}
+use Rattle.rulesheet.specs.Codes.{no_entry}
 use Rattle.rulesheet.specs.Sheet.{entry_at}
-use Rattle.rulesheet.specs.Clauses.{entryIn, schemasIn, membersIn}
-use Rattle.rulesheet.proofs.Items.{members-long}
-use Rattle.rulesheet.proofs.Reaching.{made_at, item-is}
+use Rattle.rulesheet.specs.Clauses.{entry_in, schemas_in, members_in}
+use Rattle.rulesheet.proofs.Items.{members_long}
+use Rattle.rulesheet.proofs.Reaching.{made_at, item_is}
 use Rattle.meaning.specs.Rules.{Pair, Marks, to}
 use Rattle.looking.specs.Read as C
 use Rattle.steps.specs.declared.turn.Turn.{Turn}
-use Rattle.plan.specs.Plan.{memberCount, elementCount, no_member, countsHits, branches, branchGoes, branchOf, own, childNamed, steps_of, aim_of, goOf}
+use Rattle.plan.specs.Plan.{member_count, element_count, no_member, counts_hits, branches, branch_goes, branch_of, own, child_named, steps_of, aim_of, go_of}
 use Rattle.steps.specs.Turns.{goes_at, Skipped, Turned}
-use Rattle.steps.proofs.Turns.{at, at_of, skipped-none, skipped-more, goes_on, goes_of, stops}
-use Rattle.steps.proofs.Aiming.{named-place}
+use Rattle.steps.proofs.Turns.{at, at_of, skipped_none, skipped_more, goes_on, goes_of, stops}
+use Rattle.steps.proofs.Aiming.{named_place}
 
 -- the schema of entry i, as it is read of a list of schemas
-pub first-in : (rs : List ℕ) (list : Entries) (i : ℕ) {s : ℕ} → i < list.count → s ≡ get_or (schemasIn rs list) i 0 → s ≡ (entryIn rs list i).first
-first-in rs list i h e =
+pub first_in : (rs : List ℕ) (list : Entries) (i : ℕ) {s : ℕ} → i < list.count → s ≡ get_or (schemas_in rs list) i 0 → s ≡ (entry_in rs list i).first
+first_in rs list i h e =
     e
-    ∙ item-is rs (λ (x : EntryRow). x.first) list.count list.first i 0 h
-    ∙ sym (ap (λ (x : EntryRow). x.first) (made_at (entry_at rs) list.count list.first i no-entry h))
+    ∙ item_is rs (λ (x : EntryRow). x.first) list.count list.first i 0 h
+    ∙ sym (ap (λ (x : EntryRow). x.first) (made_at (entry_at rs) list.count list.first i no_entry h))
 
 module _ (t : ℕ) (d : Doc) (p : Pair) (before : List R.Clause) (κ : Marks) where
   abbrev Stands : R.Clause → ℕ → Turn → Type 0
@@ -49,71 +49,71 @@ module _ (t : ℕ) (d : Doc) (p : Pair) (before : List R.Clause) (κ : Marks) wh
   -- ---- 36
 
   module _ (i th el x : ℕ) (r : Turn) (row : RecordRow) (rule : RuleRow) (same : p.row ≡ row.0) where
-    pub branch-first : x ≡ 0 → rule.0 ≡ i → r ≡ at_of false true 0 row rule → Stands (R.ifThenElse i th el) x r
-    unfolding countsHits branches steps_of goOf branchGoes aim_of branchOf to
-    branch-first z schema is = goes_of is refl refl (omega arith) (omega arith) (omega arith) (skipped-none (omega arith)) refl (rw (same, schema))
+    pub branch_first : x ≡ 0 → rule.0 ≡ i → r ≡ at_of false true 0 row rule → Stands (R.if_then_else i th el) x r
+    unfolding counts_hits branches steps_of go_of branch_goes aim_of branch_of to
+    branch_first z schema is = goes_of is refl refl (omega arith) (omega arith) (omega arith) (skipped_none (omega arith)) refl (rw (same, schema))
 
-    pub branch-then : x ≡ 1 → t ≡ 0 → rule.0 ≡ th → r ≡ at_of false true 1 row rule → Stands (R.ifThenElse i th el) x r
-    unfolding countsHits branches steps_of goOf branchGoes aim_of branchOf to
-    branch-then z c schema is = goes_of is refl refl (omega arith) (omega arith) (omega arith) (skipped-none (omega arith)) (eq-eqb t 0 c) (rw (same, schema))
+    pub branch_then : x ≡ 1 → t ≡ 0 → rule.0 ≡ th → r ≡ at_of false true 1 row rule → Stands (R.if_then_else i th el) x r
+    unfolding counts_hits branches steps_of go_of branch_goes aim_of branch_of to
+    branch_then z c schema is = goes_of is refl refl (omega arith) (omega arith) (omega arith) (skipped_none (omega arith)) (eq-eqb t 0 c) (rw (same, schema))
 
-    pub branch-else : (x ≡ 0 → ⊥) → x ≤ 2 → t ≡ 1 → rule.0 ≡ el → r ≡ at_of false true 2 row rule → Stands (R.ifThenElse i th el) x r
-    unfolding countsHits branches steps_of goOf branchGoes aim_of branchOf to
-    branch-else z h c schema is =
+    pub branch_else : (x ≡ 0 → ⊥) → x ≤ 2 → t ≡ 1 → rule.0 ≡ el → r ≡ at_of false true 2 row rule → Stands (R.if_then_else i th el) x r
+    unfolding counts_hits branches steps_of go_of branch_goes aim_of branch_of to
+    branch_else z h c schema is =
         goes_of is refl refl h (omega arith) (omega arith)
         (record { idle = λ k a b. let w : k ≡ 1 = omega arith in rw w (ne_eqb t 0 (λ (y : t ≡ 0). omega arith)) }) (eq-eqb t 1 c) (rw (same, schema))
 
   module _ (i th el x : ℕ) (r : Turn) where
-    pub branch-end : (x ≡ 0 → ⊥) → (x ≤ 1 → t ≡ 0 → ⊥) → (x ≤ 2 → t ≡ 1 → ⊥) → r.go ≡ false → Stands (R.ifThenElse i th el) x r
-    unfolding steps_of goOf branchGoes aim_of
-    branch-end z a b is = stops {y = 3} is (record { idle = idle }) (omega arith)
+    pub branch_end : (x ≡ 0 → ⊥) → (x ≤ 1 → t ≡ 0 → ⊥) → (x ≤ 2 → t ≡ 1 → ⊥) → r.go ≡ false → Stands (R.if_then_else i th el) x r
+    unfolding steps_of go_of branch_goes aim_of
+    branch_end z a b is = stops {y = 3} is (record { idle = idle }) (omega arith)
       where
-        idle : (k : ℕ) → x ≤ k → k < 3 → goes_at d p before (R.ifThenElse i th el) κ t k ≡ false
+        idle : (k : ℕ) → x ≤ k → k < 3 → goes_at d p before (R.if_then_else i th el) κ t k ≡ false
         idle k l h =
             ⊎_elim (λ (g : k ≤ 1). let w : k ≡ 1 = omega arith in rw w (ne_eqb t 0 (a (omega arith))))
             (λ (g : 1 < k). let w : k ≡ 2 = omega arith in rw w (ne_eqb t 1 (b (omega arith))))
-            (le-or-lt k 1)
+            (le_or_lt k 1)
 
   -- ---- 37
 
   module _ (rs us : List ℕ) (list : Entries) (x : ℕ) where
     abbrev depends : R.Clause
-    depends = R.dependentSchemas (membersIn rs us list)
+    depends = R.dependent_schemas (members_in rs us list)
 
-    pub depended-none : (r : Turn) → memberCount (own d p) ≡ 0 → r.go ≡ false → Stands depends x r
-    unfolding steps_of goOf
-    depended-none r none is =
-        stops {y = list.count} is (record { idle = λ k a b. le-ltb (childNamed d p (get_or (membersIn rs us list) k no_member).0) (memberCount (own d p)) (omega arith) })
-        (omega (arith, members-long rs list us))
+    pub depended_none : (r : Turn) → member_count (own d p) ≡ 0 → r.go ≡ false → Stands depends x r
+    unfolding steps_of go_of
+    depended_none r none is =
+        stops {y = list.count} is (record { idle = λ k a b. le-ltb (child_named d p (get_or (members_in rs us list) k no_member).0) (member_count (own d p)) (omega arith) })
+        (omega (arith, members_long rs list us))
 
-    module _ (some : 0 < memberCount (own d p)) where
-      pub depended-end : (y : ℕ) (r : Turn) → Idle depends x y → list.count ≤ y → r.go ≡ false → Stands depends x r
+    module _ (some : 0 < member_count (own d p)) where
+      pub depended_end : (y : ℕ) (r : Turn) → Idle depends x y → list.count ≤ y → r.go ≡ false → Stands depends x r
       unfolding steps_of
-      depended-end y r idle h is = stops is idle (omega (arith, members-long rs list us))
+      depended_end y r idle h is = stops is idle (omega (arith, members_long rs list us))
 
       -- n is the first child that has the name of entry y
-      module _ (y n : ℕ) (name : List ℕ) (found : n ≡ C.childNamed d p.row name) (name-is : name ≡ (get_or (membersIn rs us list) y no_member).0) where
-        goes-if : goes_at d p before depends κ t y ≡ ltb n (memberCount (own d p))
-        unfolding goOf
-        goes-if = rw (← named-place t d p before κ rs us list x some y n name found name-is)
+      module _ (y n : ℕ) (name : List ℕ) (found : n ≡ C.child_named d p.row name) (name_is : name ≡ (get_or (members_in rs us list) y no_member).0) where
+        goes_if : goes_at d p before depends κ t y ≡ ltb n (member_count (own d p))
+        unfolding go_of
+        goes_if = rw (← named_place t d p before κ rs us list x some y n name found name_is)
 
-        pub depended-turn : (row : RecordRow) (rule : RuleRow) (r : Turn) → p.row ≡ row.0 → Idle depends x y → x ≤ y → y < list.count → y < 4294967295
-            → n < memberCount (own d p) → rule.0 ≡ (get_or (membersIn rs us list) y no_member).1 → r ≡ at y row rule → Stands depends x r
-        unfolding countsHits branches steps_of aim_of to
-        depended-turn row rule r same idle ahead h small here schema is =
-            goes_on is refl refl ahead (omega (arith, members-long rs list us)) small idle (goes-if ∙ lt-ltb n (memberCount (own d p)) here) (rw (same, schema))
+        pub depended_turn : (row : RecordRow) (rule : RuleRow) (r : Turn) → p.row ≡ row.0 → Idle depends x y → x ≤ y → y < list.count → y < 4294967295
+            → n < member_count (own d p) → rule.0 ≡ (get_or (members_in rs us list) y no_member).1 → r ≡ at y row rule → Stands depends x r
+        unfolding counts_hits branches steps_of aim_of to
+        depended_turn row rule r same idle ahead h small here schema is =
+            goes_on is refl refl ahead (omega (arith, members_long rs list us)) small idle (goes_if ∙ lt-ltb n (member_count (own d p)) here) (rw (same, schema))
 
-        pub depended-more : Idle depends x y → memberCount (own d p) ≤ n → Idle depends x (y + 1)
-        depended-more idle h = skipped-more idle (goes-if ∙ le-ltb n (memberCount (own d p)) h)
+        pub depended_more : Idle depends x y → member_count (own d p) ≤ n → Idle depends x (y + 1)
+        depended_more idle h = skipped_more idle (goes_if ∙ le-ltb n (member_count (own d p)) h)
 
   -- ---- 45
 
   module _ (s least most x : ℕ) (r : Turn) where
-    pub counted-turn : (first : ℕ) (row : RecordRow) (rule : RuleRow) → first ≡ firstChild (own d p) → x < elementCount (own d p) → x < 4294967295
+    pub counted_turn : (first : ℕ) (row : RecordRow) (rule : RuleRow) → first ≡ first_child (own d p) → x < element_count (own d p) → x < 4294967295
         → row.0 ≡ first + x → rule.0 ≡ s → r ≡ at_of true false x row rule → Stands (R.contains s least most) x r
-    unfolding countsHits branches steps_of goOf aim_of to
-    counted-turn first row rule f h small there schema is = goes_of is refl refl (omega arith) h small (skipped-none (omega arith)) refl (rw (there, f, schema))
+    unfolding counts_hits branches steps_of go_of aim_of to
+    counted_turn first row rule f h small there schema is = goes_of is refl refl (omega arith) h small (skipped_none (omega arith)) refl (rw (there, f, schema))
 
-    pub counted-end : elementCount (own d p) ≤ x → r.go ≡ false → Stands (R.contains s least most) x r
+    pub counted_end : element_count (own d p) ≤ x → r.go ≡ false → Stands (R.contains s least most) x r
     unfolding steps_of
-    counted-end h is = stops {y = x} is (skipped-none (omega arith)) h
+    counted_end h is = stops {y = x} is (skipped_none (omega arith)) h

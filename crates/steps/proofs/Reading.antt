@@ -13,7 +13,7 @@ use Rattle.rulesheet.specs.declared.clause.Clause.TheVariants.{MinLength, MaxLen
 use Rattle.rulesheet.specs.declared.clause.Clause.TheVariants.{AllOf, AnyOf, OneOf as Exactly, Not, Ref, IfThenElse, DependentSchemas, Properties, AdditionalProperties, PrefixItems, Items, Contains, UnevaluatedProperties, UnevaluatedItems}
 use Rattle.rulesheet.specs.Ruleset as R
 use Rattle.rulesheet.specs.Ruleset.{Test, asserts}
-use Rattle.rulesheet.specs.Clauses.{clauseMeans}
+use Rattle.rulesheet.specs.Clauses.{clause_means}
 use Rattle.meaning.specs.Rules.{Pair}
 use Rattle.plan.specs.Plan.{steps_of}
 
@@ -26,7 +26,7 @@ record Asserts (c : R.Clause) : Type 0 where
   test : Test
   means : c ≡ asserts test
 
-asserting : (rs us : List ℕ) (clause : Clause) → OneOf asserters (tag_of the_type clause) → Asserts (clauseMeans rs us clause)
+asserting : (rs us : List ℕ) (clause : Clause) → OneOf asserters (tag_of the_type clause) → Asserts (clause_means rs us clause)
 asserting rs us Never k = record { test = _; means = refl }
 asserting rs us (Types mask) k = record { test = _; means = refl }
 asserting rs us (Enum es) k = record { test = _; means = refl }
@@ -57,6 +57,6 @@ asserting rs us (Contains es) k = absurd (miss asserters 26 tt k)
 asserting rs us (UnevaluatedProperties row) k = absurd (miss asserters 27 tt k)
 asserting rs us (UnevaluatedItems row) k = absurd (miss asserters 28 tt k)
 
-pub no_steps : (d : Doc) (p : Pair) (before : List R.Clause) (rs us : List ℕ) (clause : Clause) → OneOf asserters (tag_of the_type clause) → steps_of d p before (clauseMeans rs us clause) ≡ 0
+pub no_steps : (d : Doc) (p : Pair) (before : List R.Clause) (rs us : List ℕ) (clause : Clause) → OneOf asserters (tag_of the_type clause) → steps_of d p before (clause_means rs us clause) ≡ 0
 unfolding steps_of
 no_steps d p before rs us clause k = let a = asserting rs us clause k in rw a.means

@@ -4,23 +4,23 @@ use Rattle.std.specs.Prelude.{ℕ, ◌*◌, ◌≤◌, ◌<◌, Bool, true, fals
 use Rattle.sheet.specs.declared.record.RecordForm.{RecordForm}
 use Rattle.sheet.specs.declared.record.Pair as P
 use Rattle.sheet.specs.Doc.{Doc}
-use Rattle.sheet.specs.Record.{docOf}
+use Rattle.sheet.specs.Record.{doc_of}
 use Rattle.rulesheet.specs.declared.form.ClauseRow.{ClauseRow}
 use Rattle.rulesheet.specs.declared.form.RuleForm.{RuleForm}
-use Rattle.rulesheet.specs.Ruleset.{Clause, takes, additionalProperties}
-use Rattle.rulesheet.specs.Sheet.{schemaAt}
+use Rattle.rulesheet.specs.Ruleset.{Clause, takes, additional_properties}
+use Rattle.rulesheet.specs.Sheet.{schema_at}
 use Rattle.meaning.specs.Rules.{Pair, Marks}
 use Rattle.looking.specs.Read.{RecordRead}
-use Rattle.clause.specs.Read.{RulesRead, clauseIn, beforeIn, words_in}
-use Rattle.areas.specs.Cells.{pairIs, Unsettled, column}
+use Rattle.clause.specs.Read.{RulesRead, clause_in, before_in, words_in}
+use Rattle.areas.specs.Cells.{pair_is, Unsettled, column}
 use Rattle.steps.specs.declared.turn.Turn.{Turn}
-use Rattle.plan.specs.Plan.{memberCount, own, childRow, unnamed, countsHits, branches, steps_of, aim_of, goOf}
-use Rattle.told.specs.Read.{byMarks, Started}
+use Rattle.plan.specs.Plan.{member_count, own, child_row, unnamed, counts_hits, branches, steps_of, aim_of, go_of}
+use Rattle.told.specs.Read.{by_marks, Started}
 
 module _ (D : Doc) (p : Pair) (before : List Clause) (c : Clause) where
   -- step k is applied
   abbrev pub goes_at : Marks → ℕ → ℕ → Bool
-  goes_at κ t k = goOf D p before c k (κ (aim_of D p before c k).row) t
+  goes_at κ t k = go_of D p before c k (κ (aim_of D p before c k).row) t
 
   -- no step from x up to y is
   pub record Skipped (κ : Marks) (t x y : ℕ) : Type 0 where
@@ -33,9 +33,9 @@ module _ (D : Doc) (p : Pair) (before : List Clause) (c : Clause) where
     pub small : r.step < 4294967295
     pub skipped : Skipped κ t x r.step
     pub applied : goes_at κ t r.step ≡ true
-    pub hits-is : r.hits ≡ countsHits c
-    pub branch-is : r.branch ≡ branches c
-    pub aim-is : pairIs r.pair ≡ aim_of D p before c r.step
+    pub hits_is : r.hits ≡ counts_hits c
+    pub branch_is : r.branch ≡ branches c
+    pub aim_is : pair_is r.pair ≡ aim_of D p before c r.step
 
   -- where the clause stands after x steps: at the next that is applied, or at its end
   pub record Turned (x : ℕ) (κ : Marks) (t : ℕ) (r : Turn) : Type 0 where
@@ -48,27 +48,27 @@ TurnedOn D j c x r = (t : ℕ) (p : Pair) (before : List Clause) (κ : Marks) �
 
 -- of the members from number x on the marks tell which the clauses before name
 abbrev pub NamesMarked : Doc → Pair → List Clause → ℕ → Marks → Type 0
-NamesMarked D p before x κ = (k : ℕ) → x ≤ k → k < memberCount (own D p) → κ (childRow D p k) ≡ not (unnamed D p before (childRow D p k))
+NamesMarked D p before x κ = (k : ℕ) → x ≤ k → k < member_count (own D p) → κ (child_row D p k) ≡ not (unnamed D p before (child_row D p k))
 
 -- what is asked where clause i of an unsettled pair stands after x steps: both sheets are read, the clause's words are `row`, `from` is what the clauses before
 -- tell it, and each pair has its cell
-pub record TurnAsked (ws ts : List ℕ) (form : RecordForm) (rs us : List ℕ) (rule-form : RuleForm) (cells : List ℕ) (p : P.Pair) (i : ℕ) (row : ClauseRow) (from x : ℕ) : Type 0 where
-  pub record-read : RecordRead ws ts form
+pub record TurnAsked (ws ts : List ℕ) (form : RecordForm) (rs us : List ℕ) (rule_form : RuleForm) (cells : List ℕ) (p : P.Pair) (i : ℕ) (row : ClauseRow) (from x : ℕ) : Type 0 where
+  pub record_read : RecordRead ws ts form
   pub row_in : p.row.0 < form.rows
-  pub rules-read : RulesRead rs us rule-form
-  pub rule-in : p.rule.0 < rule-form.m
-  pub clause-in : i < (schemaAt rs p.rule.0).count
+  pub rules_read : RulesRead rs us rule_form
+  pub rule_in : p.rule.0 < rule_form.m
+  pub clause_inside : i < (schema_at rs p.rule.0).count
   pub row_is : row ≡ words_in rs p.rule.0 i
-  pub started : Started (beforeIn rs us p.rule.0 i) (clauseIn rs us p.rule.0 i) from
-  pub marked : (s : ℕ) → clauseIn rs us p.rule.0 i ≡ takes (additionalProperties s) → from ≡ byMarks
-      → NamesMarked (docOf ws ts) (pairIs p) (beforeIn rs us p.rule.0 i) x (column rule-form.m cells p.rule.0)
-  pub room : form.rows * rule-form.m ≤ length cells
-  pub unsettled : Unsettled rule-form.m (pairIs p) cells
+  pub started : Started (before_in rs us p.rule.0 i) (clause_in rs us p.rule.0 i) from
+  pub marked : (s : ℕ) → clause_in rs us p.rule.0 i ≡ takes (additional_properties s) → from ≡ by_marks
+      → NamesMarked (doc_of ws ts) (pair_is p) (before_in rs us p.rule.0 i) x (column rule_form.m cells p.rule.0)
+  pub room : form.rows * rule_form.m ≤ length cells
+  pub unsettled : Unsettled rule_form.m (pair_is p) cells
 
 -- where clause i of p's schema, which means c, stands after x steps, with t carried: over the two sheets and the marks of p in the cells
 abbrev pub TurnedIn : (ws ts rs us : List ℕ) → P.Pair → ℕ → Clause → ℕ → ℕ → ℕ → List ℕ → Turn → Type 0
-TurnedIn ws ts rs us p i c x t m cells r = Turned (docOf ws ts) (pairIs p) (beforeIn rs us p.rule.0 i) c x (column m cells p.rule.0) t r
+TurnedIn ws ts rs us p i c x t m cells r = Turned (doc_of ws ts) (pair_is p) (before_in rs us p.rule.0 i) c x (column m cells p.rule.0) t r
 
 -- the same of a clause that is told nothing by those before it
 abbrev pub TurnedFresh : (ws ts : List ℕ) → P.Pair → Clause → ℕ → ℕ → List ℕ → Turn → Type 0
-TurnedFresh ws ts p c x m cells r = (t : ℕ) (before : List Clause) → Turned (docOf ws ts) (pairIs p) before c x (column m cells p.rule.0) t r
+TurnedFresh ws ts p c x m cells r = (t : ℕ) (before : List Clause) → Turned (doc_of ws ts) (pair_is p) before c x (column m cells p.rule.0) t r

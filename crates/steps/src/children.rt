@@ -1,13 +1,13 @@
 // The steps of a clause that takes children by their place, or by the marks on them.
 ghost use Rattle.std.specs.Prelude.{List, ◌≡◌, ℕ, ◌+◌, ◌-◌, ◌*◌, ◌≤◌, ◌<◌, min, length};
-ghost use Rattle.sheet.specs.Doc.{Doc, childCount};
-ghost use Rattle.sheet.specs.Record.{docOf};
+ghost use Rattle.sheet.specs.Doc.{Doc, child_count};
+ghost use Rattle.sheet.specs.Record.{doc_of};
 ghost use Rattle.sheet.specs.Accepted.{Laid};
 ghost use Rattle.rulesheet.specs.Ruleset as R;
 ghost use Rattle.rulesheet.specs.Read.{RulesFormed};
-ghost use Rattle.rulesheet.specs.Clauses.{entryIn, schemasIn};
+ghost use Rattle.rulesheet.specs.Clauses.{entry_in, schemas_in};
 ghost use Rattle.meaning.specs.Rules.{Pair as Meant, Marks};
-ghost use Rattle.plan.specs.Plan.{memberCount, elementCount};
+ghost use Rattle.plan.specs.Plan.{member_count, element_count};
 ghost use Rattle.told.specs.Read.{Started};
 ghost use Rattle.steps.specs.Turns.{Turned, TurnedOn, TurnedFresh};
 
@@ -47,7 +47,7 @@ pub(crate) fn placed_turn(
 ) -> Turn
     requires laid { Laid «record».now form × (row.0 < form.rows) }
     requires rules_formed { RulesFormed rules.now rule_form × (list.first + list.count ≤ rule_form.e) }
-    ensures { (ts : List ℕ) → TurnedOn (docOf «record».now ts) row.0 (R.takes (R.prefixItems (schemasIn rules.now list))) x result }
+    ensures { (ts : List ℕ) → TurnedOn (doc_of «record».now ts) row.0 (R.takes (R.prefix_items (schemas_in rules.now list))) x result }
 {
     let many = lesser(elements_in(record, form, row), list.count);
     if x < many {
@@ -67,7 +67,7 @@ pub(crate) fn rest_turn(
     x: u32,
 ) -> Turn
     requires { Laid «record».now form × (row.0 < form.rows) }
-    ensures { (ts : List ℕ) (p : Meant) (before : List R.Clause) (κ : Marks) → p.row ≡ row.0 → Started before (R.takes (R.items rule.0)) from → (t : ℕ) → Turned (docOf «record».now ts) p before (R.takes (R.items rule.0)) x κ t result }
+    ensures { (ts : List ℕ) (p : Meant) (before : List R.Clause) (κ : Marks) → p.row ≡ row.0 → Started before (R.takes (R.items rule.0)) from → (t : ℕ) → Turned (doc_of «record».now ts) p before (R.takes (R.items rule.0)) x κ t result }
 {
     let many = after(elements_in(record, form, row), from);
     if x < many {
@@ -89,7 +89,7 @@ pub(crate) fn counted_turn(
 ) -> Turn
     requires laid { Laid «record».now form × (row.0 < form.rows) }
     requires rules_formed { RulesFormed rules.now rule_form × (list.first + list.count ≤ rule_form.e) × (list.count ≡ 1) }
-    ensures { (ts : List ℕ) (least most : ℕ) → TurnedOn (docOf «record».now ts) row.0 (R.contains (entryIn rules.now list 0).first least most) x result }
+    ensures { (ts : List ℕ) (least most : ℕ) → TurnedOn (doc_of «record».now ts) row.0 (R.contains (entry_in rules.now list 0).first least most) x result }
 {
     let many = elements_in(record, form, row);
     if x < many {
@@ -114,10 +114,10 @@ pub(crate) fn fresh_turn(
     many: u32,
     x: u32,
 ) -> Turn
-    requires laid { Laid «record».now form × (p.row.0 < form.rows) × ((ts : List ℕ) → many ≤ childCount ((docOf «record».now ts).value p.row.0)) }
+    requires laid { Laid «record».now form × (p.row.0 < form.rows) × ((ts : List ℕ) → many ≤ child_count ((doc_of «record».now ts).value p.row.0)) }
     requires m_in_bounds { (form.rows * m ≤ length cells.now) × (p.rule.0 < m) }
-    ensures by_index { (ts : List ℕ) → many ≡ memberCount ((docOf «record».now ts).value p.row.0) → TurnedFresh «record».now ts p (R.takes (R.unevaluatedProperties rule.0)) x m cells.now result }
-    ensures by_index_2 { (ts : List ℕ) → many ≡ elementCount ((docOf «record».now ts).value p.row.0) → TurnedFresh «record».now ts p (R.takes (R.unevaluatedItems rule.0)) x m cells.now result }
+    ensures by_index { (ts : List ℕ) → many ≡ member_count ((doc_of «record».now ts).value p.row.0) → TurnedFresh «record».now ts p (R.takes (R.unevaluated_properties rule.0)) x m cells.now result }
+    ensures by_index_2 { (ts : List ℕ) → many ≡ element_count ((doc_of «record».now ts).value p.row.0) → TurnedFresh «record».now ts p (R.takes (R.unevaluated_items rule.0)) x m cells.now result }
 {
     let first = children_of(record, form, p.row).first;
     let column = p.rule;

@@ -1,12 +1,12 @@
 // The steps of a clause that applies its schemas to the row itself.
 ghost use Rattle.std.specs.Prelude.{List, [], ◌∷◌, ◌≡◌, ◌+◌, ◌≤◌, ◌<◌};
 ghost use Rattle.sheet.specs.Doc.{Doc};
-ghost use Rattle.sheet.specs.Record.{docOf};
+ghost use Rattle.sheet.specs.Record.{doc_of};
 ghost use Rattle.rulesheet.specs.declared.code.Fields.TheVariants.{Members};
 ghost use Rattle.rulesheet.specs.Ruleset as R;
-ghost use Rattle.rulesheet.specs.Ruleset.{Mode, inPlace};
+ghost use Rattle.rulesheet.specs.Ruleset.{Mode, in_place};
 ghost use Rattle.rulesheet.specs.Read.{RulesFormed};
-ghost use Rattle.rulesheet.specs.Clauses.{entryIn, schemasIn, membersIn};
+ghost use Rattle.rulesheet.specs.Clauses.{entry_in, schemas_in, members_in};
 ghost use Rattle.meaning.specs.Rules.{Pair as Meant, Marks};
 ghost use Rattle.looking.specs.Read.{RecordRead};
 ghost use Rattle.clause.specs.Read.{RulesRead, ListRead};
@@ -29,7 +29,7 @@ pub(crate) fn listed_turn(
     x: u32,
 ) -> Turn
     requires { RulesFormed rules.now form × (list.first + list.count ≤ form.e) }
-    ensures { (d : Doc) (m : Mode) → TurnedOn d row.0 (inPlace m (schemasIn rules.now list)) x result }
+    ensures { (d : Doc) (m : Mode) → TurnedOn d row.0 (in_place m (schemas_in rules.now list)) x result }
 {
     if x < list.count {
         return at_step(x, row, entry_schema(rules, form, list, x));
@@ -47,7 +47,7 @@ pub(crate) fn branch_turn(
     tally: u32,
 ) -> Turn
     requires { RulesFormed rules.now form × (list.first + list.count ≤ form.e) × (list.count ≡ 3) }
-    ensures { (d : Doc) (p : Meant) (before : List R.Clause) (κ : Marks) → p.row ≡ row.0 → Turned d p before (R.ifThenElse (entryIn rules.now list 0).first (entryIn rules.now list 1).first (entryIn rules.now list 2).first) x κ tally result }
+    ensures { (d : Doc) (p : Meant) (before : List R.Clause) (κ : Marks) → p.row ≡ row.0 → Turned d p before (R.if_then_else (entry_in rules.now list 0).first (entry_in rules.now list 1).first (entry_in rules.now list 2).first) x κ tally result }
 {
     if x == 0 {
         return at_step_of(0, row, entry_schema(rules, form, list, 0), false, true);
@@ -81,7 +81,7 @@ pub(crate) fn depended_turn<'a>(
 ) -> Turn
     requires record_read { RecordRead «record».now text.now form × (row.0 < form.rows) }
     requires rules_read { RulesRead rules.now rule_text.now rule_form × ListRead rules.now rule_form Members list }
-    ensures { TurnedOn (docOf «record».now text.now) row.0 (R.dependentSchemas (membersIn rules.now rule_text.now list)) x result }
+    ensures { TurnedOn (doc_of «record».now text.now) row.0 (R.dependent_schemas (members_in rules.now rule_text.now list)) x result }
 {
     let members = members_in(record, form, row);
     if members == 0 {
@@ -102,7 +102,7 @@ pub(crate) fn depended_turn<'a>(
 
 // Of one schema.
 pub(crate) fn single_turn(row: RecordRow, rule: RuleRow, x: u32) -> Turn
-    ensures { (d : Doc) (m : Mode) → TurnedOn d row.0 (inPlace m (rule.0 ∷ [])) x result }
+    ensures { (d : Doc) (m : Mode) → TurnedOn d row.0 (in_place m (rule.0 ∷ [])) x result }
 {
     if x < 1 {
         return at_step(x, row, rule);

@@ -3,6 +3,8 @@
 // (`turn::turn_of`); what asks less is private to this crate.
 //
 // Its contracts cite `specs/Turns.antt`.
+#![tactic(auto)]
+
 mod children;
 mod here;
 mod members;

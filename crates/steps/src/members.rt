@@ -1,15 +1,15 @@
 // The steps of a clause that takes members by their names.
 ghost use Rattle.std.specs.Prelude.{◌≡◌, ℕ, ◌*◌, ◌≤◌, ◌<◌, length};
-ghost use Rattle.sheet.specs.Record.{docOf};
+ghost use Rattle.sheet.specs.Record.{doc_of};
 ghost use Rattle.rulesheet.specs.declared.code.Fields.TheVariants.{Members};
 ghost use Rattle.rulesheet.specs.Ruleset as R;
-ghost use Rattle.rulesheet.specs.Sheet.{schemaAt};
-ghost use Rattle.rulesheet.specs.Clauses.{membersIn};
+ghost use Rattle.rulesheet.specs.Sheet.{schema_at};
+ghost use Rattle.rulesheet.specs.Clauses.{members_in};
 ghost use Rattle.meaning.specs.Rules.{Pair as Meant, Marks};
-ghost use Rattle.areas.specs.Cells.{pairIs, column};
+ghost use Rattle.areas.specs.Cells.{pair_is, column};
 ghost use Rattle.looking.specs.Read.{RecordRead};
-ghost use Rattle.clause.specs.Read.{RulesRead, ListRead, beforeIn};
-ghost use Rattle.told.specs.Read.{NamesFrom, byMarks};
+ghost use Rattle.clause.specs.Read.{RulesRead, ListRead, before_in};
+ghost use Rattle.told.specs.Read.{NamesFrom, by_marks};
 ghost use Rattle.steps.specs.Turns.{NamesMarked, Turned, TurnedOn};
 
 use crate::children::fresh_turn;
@@ -36,7 +36,7 @@ pub(crate) fn named_turn<'a>(
 ) -> Turn
     requires record_read { RecordRead «record».now text.now form × (row.0 < form.rows) }
     requires rules_read { RulesRead rules.now rule_text.now rule_form × ListRead rules.now rule_form Members list }
-    ensures { TurnedOn (docOf «record».now text.now) row.0 (R.takes (R.properties (membersIn rules.now rule_text.now list))) x result }
+    ensures { TurnedOn (doc_of «record».now text.now) row.0 (R.takes (R.properties (members_in rules.now rule_text.now list))) x result }
 {
     let members = members_in(record, form, row);
     if members == 0 {
@@ -75,9 +75,9 @@ fn other_turn<'a>(
     x: u32,
 ) -> Turn
     requires record_read { RecordRead «record».now text.now form × (p.row.0 < form.rows) }
-    requires rules_read { RulesRead rules.now rule_text.now rule_form × (p.rule.0 < rule_form.m) × (i < (schemaAt rules.now p.rule.0).count) }
-    requires names_from { NamesFrom (beforeIn rules.now rule_text.now p.rule.0 i) from }
-    ensures { (κ : Marks) (t : ℕ) → Turned (docOf «record».now text.now) (pairIs p) (beforeIn rules.now rule_text.now p.rule.0 i) (R.takes (R.additionalProperties rule.0)) x κ t result }
+    requires rules_read { RulesRead rules.now rule_text.now rule_form × (p.rule.0 < rule_form.m) × (i < (schema_at rules.now p.rule.0).count) }
+    requires names_from { NamesFrom (before_in rules.now rule_text.now p.rule.0 i) from }
+    ensures { (κ : Marks) (t : ℕ) → Turned (doc_of «record».now text.now) (pair_is p) (before_in rules.now rule_text.now p.rule.0 i) (R.takes (R.additional_properties rule.0)) x κ t result }
 {
     let start = schema_at(rules, rule_form, p.rule).first;
     let many = members_in(record, form, p.row);
@@ -112,10 +112,10 @@ pub(crate) fn additional_turn<'a>(
     x: u32,
 ) -> Turn
     requires record_read { RecordRead «record».now text.now form × (p.row.0 < form.rows) × (form.rows * rule_form.m ≤ length cells.now) }
-    requires rules_read { RulesRead rules.now rule_text.now rule_form × (p.rule.0 < rule_form.m) × (i < (schemaAt rules.now p.rule.0).count) }
-    requires names_from { (from ≡ byMarks → ⊥) → NamesFrom (beforeIn rules.now rule_text.now p.rule.0 i) from }
-    requires names_marked { from ≡ byMarks → NamesMarked (docOf «record».now text.now) (pairIs p) (beforeIn rules.now rule_text.now p.rule.0 i) x (column rule_form.m cells.now p.rule.0) }
-    ensures { (t : ℕ) → Turned (docOf «record».now text.now) (pairIs p) (beforeIn rules.now rule_text.now p.rule.0 i) (R.takes (R.additionalProperties rule.0)) x (column rule_form.m cells.now p.rule.0) t result }
+    requires rules_read { RulesRead rules.now rule_text.now rule_form × (p.rule.0 < rule_form.m) × (i < (schema_at rules.now p.rule.0).count) }
+    requires names_from { (from ≡ by_marks → ⊥) → NamesFrom (before_in rules.now rule_text.now p.rule.0 i) from }
+    requires names_marked { from ≡ by_marks → NamesMarked (doc_of «record».now text.now) (pair_is p) (before_in rules.now rule_text.now p.rule.0 i) x (column rule_form.m cells.now p.rule.0) }
+    ensures { (t : ℕ) → Turned (doc_of «record».now text.now) (pair_is p) (before_in rules.now rule_text.now p.rule.0 i) (R.takes (R.additional_properties rule.0)) x (column rule_form.m cells.now p.rule.0) t result }
 {
     if from == BY_MARKS {
         let many = members_in(record, form, p.row);

@@ -1,8 +1,8 @@
 // Where a clause that applies schemas stands between two of its steps.
 ghost use Rattle.std.specs.Prelude.{true, false, ◌≡◌};
-ghost use Rattle.rulesheet.specs.Clauses.{clauseMeans};
+ghost use Rattle.rulesheet.specs.Clauses.{clause_means};
 ghost use Rattle.few.specs.Asked.{applying};
-ghost use Rattle.clause.specs.Read.{clauseIn, words_in, ClauseRead};
+ghost use Rattle.clause.specs.Read.{clause_in, words_in, ClauseRead};
 ghost use Rattle.steps.specs.Turns.{TurnAsked, TurnedIn};
 
 use crate::children::{counted_turn, fresh_turn, placed_turn, rest_turn};
@@ -16,7 +16,7 @@ use sheet::record::{Pair, RecordForm, RecordRow, RuleRow, wide};
 
 // Where a clause stands: at a step that applies `pair`, or at its end. A clause counts the steps that
 // fail, or those that hold (`hits`), or it has a condition with branches (`branch`).
-#[derive(Drop)]
+#[derive(Clone, Copy)]
 pub struct Turn {
     pub go: bool,
     pub step: u32,
@@ -83,7 +83,7 @@ fn turn_in<'a>(
 ) -> Turn
     requires turn_asked { TurnAsked «record».now text.now form rules.now rule_text.now rule_form cells.now p i (words_in rules.now p.rule.0 i) from x }
     requires clause_read { ClauseRead applying rules.now rule_text.now rule_form p.rule.0 i clause }
-    ensures { TurnedIn «record».now text.now rules.now rule_text.now p i (clauseMeans rules.now rule_text.now clause) x tally rule_form.m cells.now result }
+    ensures { TurnedIn «record».now text.now rules.now rule_text.now p i (clause_means rules.now rule_text.now clause) x tally rule_form.m cells.now result }
 {
     let row = p.row;
     match clause {
@@ -136,7 +136,7 @@ pub fn turn_of<'a>(
     tally: u32,
 ) -> Turn
     requires { TurnAsked «record».now text.now form rules.now rule_text.now rule_form cells.now p i row from x }
-    ensures { TurnedIn «record».now text.now rules.now rule_text.now p i (clauseIn rules.now rule_text.now p.rule.0 i) x tally rule_form.m cells.now result }
+    ensures { TurnedIn «record».now text.now rules.now rule_text.now p i (clause_in rules.now rule_text.now p.rule.0 i) x tally rule_form.m cells.now result }
 {
     let clause = applied_by(row);
     turn_in(

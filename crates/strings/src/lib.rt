@@ -1,7 +1,9 @@
 // A string of a JSON text, read from the text and written, decoded, into an area: byte by byte as it
 // stands, escapes as the characters they are of (`specs/Atoms.antt`, which contracts cite).
+#![tactic(auto)]
+
 ghost use Rattle.std.specs.Prelude.{true, false, ◌≢◌, ◌≡◌, ◌+◌, ◌≤◌, ◌<◌, length, get_or};
-ghost use Rattle.json.specs.Value.{isHigh};
+ghost use Rattle.jsontext.specs.Value.{is_high};
 ghost use Rattle.strings.specs.Atoms.{code_at, HexAt, Inside, Onward, Copied};
 
 use characters::append;
@@ -9,7 +11,7 @@ use escapes::{character_of, hex_of, unit_of};
 use putting::{put, short_of};
 
 // How far a string was read and written, and the high surrogate that waits for its low one, or 0.
-#[derive(Drop)]
+#[derive(Clone, Copy)]
 struct Spot {
     to: usize,
     at: usize,
@@ -17,7 +19,7 @@ struct Spot {
 }
 
 // Where a string ends in the text, behind its quote, and in the area.
-#[derive(Drop)]
+#[derive(Clone, Copy)]
 pub struct Ended {
     pub to: usize,
     pub at: usize,
@@ -25,7 +27,7 @@ pub struct Ended {
 
 // Whether a number is a high surrogate's.
 fn is_high(code: u32) -> bool
-    ensures { result ≡ isHigh code }
+    ensures { result ≡ is_high code }
 {
     code >= 0xD800 && code <= 0xDBFF
 }

@@ -12,15 +12,15 @@ use native.Mathlib.Omega.{arith}
 use borrow.Author.Tests.{eq-eqb, ne_eqb, le-ltb, lt-ltb, lt-leb, le-leb}
 use lib.Dec.{eqb, leb, ltb}
 use lib.ListN.{length}
-use Rattle.json.specs.Text.{Blank, blank}
-use Rattle.json.specs.Automaton.{Bracket, Place, ahead, firstElement, after, name, firstName, colon, nought, whole, part, power}
-use Rattle.json.proofs.Spaces.{blank-low}
-use Rattle.json.proofs.Numbers.{Ending, Stops, at-nought, at-whole, at_part, at-power}
-use Rattle.json.proofs.Doing.{Waits, waits-ahead, waits-first, waits-after, waits-name, waits-first-name, waits-colon, Orderly}
+use Rattle.jsontext.specs.Text.{Blank, blank}
+use Rattle.jsontext.specs.Automaton.{Bracket, Place, ahead, first_element, after, name, first_name, colon, nought, whole, part, power}
+use Rattle.jsontext.proofs.Spaces.{blank_low}
+use Rattle.jsontext.proofs.Numbers.{Ending, Stops, at_nought, at_whole, at_part, at_power}
+use Rattle.jsontext.proofs.Doing.{Waits, waits_ahead, waits_first, waits_after, waits_name, waits_first_name, waits_colon, Orderly}
 use Rattle.figure.specs.declared.Figure.{Figure}
-use Rattle.figure.specs.Figure.{wholeMore, partMore, powerMore}
+use Rattle.figure.specs.Figure.{whole_more, part_more, power_more}
 use Rattle.survey.specs.declared.Watch.{Watch}
-use Rattle.survey.specs.Watching.{withFigure, begun, ended, opened, digitOr, moved, watching}
+use Rattle.survey.specs.Watching.{with_figure, begun, ended, opened, digit_or, moved, watching}
 
 -- a number ends, if no fault was found
 unfoldable pub stopping : List Bracket → Watch → Watch
@@ -42,47 +42,47 @@ pub stays : (s : Watch) → s.fault ≢ 0 → (p : Place) (ks : List Bracket) (b
 unfolding watching
 stays s e p ks b bs = rw (ne_eqb s.fault 0 e)
 
-pub stays-stopped : (s : Watch) → s.fault ≢ 0 → (ks : List Bracket) → stopping ks s ≡ s
+pub stays_stopped : (s : Watch) → s.fault ≢ 0 → (ks : List Bracket) → stopping ks s ≡ s
 unfolding stopping
-stays-stopped s e ks = rw (ne_eqb s.fault 0 e)
+stays_stopped s e ks = rw (ne_eqb s.fault 0 e)
 
 -- a byte that moves nothing
 pub calm : (p : Place) (ks : List Bracket) (b : ℕ) (bs : List ℕ) (s : Watch) → moved p (length ks) b (suc (length bs)) s ≡ s → watching p ks b bs s ≡ s
 unfolding watching
 calm p ks b bs s e = rw e (either_way (eqb s.fault 0) s)
 
-blank-calm : {p : Place} → Waits p → (k b left : ℕ) (s : Watch) → b < 0x21 → moved p k b left s ≡ s
-blank-calm waits-ahead k b left s h = rw (le-ltb 0x20 b (omega arith))
-blank-calm waits-first k b left s h = rw (ne_eqb b 0x5D (λ e. omega arith), le-ltb 0x20 b (omega arith))
-blank-calm waits-after k b left s h = refl
-blank-calm waits-name k b left s h = rw (le-ltb 0x20 b (omega arith))
-blank-calm waits-first-name k b left s h = rw (le-ltb 0x20 b (omega arith))
-blank-calm waits-colon k b left s h = refl
+blank_calm : {p : Place} → Waits p → (k b left : ℕ) (s : Watch) → b < 0x21 → moved p k b left s ≡ s
+blank_calm waits_ahead k b left s h = rw (le-ltb 0x20 b (omega arith))
+blank_calm waits_first k b left s h = rw (ne_eqb b 0x5D (λ e. omega arith), le-ltb 0x20 b (omega arith))
+blank_calm waits_after k b left s h = refl
+blank_calm waits_name k b left s h = rw (le-ltb 0x20 b (omega arith))
+blank_calm waits_first_name k b left s h = rw (le-ltb 0x20 b (omega arith))
+blank_calm waits_colon k b left s h = refl
 
 -- a byte that may stand after a value ends a number
-digit-ends : (more : Figure → ℕ → Figure) (k b : ℕ) (s : Watch) → Ending b → digitOr more k b s ≡ ended k s
-digit-ends more k b s (inl h) = rw (lt-ltb b 0x2E h)
-digit-ends more k b s (inr (inl e)) = rw (le-ltb b 0x2E (omega arith), eq-eqb b 0x5D e)
-digit-ends more k b s (inr (inr e)) = rw (le-ltb b 0x2E (omega arith), ne_eqb b 0x5D (λ f. omega arith), eq-eqb b 0x7D e)
+digit_ends : (more : Figure → ℕ → Figure) (k b : ℕ) (s : Watch) → Ending b → digit_or more k b s ≡ ended k s
+digit_ends more k b s (inl h) = rw (lt-ltb b 0x2E h)
+digit_ends more k b s (inr (inl e)) = rw (le-ltb b 0x2E (omega arith), eq-eqb b 0x5D e)
+digit_ends more k b s (inr (inr e)) = rw (le-ltb b 0x2E (omega arith), ne_eqb b 0x5D (λ f. omega arith), eq-eqb b 0x7D e)
 
 moved_ends : {p : Place} → Stops p → (k b left : ℕ) (s : Watch) → Ending b → moved p k b left s ≡ ended k s
-moved_ends at-nought k b left s h = digit-ends wholeMore k b s h
-moved_ends at-whole k b left s h = digit-ends wholeMore k b s h
-moved_ends at_part k b left s h = digit-ends partMore k b s h
-moved_ends at-power k b left s h = digit-ends powerMore k b s h
+moved_ends at_nought k b left s h = digit_ends whole_more k b s h
+moved_ends at_whole k b left s h = digit_ends whole_more k b s h
+moved_ends at_part k b left s h = digit_ends part_more k b s h
+moved_ends at_power k b left s h = digit_ends power_more k b s h
 
 pub orderly : Orderly watching stopping
 unfolding watching stopping
 orderly =
     record {
-      blanks = λ {p} h ks c bs s. calm p ks (blank c) bs s (blank-calm h (length ks) (blank c) (suc (length bs)) s (omega (arith, blank-low c)));
+      blanks = λ {p} h ks c bs s. calm p ks (blank c) bs s (blank_calm h (length ks) (blank c) (suc (length bs)) s (omega (arith, blank_low c)));
       commas = λ ks bs s. either_way (eqb s.fault 0) s;
       colons = λ ks bs s. either_way (eqb s.fault 0) s;
       words = λ w ks b bs s. either_way (eqb s.fault 0) s;
       firsts = λ ks b bs s h. rw (ne_eqb b 0x5D h);
-      first-names = λ ks bs s. refl;
-      empty-arrays = λ ks bs s. refl;
-      empty-objects = λ ks bs s. refl;
+      first_names = λ ks bs s. refl;
+      empty_arrays = λ ks bs s. refl;
+      empty_objects = λ ks bs s. refl;
       chars = λ c r ks b bs s. refl;
       ends = λ {p} h ks b bs s e. rw (moved_ends h (length ks) b (suc (length bs)) s e) (sym (either_way (eqb (stopping ks s).fault 0) (stopping ks s)));
     }

@@ -2,8 +2,8 @@
 -- Assumes nothing.
 use Rattle.std.specs.Prelude.{List, [], ◌∷◌, ℕ, length}
 use Rattle.std.proofs.Math.Option.{Option, none, some}
-use Rattle.json.specs.Sightings.{What, aValue, aName, anEscape}
-use Rattle.json.specs.Starts.{Start}
+use Rattle.jsontext.specs.Sightings.{What, a_value, a_name, an_escape}
+use Rattle.jsontext.specs.Starts.{Start}
 use Rattle.reader.specs.Faults.{Fault}
 
 pub record Told : Type 0 where
@@ -14,12 +14,12 @@ unfoldable pub told : Option Fault → Told
 told none = record { number = 0; left = 0 }
 told (some f) = record { number = f.number; left = length f.behind }
 
-abbrev pub unlessName : What → Start → List Start → List Start
-unlessName aValue s ss = s ∷ ss
-unlessName aName s ss = ss
-unlessName anEscape s ss = s ∷ ss
+abbrev pub unless_name : What → Start → List Start → List Start
+unless_name a_value s ss = s ∷ ss
+unless_name a_name s ss = ss
+unless_name an_escape s ss = s ∷ ss
 
 -- the starts of values and escapes: names are not asked
 unfoldable pub unnamed : List Start → List Start
 unnamed [] = []
-unnamed (s ∷ ss) = unlessName s.seen.what s (unnamed ss)
+unnamed (s ∷ ss) = unless_name s.seen.what s (unnamed ss)

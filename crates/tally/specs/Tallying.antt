@@ -2,10 +2,10 @@
 -- take. What is kept is moved on by each byte beside the automaton (`along`); the root is on level 0.
 -- Assumes nothing.
 use Rattle.std.specs.Prelude.{Bool, true, false, cond, ◌&&◌, List, ℕ, ◌+◌, ◌*◌, ◌%◌, eqb, ltb, length, get_or, set, replicate}
-use Rattle.json.specs.Value.{isHigh, isLow}
-use Rattle.json.specs.Automaton.{Left, hex1, hex2, hex3, hex4, Place, ahead, firstElement, after, name, firstName, colon, word, minus, nought, whole, point, part, letter, sign, power, text, escape, unit, char}
-use Rattle.json.specs.Along.{Act}
-use Rattle.escapes.specs.Escapes.{hexAt, encodedSize}
+use Rattle.jsontext.specs.Value.{is_high, is_low}
+use Rattle.jsontext.specs.Automaton.{Left, hex1, hex2, hex3, hex4, Place, ahead, first_element, after, name, first_name, colon, word, minus, nought, whole, point, part, letter, sign, power, text, escape, unit, char}
+use Rattle.jsontext.specs.Along.{Act}
+use Rattle.escapes.specs.Escapes.{hex_at, encoded_size}
 use Rattle.tally.specs.declared.Units.{Units}
 
 -- how many levels are counted
@@ -23,44 +23,44 @@ pub record Tally : Type 0 where
 abbrev pub tally_of : Units → List ℕ → List ℕ → Tally
 tally_of u values texts = record { code = u.code; high = u.high; values = values; texts = texts }
 
-abbrev pub noTally : Tally
-noTally = record { code = 0; high = false; values = replicate levels 0; texts = replicate levels 0 }
+abbrev pub no_tally : Tally
+no_tally = record { code = 0; high = false; values = replicate levels 0; texts = replicate levels 0 }
 
-unfoldable pub addAt : ℕ → ℕ → List ℕ → List ℕ
-addAt k n xs = set xs k (get_or xs k 0 + n)
+unfoldable pub add_at : ℕ → ℕ → List ℕ → List ℕ
+add_at k n xs = set xs k (get_or xs k 0 + n)
 
 -- a value starts on level k
-abbrev pub valueMore : ℕ → Tally → Tally
-valueMore k s = record { code = 0; high = false; values = addAt k 1 s.values; texts = s.texts }
+abbrev pub value_more : ℕ → Tally → Tally
+value_more k s = record { code = 0; high = false; values = add_at k 1 s.values; texts = s.texts }
 
 -- a name starts
-abbrev pub nameMore : Tally → Tally
-nameMore s = record { code = 0; high = false; values = s.values; texts = s.texts }
+abbrev pub name_more : Tally → Tally
+name_more s = record { code = 0; high = false; values = s.values; texts = s.texts }
 
 -- n bytes more on level k
-abbrev pub bytesMore : ℕ → ℕ → Bool → Tally → Tally
-bytesMore k n high s = record { code = s.code; high = high; values = s.values; texts = addAt k n s.texts }
+abbrev pub bytes_more : ℕ → ℕ → Bool → Tally → Tally
+bytes_more k n high s = record { code = s.code; high = high; values = s.values; texts = add_at k n s.texts }
 
 abbrev pub with_code : ℕ → Tally → Tally
 with_code c s = record { code = c; high = s.high; values = s.values; texts = s.texts }
 
 -- the bytes of an escape: a high surrogate is taken for three, as it would be if it were lone, and the low one behind it for the fourth
-abbrev pub unitSize : Bool → ℕ → ℕ
-unitSize high c = cond (high && isLow c) 1 (encodedSize c)
+abbrev pub unit_size : Bool → ℕ → ℕ
+unit_size high c = cond (high && is_low c) 1 (encoded_size c)
 
-abbrev pub hexCounted : Left → ℕ → ℕ → Tally → Tally
-hexCounted hex4 k b s = with_code (s.code % 0x1000 * 16 + hexAt b) s
-hexCounted hex3 k b s = with_code (s.code % 0x1000 * 16 + hexAt b) s
-hexCounted hex2 k b s = with_code (s.code % 0x1000 * 16 + hexAt b) s
-hexCounted hex1 k b s = let c = s.code % 0x1000 * 16 + hexAt b in bytesMore k (unitSize s.high c) (isHigh c) s
+abbrev pub hex_counted : Left → ℕ → ℕ → Tally → Tally
+hex_counted hex4 k b s = with_code (s.code % 0x1000 * 16 + hex_at b) s
+hex_counted hex3 k b s = with_code (s.code % 0x1000 * 16 + hex_at b) s
+hex_counted hex2 k b s = with_code (s.code % 0x1000 * 16 + hex_at b) s
+hex_counted hex1 k b s = let c = s.code % 0x1000 * 16 + hex_at b in bytes_more k (unit_size s.high c) (is_high c) s
 
 -- a byte, with k brackets open
 abbrev pub counting : Place → ℕ → ℕ → Tally → Tally
-counting ahead k b s = cond (ltb 0x20 b) (valueMore k s) s
-counting firstElement k b s = cond (eqb b 0x5D) s (cond (ltb 0x20 b) (valueMore k s) s)
+counting ahead k b s = cond (ltb 0x20 b) (value_more k s) s
+counting first_element k b s = cond (eqb b 0x5D) s (cond (ltb 0x20 b) (value_more k s) s)
 counting after k b s = s
-counting name k b s = cond (ltb 0x20 b) (nameMore s) s
-counting firstName k b s = cond (ltb 0x20 b) (cond (eqb b 0x7D) s (nameMore s)) s
+counting name k b s = cond (ltb 0x20 b) (name_more s) s
+counting first_name k b s = cond (ltb 0x20 b) (cond (eqb b 0x7D) s (name_more s)) s
 counting colon k b s = s
 counting (word w) k b s = s
 counting minus k b s = s
@@ -71,10 +71,10 @@ counting part k b s = s
 counting letter k b s = s
 counting sign k b s = s
 counting power k b s = s
-counting (text r) k b s = cond (eqb b 0x5C) (with_code 0 s) (cond (eqb b 0x22) s (bytesMore k 1 false s))
-counting (escape r) k b s = cond (eqb b 0x75) s (bytesMore k 1 false s)
-counting (unit h r) k b s = hexCounted h k b s
-counting (char c r) k b s = bytesMore k 1 s.high s
+counting (text r) k b s = cond (eqb b 0x5C) (with_code 0 s) (cond (eqb b 0x22) s (bytes_more k 1 false s))
+counting (escape r) k b s = cond (eqb b 0x75) s (bytes_more k 1 false s)
+counting (unit h r) k b s = hex_counted h k b s
+counting (char c r) k b s = bytes_more k 1 s.high s
 
 unfoldable pub tallying : Act Tally
 tallying p ks b bs s = counting p (length ks) b s

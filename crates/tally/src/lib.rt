@@ -1,16 +1,18 @@
 // The counters of the first pass over a JSON text: what each byte adds to them, by the place that it
 // is read at (`specs/Tallying.antt` and `specs/Bounds.antt`, which contracts cite); and the theorem
 // that they are those of its value's rows and text (`proofs/Tallied.antt`).
+#![tactic(auto)]
+
 ghost use Rattle.std.specs.Prelude.{List, ◌≡◌, ℕ, ◌≤◌, ◌<◌, ◌+◌};
-ghost use Rattle.grammar.specs.Codes.{placeAt};
-ghost use Rattle.tally.specs.Tallying.{addAt, unitSize, tally_of, counting};
+ghost use Rattle.grammar.specs.Codes.{place_at};
+ghost use Rattle.tally.specs.Tallying.{add_at, unit_size, tally_of, counting};
 ghost use Rattle.tally.specs.Bounds.{UpTo, most};
 
 use escapes::size_of;
 use watching::strings::{hex_worth, high, low};
 
 // The digits of the escape under way, and whether a high surrogate's escape stands directly before.
-#[derive(Drop)]
+#[derive(Clone, Copy)]
 pub struct Units {
     pub code: u32,
     pub high: bool,
@@ -19,7 +21,7 @@ pub struct Units {
 // n more on level k, if it is counted.
 fn add(counters: &mut [u32], k: u32, n: u32)
     requires { (UpTo most counters.old) × (n ≤ 4) }
-    ensures { counters.new ≡ addAt k n counters.old }
+    ensures { counters.new ≡ add_at k n counters.old }
 {
     let at = k as usize;
     if at < counters.len() {
@@ -29,7 +31,7 @@ fn add(counters: &mut [u32], k: u32, n: u32)
 
 // The bytes of an escape.
 fn unit_size(behind: bool, code: u32) -> u32
-    ensures { (result ≡ unitSize behind code) × (result ≤ 4) }
+    ensures { (result ≡ unit_size behind code) × (result ≤ 4) }
 {
     if behind & low(code) {
         return 1;
@@ -40,7 +42,7 @@ fn unit_size(behind: bool, code: u32) -> u32
 // Within an escape's hexadecimal digits.
 fn hex_counts(place: u8, depth: u32, byte: u8, s: Units, texts: &mut [u32]) -> Units
     requires { (28 ≤ place) × (place < 36) × (UpTo most texts.old) }
-    ensures { (values : List ℕ) → tally_of result values texts.new ≡ counting (placeAt place) depth byte (tally_of s values texts.old) }
+    ensures { (values : List ℕ) → tally_of result values texts.new ≡ counting (place_at place) depth byte (tally_of s values texts.old) }
 {
     let code = s.code % 0x1000 * 16 + hex_worth(byte);
     if place < 30 {
@@ -59,7 +61,7 @@ fn hex_counts(place: u8, depth: u32, byte: u8, s: Units, texts: &mut [u32]) -> U
 // Within a string: a plain byte first, of which there are the most.
 fn string_counts(place: u8, depth: u32, byte: u8, s: Units, texts: &mut [u32]) -> Units
     requires { (24 ≤ place) × (place < 50) × (UpTo most texts.old) }
-    ensures { (values : List ℕ) → tally_of result values texts.new ≡ counting (placeAt place) depth byte (tally_of s values texts.old) }
+    ensures { (values : List ℕ) → tally_of result values texts.new ≡ counting (place_at place) depth byte (tally_of s values texts.old) }
 {
     if place < 26 {
         if byte == 0x5C {
@@ -97,7 +99,7 @@ fn string_counts(place: u8, depth: u32, byte: u8, s: Units, texts: &mut [u32]) -
 // Where a value or a name may start, and after a value.
 fn outer_counts(place: u8, depth: u32, byte: u8, s: Units, values: &mut [u32]) -> Units
     requires { (place < 5) × (UpTo most values.old) }
-    ensures { (texts : List ℕ) → tally_of result values.new texts ≡ counting (placeAt place) depth byte (tally_of s values.old texts) }
+    ensures { (texts : List ℕ) → tally_of result values.new texts ≡ counting (place_at place) depth byte (tally_of s values.old texts) }
 {
     if byte <= 0x20 {
         return s;
@@ -134,7 +136,7 @@ pub fn count(
     texts: &mut [u32],
 ) -> Units
     requires { (place < 50) × (UpTo most values.old) × (UpTo most texts.old) }
-    ensures { tally_of result values.new texts.new ≡ counting (placeAt place) depth byte (tally_of s values.old texts.old) }
+    ensures { tally_of result values.new texts.new ≡ counting (place_at place) depth byte (tally_of s values.old texts.old) }
 {
     if 24 <= place {
         return string_counts(place, depth, byte, s, texts);

@@ -1,7 +1,7 @@
 -- Sizes, as they are limited.
---     characters-hold, no-characters     a string of at least k characters, and what is none
---     bytes-hold, no-bytes-hold          a string of at most k bytes, and what is none, has at most k characters
---     size_holds, other-holds            what is asked of a size, by the size that was found
+--     characters_hold, no_characters     a string of at least k characters, and what is none
+--     bytes_hold, no_bytes_hold          a string of at most k bytes, and what is none, has at most k characters
+--     size_holds, other_holds            what is asked of a size, by the size that was found
 -- Assumes nothing.
 use mathlib.Core.Bool.{Bool, true}
 use mathlib.Core.List.{List, [], ◌∷◌}
@@ -15,7 +15,7 @@ use borrow.Author.Tests.{le-leb}
 use Rattle.text.specs.declared.Range.{Range}
 use Rattle.text.specs.Part.{part}
 use Rattle.text.proofs.Ranges.{part_length}
-use Rattle.counting.specs.Counting.{leadLength, countAfter, count}
+use Rattle.counting.specs.Counting.{lead_length, count_after, count}
 use Rattle.sheet.specs.Doc.{Value}
 use Rattle.meaning.specs.Tests.{bytes?, length_of, given, at_least, at_most}
 use Rattle.looking.specs.declared.sizes.Measured.{Measured}
@@ -23,54 +23,54 @@ use Rattle.looking.specs.declared.sizes.Measured.TheVariants.{Size, Other}
 use Rattle.looking.specs.declared.sizes.Spelled.{Spelled}
 use Rattle.looking.specs.declared.sizes.Spelled.TheVariants as O
 use Rattle.looking.specs.declared.sizes.Spelled.TheVariants.{Bytes}
-use Rattle.looking.specs.Read.{StringFound, sizeIn, sizeBy}
+use Rattle.looking.specs.Read.{StringFound, size_in, size_by}
 
 -- a string has not more characters than bytes
-few-after : (skip : ℕ) (bs : List ℕ) → countAfter skip bs ≤ length bs
-unfolding countAfter
-few-after zero [] = omega arith
-few-after (suc skip) [] = omega arith
-few-after zero (b ∷ bs) = omega (arith, few-after (leadLength b - 1) bs)
-few-after (suc skip) (b ∷ bs) = omega (arith, few-after skip bs)
+few_after : (skip : ℕ) (bs : List ℕ) → count_after skip bs ≤ length bs
+unfolding count_after
+few_after zero [] = omega arith
+few_after (suc skip) [] = omega arith
+few_after zero (b ∷ bs) = omega (arith, few_after (lead_length b - 1) bs)
+few_after (suc skip) (b ∷ bs) = omega (arith, few_after skip bs)
 
 few : (bs : List ℕ) → length_of bs ≤ length bs
 unfolding count
-few bs = few-after 0 bs
+few bs = few_after 0 bs
 
 module _ {ts : List ℕ} {v : Value} {s : Spelled} (found : StringFound ts v s) where
-  pub characters-hold : (k : ℕ) (r : Range) → s ≡ Bytes r → leb k (length_of (part ts r)) ≡ at_least length_of k (bytes? v)
+  pub characters_hold : (k : ℕ) (r : Range) → s ≡ Bytes r → leb k (length_of (part ts r)) ≡ at_least length_of k (bytes? v)
   unfolding at_least given
-  characters-hold k r e = rw (found.bytes-is, e)
+  characters_hold k r e = rw (found.bytes_is, e)
 
-  pub no-characters : (k : ℕ) → s ≡ O.Other → true ≡ at_least length_of k (bytes? v)
+  pub no_characters : (k : ℕ) → s ≡ O.Other → true ≡ at_least length_of k (bytes? v)
   unfolding at_least given
-  no-characters k e = rw (found.bytes-is, e)
+  no_characters k e = rw (found.bytes_is, e)
 
-  pub bytes-hold : (k : ℕ) (r : Range) → s ≡ Bytes r → r.length ≤ k → at_most length_of k (bytes? v) ≡ true
+  pub bytes_hold : (k : ℕ) (r : Range) → s ≡ Bytes r → r.length ≤ k → at_most length_of k (bytes? v) ≡ true
   unfolding at_most given
-  bytes-hold k r e h =
-      rw (found.bytes-is, e)
+  bytes_hold k r e h =
+      rw (found.bytes_is, e)
       (le-leb (length_of (part ts r)) k (omega (arith, few (part ts r), part_length ts r (rw e at found.inside))))
 
-  pub no-bytes-hold : (k : ℕ) → s ≡ O.Other → at_most length_of k (bytes? v) ≡ true
+  pub no_bytes_hold : (k : ℕ) → s ≡ O.Other → at_most length_of k (bytes? v) ≡ true
   unfolding at_most given
-  no-bytes-hold k e = rw (found.bytes-is, e)
+  no_bytes_hold k e = rw (found.bytes_is, e)
 
 -- the limits
 module _ (p : ℕ → Bool) (size : List ℕ → ℕ) where
-  by_size : (n : ℕ) (xs : Option (List ℕ)) → some n ≡ sizeBy size xs → p n ≡ given xs (λ ys. p (size ys))
+  by_size : (n : ℕ) (xs : Option (List ℕ)) → some n ≡ size_by size xs → p n ≡ given xs (λ ys. p (size ys))
   unfolding given
   by_size n none e = cc
   by_size n (some ys) e = let same : n ≡ size ys = cc in rw same
 
-  by-none : (xs : Option (List ℕ)) → none ≡ sizeBy size xs → true ≡ given xs (λ ys. p (size ys))
+  by_none : (xs : Option (List ℕ)) → none ≡ size_by size xs → true ≡ given xs (λ ys. p (size ys))
   unfolding given
-  by-none none e = refl
-  by-none (some ys) e = cc
+  by_none none e = refl
+  by_none (some ys) e = cc
 
   module _ (m : Measured) where
-    pub size_holds : (n : ℕ) → m ≡ Size n → (xs : Option (List ℕ)) → sizeIn m ≡ sizeBy size xs → p n ≡ given xs (λ ys. p (size ys))
+    pub size_holds : (n : ℕ) → m ≡ Size n → (xs : Option (List ℕ)) → size_in m ≡ size_by size xs → p n ≡ given xs (λ ys. p (size ys))
     size_holds n e xs f = by_size n xs (rw e at f)
 
-    pub other-holds : m ≡ Other → (xs : Option (List ℕ)) → sizeIn m ≡ sizeBy size xs → true ≡ given xs (λ ys. p (size ys))
-    other-holds e xs f = by-none xs (rw e at f)
+    pub other_holds : m ≡ Other → (xs : Option (List ℕ)) → size_in m ≡ size_by size xs → true ≡ given xs (λ ys. p (size ys))
+    other_holds e xs f = by_none xs (rw e at f)

@@ -1,7 +1,7 @@
 // The bounds of a number that was read. What is no number keeps them.
 ghost use Rattle.std.specs.Prelude.{true, ◌≡◌};
 ghost use Rattle.std.specs.Int.Signed.{le_z, lt_z};
-ghost use Rattle.decimal.specs.Value.{value, Plain, isMultiple};
+ghost use Rattle.decimal.specs.Value.{value, Plain, is_multiple};
 ghost use Rattle.sheet.specs.Doc.{Value};
 ghost use Rattle.meaning.specs.Tests.{number?, given};
 ghost use Rattle.looking.specs.Read.{PlainIn, NumberFound};
@@ -56,7 +56,7 @@ pub fn exclusive_maximum(found: Numbered, limit: Decimal) -> bool
 // Whether the number, if there is one, is the limit times a whole number.
 pub fn multiple_of(found: Numbered, limit: Decimal) -> bool
     requires { PlainIn found × Plain limit }
-    ensures { (v : Value) → NumberFound v found → result ≡ given (number? v) (λ y. isMultiple y (value limit)) }
+    ensures { (v : Value) → NumberFound v found → result ≡ given (number? v) (λ y. is_multiple y (value limit)) }
 {
     match found {
         Numbered::Number(number) => decimal::multiple_of(number, limit),

@@ -4,6 +4,8 @@
 //
 // Its contracts cite the tests of `meaning` (`specs/Tests.antt`), how a number, bytes and a size are held
 // (`specs/Read.antt` of `looking`) and `specs/Types.antt`.
+#![tactic(auto)]
+
 pub mod bounds;
 pub mod sizes;
 pub mod types;

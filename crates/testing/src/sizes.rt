@@ -4,13 +4,13 @@ ghost use Rattle.std.specs.Prelude.{true, List, ◌≡◌, ℕ, length};
 ghost use Rattle.std.proofs.Math.Option.{Option};
 ghost use Rattle.sheet.specs.Doc.{Value};
 ghost use Rattle.meaning.specs.Tests.{bytes?, length_of, at_least, at_most};
-ghost use Rattle.looking.specs.Read.{FitsIn, StringFound, sizeIn, sizeBy};
+ghost use Rattle.looking.specs.Read.{FitsIn, StringFound, size_in, size_by};
 
 use looking::sizes::{Measured, Spelled};
 
 // Whether a size, if there is one, is at least k.
 pub fn at_least(found: Measured, k: u32) -> bool
-    ensures { (size : List ℕ → ℕ) (xs : Option (List ℕ)) → sizeIn found ≡ sizeBy size xs → result ≡ at_least size k xs }
+    ensures { (size : List ℕ → ℕ) (xs : Option (List ℕ)) → size_in found ≡ size_by size xs → result ≡ at_least size k xs }
 {
     match found {
         Measured::Size(size) => k <= size,
@@ -20,7 +20,7 @@ pub fn at_least(found: Measured, k: u32) -> bool
 
 // Whether a size, if there is one, is at most k.
 pub fn at_most(found: Measured, k: u32) -> bool
-    ensures { (size : List ℕ → ℕ) (xs : Option (List ℕ)) → sizeIn found ≡ sizeBy size xs → result ≡ at_most size k xs }
+    ensures { (size : List ℕ → ℕ) (xs : Option (List ℕ)) → size_in found ≡ size_by size xs → result ≡ at_most size k xs }
 {
     match found {
         Measured::Size(size) => size <= k,

@@ -1,10 +1,10 @@
 // The types of a mask, by the number and the kind that were read.
 ghost use Rattle.std.specs.Prelude.{true, ◌≡◌, ◌<◌};
 ghost use Rattle.decimal.specs.Value.{value, Plain};
-ghost use Rattle.sheet.specs.Doc.{Value, number, valueKind};
+ghost use Rattle.sheet.specs.Doc.{Value, number, value_kind};
 ghost use Rattle.meaning.specs.Tests.{has, typed};
 ghost use Rattle.looking.specs.Read.{PlainIn, NumberFound};
-ghost use Rattle.testing.specs.Types.{typeNumber};
+ghost use Rattle.testing.specs.Types.{type_number};
 
 use decimal::{Decimal, whole};
 use looking::numbers::Numbered;
@@ -15,7 +15,7 @@ const INTEGER: u32 = 4;
 
 // The number of a kind's type.
 fn type_of(kind: RowKind) -> u32
-    ensures { result ≡ typeNumber kind }
+    ensures { result ≡ type_number kind }
 {
     match kind {
         RowKind::Null => 1,
@@ -50,7 +50,7 @@ fn numeric(mask: u32, it: Decimal) -> bool
 // Whether a value has one of the mask's types, by its number, if it is one, and by its kind.
 pub fn typed(found: Numbered, kind: RowKind, mask: u32) -> bool
     requires { PlainIn found }
-    ensures { (v : Value) → NumberFound v found → kind ≡ valueKind v → result ≡ typed mask v }
+    ensures { (v : Value) → NumberFound v found → kind ≡ value_kind v → result ≡ typed mask v }
 {
     match found {
         Numbered::Number(number) => numeric(mask, number),
@@ -72,7 +72,7 @@ fn plainly_numeric(mask: u32, it: Decimal) -> bool
 // The same, as far as it tells without a division. A yes is one.
 pub fn plainly_typed(found: Numbered, kind: RowKind, mask: u32) -> bool
     requires { PlainIn found }
-    ensures { result ≡ true → (v : Value) → NumberFound v found → kind ≡ valueKind v → typed mask v ≡ true }
+    ensures { result ≡ true → (v : Value) → NumberFound v found → kind ≡ value_kind v → typed mask v ≡ true }
 {
     match found {
         Numbered::Number(number) => plainly_numeric(mask, number),

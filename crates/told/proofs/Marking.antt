@@ -1,6 +1,6 @@
 -- What clauses mark that mark no member but those that they name.
---     member-elem     a member is among the members
---     named-marks     of a member such a clause marks whether it names it
+--     member_elem     a member is among the members
+--     named_marks     of a member such a clause marks whether it names it
 -- Assumes nothing.
 use mathlib.Core.Bool.{Bool, true, false, ◌&&◌, ◌||◌, cond, and-false, or-true}
 use mathlib.Core.List.{List, [], ◌∷◌, ◌++◌, map, map-append}
@@ -11,26 +11,26 @@ use native.Mathlib.Omega.{arith}
 use lib.Dec.{eqb}
 use borrow.Author.Tests.{eqb-true, eq-eqb}
 use Rattle.laws.proofs.Tests.{decide}
-use Rattle.sheet.specs.Doc.{Doc, firstChild}
-use Rattle.rulesheet.specs.Ruleset.{Clause, asserts, inPlace, ifThenElse, dependentSchemas, contains, takes, properties, additionalProperties, prefixItems, items, unevaluatedProperties, unevaluatedItems, Ruleset}
-use Rattle.few.specs.Asked.{appliesAny}
-use Rattle.meaning.specs.Lists.{any, elem, keep, concatMap, range}
+use Rattle.sheet.specs.Doc.{Doc, first_child}
+use Rattle.rulesheet.specs.Ruleset.{Clause, asserts, in_place, if_then_else, dependent_schemas, contains, takes, properties, additional_properties, prefix_items, items, unevaluated_properties, unevaluated_items, Ruleset}
+use Rattle.few.specs.Asked.{applies_any}
+use Rattle.meaning.specs.Lists.{any, elem, keep, concat_map, range}
 use Rattle.meaning.specs.Rules.{Pair, Marks, nothing, these, Result, answer, Way, names_of, to, under, called, members_of, taken, clause}
 use Rattle.meaning.specs.Fit.{Fit}
-use Rattle.meaning.proofs.Judgements.{answer-each}
-use Rattle.plan.specs.Plan.{memberCount, own, childRow}
-use Rattle.plan.proofs.Folds.{elem-append}
-use Rattle.plan.proofs.Children.{members-are}
-use Rattle.looking.proofs.Having.{never-not}
-use Rattle.told.specs.Read.{namesAny, marksNamed, named_by}
+use Rattle.meaning.proofs.Judgements.{answer_each}
+use Rattle.plan.specs.Plan.{member_count, own, child_row}
+use Rattle.plan.proofs.Folds.{elem_append}
+use Rattle.plan.proofs.Children.{members_are}
+use Rattle.looking.proofs.Having.{never_not}
+use Rattle.told.specs.Read.{names_any, marks_named, named_by}
 
 -- ---- what stands in a list
 
-elem-range : (a n k : ℕ) → k < n → elem (a + k) (range a n) ≡ true
+elem_range : (a n k : ℕ) → k < n → elem (a + k) (range a n) ≡ true
 unfolding elem range
-elem-range a zero k h = absurd (omega arith)
-elem-range a (suc n) zero h = let z : a + 0 ≡ a = omega arith in ap (λ (b : Bool). b || elem (a + 0) (range (suc a) n)) (eq-eqb (a + 0) a z)
-elem-range a (suc n) (suc k) h = let z : a + suc k ≡ suc a + k = omega arith in rw z (rw (elem-range (suc a) n k (omega arith)) (or-true (eqb (suc a + k) a)))
+elem_range a zero k h = absurd (omega arith)
+elem_range a (suc n) zero h = let z : a + 0 ≡ a = omega arith in ap (λ (b : Bool). b || elem (a + 0) (range (suc a) n)) (eq-eqb (a + 0) a z)
+elem_range a (suc n) (suc k) h = let z : a + suc k ≡ suc a + k = omega arith in rw z (rw (elem_range (suc a) n k (omega arith)) (or-true (eqb (suc a + k) a)))
 
 -- those of a list that pass a test
 keep_one : (t : ℕ → Bool) (k x : ℕ) (l m : List ℕ) → elem k l ≡ (elem k m && t k) → elem k (cond (t x) (x ∷ l) l) ≡ ((eqb k x || elem k m) && t k)
@@ -49,10 +49,10 @@ keep_one t k x l m rest =
     other true h e = rw (h, e) rest
     other false h e = rw (h, e) rest
 
-elem-keep : (t : ℕ → Bool) (k : ℕ) (ms : List ℕ) → elem k (keep t ms) ≡ (elem k ms && t k)
+elem_keep : (t : ℕ → Bool) (k : ℕ) (ms : List ℕ) → elem k (keep t ms) ≡ (elem k ms && t k)
 unfolding elem keep
-elem-keep t k [] = refl
-elem-keep t k (x ∷ ms) = keep_one t k x (keep t ms) ms (elem-keep t k ms)
+elem_keep t k [] = refl
+elem_keep t k (x ∷ ms) = keep_one t k x (keep t ms) ms (elem_keep t k ms)
 
 -- ---- what such a clause marks
 
@@ -63,31 +63,31 @@ rows_under p s (k ∷ ks) = ap (λ (l : List ℕ). k ∷ l) (rows_under p s ks)
 
 module _ (D : Doc) (p : Pair) (k : ℕ) (member : elem k (members_of D p.row) ≡ true) where
   -- the members that entries name
-  entries-mark : (es : List (List ℕ × ℕ)) → these (map (λ (q : Pair). q.row) (concatMap (λ e. under p e.1 (keep (called D e.0) (members_of D p.row))) es)) k
+  entries_mark : (es : List (List ℕ × ℕ)) → these (map (λ (q : Pair). q.row) (concat_map (λ e. under p e.1 (keep (called D e.0) (members_of D p.row))) es)) k
       ≡ named_by D (map (λ e. e.0) es) k
-  unfolding these elem any concatMap
-  entries-mark [] = refl
-  entries-mark (e ∷ es) =
+  unfolding these elem any concat_map
+  entries_mark [] = refl
+  entries_mark (e ∷ es) =
       let ks = keep (called D e.0) (members_of D p.row) in
-      let rest = concatMap (λ x. under p x.1 (keep (called D x.0) (members_of D p.row))) es in
+      let rest = concat_map (λ x. under p x.1 (keep (called D x.0) (members_of D p.row))) es in
       ap (elem k) (map-append (λ (q : Pair). q.row) (under p e.1 ks) rest)
-      ∙ elem-append k (map (λ (q : Pair). q.row) (under p e.1 ks)) (map (λ (q : Pair). q.row) rest)
-      ∙ rw (rows_under p e.1 ks, elem-keep (called D e.0) k (members_of D p.row), member, entries-mark es)
+      ∙ elem_append k (map (λ (q : Pair). q.row) (under p e.1 ks)) (map (λ (q : Pair). q.row) rest)
+      ∙ rw (rows_under p e.1 ks, elem_keep (called D e.0) k (members_of D p.row), member, entries_mark es)
 
-  pub named-marks : (sub : Pair → Result) (w : Way) (before : List Clause) (κ : Marks) (c : Clause) → marksNamed c ≡ true → (answer sub (clause D w p before κ c)).marks k ≡ named_by D (names_of c) k
-  unfolding marksNamed appliesAny namesAny clause answer nothing names_of any taken
-  named-marks sub w before κ (asserts t) e = refl
-  named-marks sub w before κ (inPlace m ss) e = absurd (never-not (sym e))
-  named-marks sub w before κ (ifThenElse a b c) e = absurd (never-not (sym e))
-  named-marks sub w before κ (dependentSchemas es) e = absurd (never-not (sym e))
-  named-marks sub w before κ (contains s least most) e = absurd (never-not (sym e))
-  named-marks sub w before κ (takes (properties es)) e = ap (λ (r : Result). r.marks k) (answer-each sub (taken D p before κ (properties es)) _) ∙ entries-mark es
-  named-marks sub w before κ (takes (additionalProperties s)) e = absurd (never-not (sym e))
-  named-marks sub w before κ (takes (prefixItems ss)) e = absurd (never-not (sym e))
-  named-marks sub w before κ (takes (items s)) e = absurd (never-not (sym e))
-  named-marks sub w before κ (takes (unevaluatedProperties s)) e = absurd (never-not (sym e))
-  named-marks sub w before κ (takes (unevaluatedItems s)) e = absurd (never-not (sym e))
+  pub named_marks : (sub : Pair → Result) (w : Way) (before : List Clause) (κ : Marks) (c : Clause) → marks_named c ≡ true → (answer sub (clause D w p before κ c)).marks k ≡ named_by D (names_of c) k
+  unfolding marks_named applies_any names_any clause answer nothing names_of any taken
+  named_marks sub w before κ (asserts t) e = refl
+  named_marks sub w before κ (in_place m ss) e = absurd (never_not (sym e))
+  named_marks sub w before κ (if_then_else a b c) e = absurd (never_not (sym e))
+  named_marks sub w before κ (dependent_schemas es) e = absurd (never_not (sym e))
+  named_marks sub w before κ (contains s least most) e = absurd (never_not (sym e))
+  named_marks sub w before κ (takes (properties es)) e = ap (λ (r : Result). r.marks k) (answer_each sub (taken D p before κ (properties es)) _) ∙ entries_mark es
+  named_marks sub w before κ (takes (additional_properties s)) e = absurd (never_not (sym e))
+  named_marks sub w before κ (takes (prefix_items ss)) e = absurd (never_not (sym e))
+  named_marks sub w before κ (takes (items s)) e = absurd (never_not (sym e))
+  named_marks sub w before κ (takes (unevaluated_properties s)) e = absurd (never_not (sym e))
+  named_marks sub w before κ (takes (unevaluated_items s)) e = absurd (never_not (sym e))
 
 -- child i of a row that has members is among them
-pub member-elem : (D : Doc) (R : Ruleset) (n m : ℕ) (fit : Fit D R n m) (p : Pair) (row_in : p.row < n) (i : ℕ) → i < memberCount (own D p) → elem (childRow D p i) (members_of D p.row) ≡ true
-member-elem D R n m fit p row_in i h = rw (members-are D R n m fit p row_in) (elem-range (firstChild (own D p)) (memberCount (own D p)) i h)
+pub member_elem : (D : Doc) (R : Ruleset) (n m : ℕ) (fit : Fit D R n m) (p : Pair) (row_in : p.row < n) (i : ℕ) → i < member_count (own D p) → elem (child_row D p i) (members_of D p.row) ≡ true
+member_elem D R n m fit p row_in i h = rw (members_are D R n m fit p row_in) (elem_range (first_child (own D p)) (member_count (own D p)) i h)

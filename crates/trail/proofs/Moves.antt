@@ -1,8 +1,8 @@
 -- Where a step leads from a place, by one computed test over all places and their moves.
---     into-number    to a place in a number: from one, or where a value starts with the byte
---     into-escape    to a place in an escape: from one, or by a backslash in a string
---     within-name    from a place in a name: to one, or by the closing quote
---     into-bracket   to one bracket more: where a value starts with it
+--     into_number    to a place in a number: from one, or where a value starts with the byte
+--     into_escape    to a place in an escape: from one, or by a backslash in a string
+--     within_name    from a place in a name: to one, or by the closing quote
+--     into_bracket   to one bracket more: where a value starts with it
 -- Assumes nothing.
 use mathlib.Core.Bool.{Bool, true, false, cond, ◌&&◌, ◌||◌, not}
 use mathlib.Core.List.{List, [], ◌∷◌}
@@ -14,11 +14,11 @@ use native.Mathlib.Omega.{arith}
 use borrow.Author.Tests.{eqb-true, eq-eqb, ltb-true, lt-ltb, leb-true}
 use lib.Dec.{eqb, leb, ltb}
 use lib.ListN.{length, get_or}
-use Rattle.json.specs.Automaton.{Bracket, square, curly, Place, after, at, Change, keep, pop, push, Move, moves, pick, innermost, changed, follow, step}
-use Rattle.grammar.specs.Codes.{places, placeCode}
-use Rattle.grammar.proofs.Places.{place-back, place-low}
+use Rattle.jsontext.specs.Automaton.{Bracket, square, curly, Place, after, at, Change, keep, pop, push, Move, moves, pick, innermost, changed, follow, step}
+use Rattle.grammar.specs.Codes.{places, place_code}
+use Rattle.grammar.proofs.Places.{place_back, place_low}
 use Rattle.laws.proofs.Tests.{left, right, either}
-use Rattle.trail.proofs.Places.{is_number, inName, inEscape, isText, startsValue, pushes, numbered, escaping, bracketed}
+use Rattle.trail.proofs.Places.{is_number, in_name, in_escape, is_text, starts_value, pushes, numbered, escaping, bracketed}
 
 -- ---- the test
 
@@ -28,60 +28,60 @@ implies a b = not a || b
 
 abbrev fine : Place → Move → Bool
 fine p m =
-    implies (is_number m.place) (is_number p || (startsValue p && (ltb 0x20 m.low && ltb m.high 0x5D)))
-    && (implies (inEscape m.place) (inEscape p || (isText p && (eqb m.low 0x5C && eqb m.high 0x5C)))
-    && (implies (inName p) (inName m.place || (isText p && (eqb m.low 0x22 && eqb m.high 0x22)))
-    && implies (pushes m.change) (startsValue p && (eqb m.low m.high && (eqb m.low 0x5B || eqb m.low 0x7B)))))
+    implies (is_number m.place) (is_number p || (starts_value p && (ltb 0x20 m.low && ltb m.high 0x5D)))
+    && (implies (in_escape m.place) (in_escape p || (is_text p && (eqb m.low 0x5C && eqb m.high 0x5C)))
+    && (implies (in_name p) (in_name m.place || (is_text p && (eqb m.low 0x22 && eqb m.high 0x22)))
+    && implies (pushes m.change) (starts_value p && (eqb m.low m.high && (eqb m.low 0x5B || eqb m.low 0x7B)))))
 
 unfoldable every : (Move → Bool) → List Move → Bool
 every f [] = true
 every f (m ∷ ms) = f m && every f ms
 
-abbrev fine-at : Place → Bool
-fine-at p = every (fine p) (moves p none) && (every (fine p) (moves p (some square)) && every (fine p) (moves p (some curly)))
+abbrev fine_at : Place → Bool
+fine_at p = every (fine p) (moves p none) && (every (fine p) (moves p (some square)) && every (fine p) (moves p (some curly)))
 
 unfoldable everywhere : (Place → Bool) → List Place → Bool
 everywhere f [] = true
 everywhere f (p ∷ ps) = f p && everywhere f ps
 
-all-fine : everywhere fine-at places ≡ true
+all_fine : everywhere fine_at places ≡ true
 unfolding everywhere every
-all-fine = refl
+all_fine = refl
 
 -- ---- what it says of a step
 
-fine-place : (f : Place → Bool) (ps : List Place) → everywhere f ps ≡ true → (i : ℕ) → i < length ps → f (get_or ps i after) ≡ true
+fine_place : (f : Place → Bool) (ps : List Place) → everywhere f ps ≡ true → (i : ℕ) → i < length ps → f (get_or ps i after) ≡ true
 unfolding everywhere
-fine-place f [] e i h = absurd (omega arith)
-fine-place f (p ∷ ps) e zero h = left (f p) (everywhere f ps) e
-fine-place f (p ∷ ps) e (suc i) h = fine-place f ps (right (f p) (everywhere f ps) e) i (omega arith)
+fine_place f [] e i h = absurd (omega arith)
+fine_place f (p ∷ ps) e zero h = left (f p) (everywhere f ps) e
+fine_place f (p ∷ ps) e (suc i) h = fine_place f ps (right (f p) (everywhere f ps) e) i (omega arith)
 
-of-each : (f : Place → Bool) → everywhere f places ≡ true → (p : Place) → f p ≡ true
-of-each f e p = subst (λ (q : Place). f q ≡ true) (place-back p) (fine-place f places e (placeCode p) (place-low p))
+of_each : (f : Place → Bool) → everywhere f places ≡ true → (p : Place) → f p ≡ true
+of_each f e p = subst (λ (q : Place). f q ≡ true) (place_back p) (fine_place f places e (place_code p) (place_low p))
 
-each-place : (p : Place) → fine-at p ≡ true
-each-place p = of-each fine-at all-fine p
+each_place : (p : Place) → fine_at p ≡ true
+each_place p = of_each fine_at all_fine p
 
 -- within a name no value starts
-no_value : everywhere (λ p. not (inName p && startsValue p)) places ≡ true
+no_value : everywhere (λ p. not (in_name p && starts_value p)) places ≡ true
 unfolding everywhere
 no_value = refl
 
-pub name-no-value : (p : Place) (b : ℕ) → inName p ≡ true → bracketed p b ≡ true → ⊥
-name-no-value p b n v =
-    let s : startsValue p ≡ true = left (startsValue p) (eqb b 0x5B || eqb b 0x7B) v in
-    let z : ◌≡◌ {A = Bool} true false = sym (of-each (λ q. not (inName q && startsValue q)) no_value p) ∙ rw (n, s) in
+pub name_no_value : (p : Place) (b : ℕ) → in_name p ≡ true → bracketed p b ≡ true → ⊥
+name_no_value p b n v =
+    let s : starts_value p ≡ true = left (starts_value p) (eqb b 0x5B || eqb b 0x7B) v in
+    let z : ◌≡◌ {A = Bool} true false = sym (of_each (λ q. not (in_name q && starts_value q)) no_value p) ∙ rw (n, s) in
     let y : ◌≡◌ {A = ℕ} 0 1 = cc in
     omega arith
 
-each-bracket : (p : Place) (k : Option Bracket) → every (fine p) (moves p k) ≡ true
-each-bracket p none = left (every (fine p) (moves p none)) _ (each-place p)
-each-bracket p (some square) = left (every (fine p) (moves p (some square))) _ (right (every (fine p) (moves p none)) _ (each-place p))
-each-bracket p (some curly) = right (every (fine p) (moves p (some square))) _ (right (every (fine p) (moves p none)) _ (each-place p))
+each_bracket : (p : Place) (k : Option Bracket) → every (fine p) (moves p k) ≡ true
+each_bracket p none = left (every (fine p) (moves p none)) _ (each_place p)
+each_bracket p (some square) = left (every (fine p) (moves p (some square))) _ (right (every (fine p) (moves p none)) _ (each_place p))
+each_bracket p (some curly) = right (every (fine p) (moves p (some square))) _ (right (every (fine p) (moves p none)) _ (each_place p))
 
 -- a move that is picked
 record Picked (p : Place) (b : ℕ) (m : Move) : Type 0 where
-  is-fine : fine p m ≡ true
+  is_fine : fine p m ≡ true
   low : m.low ≤ b
   high : b ≤ m.high
 
@@ -98,7 +98,7 @@ picked_of p b (x ∷ xs) e m q = go (leb x.low b && leb b x.high) refl q (λ r. 
         let same : x ≡ m = cc in
         subst (Picked p b) same
         (record {
-          is-fine = left (fine p x) (every (fine p) xs) e;
+          is_fine = left (fine p x) (every (fine p) xs) e;
           low = leb-true x.low b (left (leb x.low b) (leb b x.high) h);
           high = leb-true b x.high (right (leb x.low b) (leb b x.high) h);
         })
@@ -111,81 +111,81 @@ so false b e h = cc
 
 module _ {p : Place} {b : ℕ} {m : Move} (k : Picked p b m) where
   abbrev number_ok : Bool
-  number_ok = implies (is_number m.place) (is_number p || (startsValue p && (ltb 0x20 m.low && ltb m.high 0x5D)))
+  number_ok = implies (is_number m.place) (is_number p || (starts_value p && (ltb 0x20 m.low && ltb m.high 0x5D)))
 
-  abbrev escape-ok : Bool
-  escape-ok = implies (inEscape m.place) (inEscape p || (isText p && (eqb m.low 0x5C && eqb m.high 0x5C)))
+  abbrev escape_ok : Bool
+  escape_ok = implies (in_escape m.place) (in_escape p || (is_text p && (eqb m.low 0x5C && eqb m.high 0x5C)))
 
-  abbrev name-ok : Bool
-  name-ok = implies (inName p) (inName m.place || (isText p && (eqb m.low 0x22 && eqb m.high 0x22)))
+  abbrev name_ok : Bool
+  name_ok = implies (in_name p) (in_name m.place || (is_text p && (eqb m.low 0x22 && eqb m.high 0x22)))
 
   abbrev push_ok : Bool
-  push_ok = implies (pushes m.change) (startsValue p && (eqb m.low m.high && (eqb m.low 0x5B || eqb m.low 0x7B)))
+  push_ok = implies (pushes m.change) (starts_value p && (eqb m.low m.high && (eqb m.low 0x5B || eqb m.low 0x7B)))
 
-  number-so : number_ok ≡ true
-  number-so = left number_ok (escape-ok && (name-ok && push_ok)) k.is-fine
+  number_so : number_ok ≡ true
+  number_so = left number_ok (escape_ok && (name_ok && push_ok)) k.is_fine
 
-  escape-so : escape-ok ≡ true
-  escape-so = left escape-ok (name-ok && push_ok) (right number_ok (escape-ok && (name-ok && push_ok)) k.is-fine)
+  escape_so : escape_ok ≡ true
+  escape_so = left escape_ok (name_ok && push_ok) (right number_ok (escape_ok && (name_ok && push_ok)) k.is_fine)
 
-  name-so : name-ok ≡ true
-  name-so = left name-ok push_ok (right escape-ok (name-ok && push_ok) (right number_ok (escape-ok && (name-ok && push_ok)) k.is-fine))
+  name_so : name_ok ≡ true
+  name_so = left name_ok push_ok (right escape_ok (name_ok && push_ok) (right number_ok (escape_ok && (name_ok && push_ok)) k.is_fine))
 
-  push-so : push_ok ≡ true
-  push-so = right name-ok push_ok (right escape-ok (name-ok && push_ok) (right number_ok (escape-ok && (name-ok && push_ok)) k.is-fine))
+  push_so : push_ok ≡ true
+  push_so = right name_ok push_ok (right escape_ok (name_ok && push_ok) (right number_ok (escape_ok && (name_ok && push_ok)) k.is_fine))
 
   -- of the byte alone
-  only-byte : (n : ℕ) → eqb m.low n && eqb m.high n ≡ true → b ≡ n
-  only-byte n e =
+  only_byte : (n : ℕ) → eqb m.low n && eqb m.high n ≡ true → b ≡ n
+  only_byte n e =
       let l : m.low ≡ n = eqb-true m.low n (left (eqb m.low n) (eqb m.high n) e) in
       let h : m.high ≡ n = eqb-true m.high n (right (eqb m.low n) (eqb m.high n) e) in
       omega (arith, k.low, k.high)
 
-  into-number : is_number m.place ≡ true → numbered p b ≡ true
-  into-number n =
+  into_number : is_number m.place ≡ true → numbered p b ≡ true
+  into_number n =
       ⊎_elim
       (λ (e : is_number p ≡ true). rw e)
-      (λ (e : startsValue p && (ltb 0x20 m.low && ltb m.high 0x5D) ≡ true).
-      let v : startsValue p ≡ true = left (startsValue p) (ltb 0x20 m.low && ltb m.high 0x5D) e in
-      let r = right (startsValue p) (ltb 0x20 m.low && ltb m.high 0x5D) e in
+      (λ (e : starts_value p && (ltb 0x20 m.low && ltb m.high 0x5D) ≡ true).
+      let v : starts_value p ≡ true = left (starts_value p) (ltb 0x20 m.low && ltb m.high 0x5D) e in
+      let r = right (starts_value p) (ltb 0x20 m.low && ltb m.high 0x5D) e in
       let l : 0x20 < m.low = ltb-true 0x20 m.low (left (ltb 0x20 m.low) (ltb m.high 0x5D) r) in
       let h : m.high < 0x5D = ltb-true m.high 0x5D (right (ltb 0x20 m.low) (ltb m.high 0x5D) r) in
       let kl = k.low in
       let kh = k.high in
-      rw (v, lt-ltb 0x20 b (omega arith), lt-ltb b 0x5D (omega arith)) (or-true (is_number p)))
-      (either (is_number p) (startsValue p && (ltb 0x20 m.low && ltb m.high 0x5D)) (so (is_number m.place) _ number-so n))
+      rw (v, lt-ltb 0x20 b (omega arith), lt-ltb b 0x5D (omega arith)) (or_true (is_number p)))
+      (either (is_number p) (starts_value p && (ltb 0x20 m.low && ltb m.high 0x5D)) (so (is_number m.place) _ number_so n))
     where
-      or-true : (a : Bool) → a || true ≡ true
-      or-true true = refl
-      or-true false = refl
+      or_true : (a : Bool) → a || true ≡ true
+      or_true true = refl
+      or_true false = refl
 
-  into-escape : inEscape m.place ≡ true → escaping p b ≡ true
-  into-escape n =
+  into_escape : in_escape m.place ≡ true → escaping p b ≡ true
+  into_escape n =
       ⊎_elim
-      (λ (e : inEscape p ≡ true). rw e)
-      (λ (e : isText p && (eqb m.low 0x5C && eqb m.high 0x5C) ≡ true).
-      let v : isText p ≡ true = left (isText p) (eqb m.low 0x5C && eqb m.high 0x5C) e in
-      let at-slash : b ≡ 0x5C = only-byte 0x5C (right (isText p) (eqb m.low 0x5C && eqb m.high 0x5C) e) in
-      rw (v, eq-eqb b 0x5C at-slash) (or-true (inEscape p)))
-      (either (inEscape p) (isText p && (eqb m.low 0x5C && eqb m.high 0x5C)) (so (inEscape m.place) _ escape-so n))
+      (λ (e : in_escape p ≡ true). rw e)
+      (λ (e : is_text p && (eqb m.low 0x5C && eqb m.high 0x5C) ≡ true).
+      let v : is_text p ≡ true = left (is_text p) (eqb m.low 0x5C && eqb m.high 0x5C) e in
+      let at_slash : b ≡ 0x5C = only_byte 0x5C (right (is_text p) (eqb m.low 0x5C && eqb m.high 0x5C) e) in
+      rw (v, eq-eqb b 0x5C at_slash) (or_true (in_escape p)))
+      (either (in_escape p) (is_text p && (eqb m.low 0x5C && eqb m.high 0x5C)) (so (in_escape m.place) _ escape_so n))
     where
-      or-true : (a : Bool) → a || true ≡ true
-      or-true true = refl
-      or-true false = refl
+      or_true : (a : Bool) → a || true ≡ true
+      or_true true = refl
+      or_true false = refl
 
-  within-name : inName p ≡ true → (inName m.place ≡ true) ⊎ ((isText p ≡ true) × (b ≡ 0x22))
-  within-name n =
+  within_name : in_name p ≡ true → (in_name m.place ≡ true) ⊎ ((is_text p ≡ true) × (b ≡ 0x22))
+  within_name n =
       ⊎_elim
-      (λ (e : inName m.place ≡ true). inl e)
-      (λ (e : isText p && (eqb m.low 0x22 && eqb m.high 0x22) ≡ true).
-      inr (left (isText p) (eqb m.low 0x22 && eqb m.high 0x22) e, only-byte 0x22 (right (isText p) (eqb m.low 0x22 && eqb m.high 0x22) e)))
-      (either (inName m.place) (isText p && (eqb m.low 0x22 && eqb m.high 0x22)) (so (inName p) _ name-so n))
+      (λ (e : in_name m.place ≡ true). inl e)
+      (λ (e : is_text p && (eqb m.low 0x22 && eqb m.high 0x22) ≡ true).
+      inr (left (is_text p) (eqb m.low 0x22 && eqb m.high 0x22) e, only_byte 0x22 (right (is_text p) (eqb m.low 0x22 && eqb m.high 0x22) e)))
+      (either (in_name m.place) (is_text p && (eqb m.low 0x22 && eqb m.high 0x22)) (so (in_name p) _ name_so n))
 
-  into-bracket : pushes m.change ≡ true → bracketed p b ≡ true
-  into-bracket n =
-      let e = so (pushes m.change) _ push-so n in
-      let v : startsValue p ≡ true = left (startsValue p) (eqb m.low m.high && (eqb m.low 0x5B || eqb m.low 0x7B)) e in
-      let r = right (startsValue p) (eqb m.low m.high && (eqb m.low 0x5B || eqb m.low 0x7B)) e in
+  into_bracket : pushes m.change ≡ true → bracketed p b ≡ true
+  into_bracket n =
+      let e = so (pushes m.change) _ push_so n in
+      let v : starts_value p ≡ true = left (starts_value p) (eqb m.low m.high && (eqb m.low 0x5B || eqb m.low 0x7B)) e in
+      let r = right (starts_value p) (eqb m.low m.high && (eqb m.low 0x5B || eqb m.low 0x7B)) e in
       let one : m.low ≡ m.high = eqb-true m.low m.high (left (eqb m.low m.high) (eqb m.low 0x5B || eqb m.low 0x7B) r) in
       let kl = k.low in
       let kh = k.high in
@@ -196,8 +196,8 @@ module _ {p : Place} {b : ℕ} {m : Move} (k : Picked p b m) where
 
 pub record Leads (p : Place) (ks : List Bracket) (b : ℕ) (q : Place) (ls : List Bracket) : Type 0 where
   pub number : is_number q ≡ true → numbered p b ≡ true
-  pub escape : inEscape q ≡ true → escaping p b ≡ true
-  pub name : inName p ≡ true → (inName q ≡ true) ⊎ ((isText p ≡ true) × (b ≡ 0x22))
+  pub escape : in_escape q ≡ true → escaping p b ≡ true
+  pub name : in_name p ≡ true → (in_name q ≡ true) ⊎ ((is_text p ≡ true) × (b ≡ 0x22))
   pub deeper : (bracketed p b ≡ true) ⊎ (length ls ≤ length ks)
   pub few : length ls ≤ suc (length ks)
 
@@ -212,7 +212,7 @@ leads p ks b q ls e = go (pick (moves p (innermost ks)) b) refl e
         less : (ks : List Bracket) → length (changed pop ks) ≤ length ks
         less [] = omega arith
         less (x ∷ xs) = omega arith
-    grows m k (push x) h = inl (into-bracket k (rw h))
+    grows m k (push x) h = inl (into_bracket k (rw h))
 
     at_most : (c : Change) (ks : List Bracket) → length (changed c ks) ≤ suc (length ks)
     at_most keep ks = omega arith
@@ -223,13 +223,13 @@ leads p ks b q ls e = go (pick (moves p (innermost ks)) b) refl e
     go : (o : Option Move) → pick (moves p (innermost ks)) b ≡ o → follow ks o ≡ some (at q ls) → Leads p ks b q ls
     go none h r = absurd (let z : ◌≡◌ {A = ℕ} 0 1 = cc in omega arith)
     go (some m) h r =
-        let k : Picked p b m = picked_of p b (moves p (innermost ks)) (each-bracket p (innermost ks)) m h in
+        let k : Picked p b m = picked_of p b (moves p (innermost ks)) (each_bracket p (innermost ks)) m h in
         let place_is : m.place ≡ q = cc in
-        let brackets-are : changed m.change ks ≡ ls = cc in
+        let brackets_are : changed m.change ks ≡ ls = cc in
         record {
-          number = rw place_is at (into-number k);
-          escape = rw place_is at (into-escape k);
-          name = rw place_is at (within-name k);
-          deeper = rw brackets-are at (grows m k m.change refl);
-          few = rw brackets-are at (at_most m.change ks);
+          number = rw place_is at (into_number k);
+          escape = rw place_is at (into_escape k);
+          name = rw place_is at (within_name k);
+          deeper = rw brackets_are at (grows m k m.change refl);
+          few = rw brackets_are at (at_most m.change ks);
         }

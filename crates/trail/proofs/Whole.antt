@@ -15,13 +15,13 @@ use lib.Dec.{eqb}
 use lib.ListN.{length, drop, length-drop}
 use lib.Seq.{drop-length}
 use Rattle.laws.proofs.Tests.{decide}
-use Rattle.json.specs.Text.{Text, bytes}
-use Rattle.json.specs.Automaton.{Bracket, Place, ahead, firstElement, after, name, firstName, colon, word, minus, nought, whole, point, part, letter, sign, power, text, escape, unit, char, at, start, ended}
-use Rattle.json.specs.Along.{along}
-use Rattle.json.proofs.Trimming.{by_zero}
-use Rattle.sheet.specs.Faults.{level-refused}
+use Rattle.jsontext.specs.Text.{Text, bytes}
+use Rattle.jsontext.specs.Automaton.{Bracket, Place, ahead, first_element, after, name, first_name, colon, word, minus, nought, whole, point, part, letter, sign, power, text, escape, unit, char, at, start, ended}
+use Rattle.jsontext.specs.Along.{along}
+use Rattle.jsontext.proofs.Trimming.{by_zero}
+use Rattle.sheet.specs.Faults.{level_refused}
 use Rattle.figure.specs.Figure.{figured}
-use Rattle.reader.specs.Faults.{Fault, firstFault}
+use Rattle.reader.specs.Faults.{Fault, first_fault}
 use Rattle.survey.specs.declared.Watch.{Watch}
 use Rattle.survey.specs.Watching as Watching
 use Rattle.survey.specs.Watching.{watch, found, moved, watching}
@@ -29,33 +29,33 @@ use Rattle.survey.specs.Told.{told, unnamed}
 use Rattle.survey.proofs.Orders.{going, stays}
 use Rattle.survey.proofs.Strung.{verdict}
 use Rattle.survey.proofs.Watched.{watched}
-use Rattle.tally.specs.Tallying.{Tally, noTally, tallying}
+use Rattle.tally.specs.Tallying.{Tally, no_tally, tallying}
 use Rattle.tally.proofs.Tallied.{Tallied, tallied}
-use Rattle.naming.specs.Gathering.{textFrom, wordsFrom, before, Gather, nothing_yet, gather}
-use Rattle.naming.proofs.Gathered.{text-gathers}
-use Rattle.naming.proofs.Earlier.{left_at, otherFault, namesBefore}
-use Rattle.naming.proofs.Levels.{held-text}
+use Rattle.naming.specs.Gathering.{text_from, words_from, before, Gather, nothing_yet, gather}
+use Rattle.naming.proofs.Gathered.{text_gathers}
+use Rattle.naming.proofs.Earlier.{left_at, other_fault, names_before}
+use Rattle.naming.proofs.Levels.{held_text}
 use Rattle.trail.specs.Trail.{Kept, Trail}
-use Rattle.trail.proofs.Places.{is_number, inName}
+use Rattle.trail.proofs.Places.{is_number, in_name}
 use Rattle.trail.proofs.Ordered.{ordered}
-use Rattle.trail.proofs.Along.{unmoved-on, watch-along, tally-along}
-use Rattle.trail.proofs.Limits.{limited, none-behind}
+use Rattle.trail.proofs.Along.{unmoved_on, watch_along, tally_along}
+use Rattle.trail.proofs.Limits.{limited, none_behind}
 
 -- ---- where a text may end
 
-false-is : {A : Type 0} → false ≡ true → A
-false-is e = absurd (let z : ◌≡◌ {A = ℕ} 0 1 = cc in omega arith)
+false_is : {A : Type 0} → false ≡ true → A
+false_is e = absurd (let z : ◌≡◌ {A = ℕ} 0 1 = cc in omega arith)
 
 -- what the end does there: a number ends
 record Last (p : Place) : Type 0 where
-  out : inName p ≡ false
+  out : in_name p ≡ false
   no_name : (limit : ℕ) (ks : List Bracket) (g : Gather) → gather limit p ks 0x20 [] g ≡ g
-  no-count : (ks : List Bracket) (t : Tally) → tallying p ks 0x20 [] t ≡ t
+  no_count : (ks : List Bracket) (t : Tally) → tallying p ks 0x20 [] t ≡ t
   number : (k : ℕ) (w : Watch) → w.fault ≡ 0 → (moved p k 0x20 1 w).fault ≢ 0 → (is_number p ≡ true) × ((moved p k 0x20 1 w).left ≡ w.start)
 
-ends-at-start : (k : ℕ) (w : Watch) → w.fault ≡ 0 → (Watching.ended k w).fault ≢ 0 → (Watching.ended k w).left ≡ w.start
+ends_at_start : (k : ℕ) (w : Watch) → w.fault ≡ 0 → (Watching.ended k w).fault ≢ 0 → (Watching.ended k w).left ≡ w.start
 unfolding Watching.ended
-ends-at-start k w calm = go (figured w.figure).wide (eqb (suc k) level-refused)
+ends_at_start k w calm = go (figured w.figure).wide (eqb (suc k) level_refused)
   where
     go : (a b : Bool) → (cond a (found 23 w.start w) (cond b (found 24 w.start w) w)).fault ≢ 0
         → (cond a (found 23 w.start w) (cond b (found 24 w.start w) w)).left ≡ w.start
@@ -63,49 +63,49 @@ ends-at-start k w calm = go (figured w.figure).wide (eqb (suc k) level-refused)
     go false true z = refl
     go false false z = absurd (z calm)
 
-number-last : (p : Place) → inName p ≡ false → is_number p ≡ true → ((limit : ℕ) (ks : List Bracket) (g : Gather) → gather limit p ks 0x20 [] g ≡ g)
+number_last : (p : Place) → in_name p ≡ false → is_number p ≡ true → ((limit : ℕ) (ks : List Bracket) (g : Gather) → gather limit p ks 0x20 [] g ≡ g)
     → ((ks : List Bracket) (t : Tally) → tallying p ks 0x20 [] t ≡ t) → ((k : ℕ) (w : Watch) → moved p k 0x20 1 w ≡ Watching.ended k w) → Last p
-number-last p o n g t m =
-    record { out = o; no_name = g; no-count = t; number = λ k w calm z. (n, ap (λ (x : Watch). x.left) (m k w) ∙ ends-at-start k w calm (rw (m k w) at z)) }
+number_last p o n g t m =
+    record { out = o; no_name = g; no_count = t; number = λ k w calm z. (n, ap (λ (x : Watch). x.left) (m k w) ∙ ends_at_start k w calm (rw (m k w) at z)) }
 
 last : (p : Place) → ended p ≡ true → Last p
 unfolding tallying
-last ahead e = false-is e
-last firstElement e = false-is e
-last after e = record { out = refl; no_name = λ limit ks g. refl; no-count = λ ks t. refl; number = λ k w calm z. absurd (z calm) }
-last name e = false-is e
-last firstName e = false-is e
-last colon e = false-is e
-last (word w) e = false-is e
-last minus e = false-is e
-last nought e = number-last nought refl refl (λ limit ks g. refl) (λ ks t. refl) (λ k w. refl)
-last whole e = number-last whole refl refl (λ limit ks g. refl) (λ ks t. refl) (λ k w. refl)
-last point e = false-is e
-last part e = number-last part refl refl (λ limit ks g. refl) (λ ks t. refl) (λ k w. refl)
-last letter e = false-is e
-last sign e = false-is e
-last power e = number-last power refl refl (λ limit ks g. refl) (λ ks t. refl) (λ k w. refl)
-last (text r) e = false-is e
-last (escape r) e = false-is e
-last (unit h r) e = false-is e
-last (char c r) e = false-is e
+last ahead e = false_is e
+last first_element e = false_is e
+last after e = record { out = refl; no_name = λ limit ks g. refl; no_count = λ ks t. refl; number = λ k w calm z. absurd (z calm) }
+last name e = false_is e
+last first_name e = false_is e
+last colon e = false_is e
+last (word w) e = false_is e
+last minus e = false_is e
+last nought e = number_last nought refl refl (λ limit ks g. refl) (λ ks t. refl) (λ k w. refl)
+last whole e = number_last whole refl refl (λ limit ks g. refl) (λ ks t. refl) (λ k w. refl)
+last point e = false_is e
+last part e = number_last part refl refl (λ limit ks g. refl) (λ ks t. refl) (λ k w. refl)
+last letter e = false_is e
+last sign e = false_is e
+last power e = number_last power refl refl (λ limit ks g. refl) (λ ks t. refl) (λ k w. refl)
+last (text r) e = false_is e
+last (escape r) e = false_is e
+last (unit h r) e = false_is e
+last (char c r) e = false_is e
 
 -- ---- of a text
 
 pub data Stopped (json : List ℕ) (i : ℕ) (p : Place) (x : Kept) : Type 0 where
-  at-fault : x.watch.fault ≢ 0 → x.names.on ≡ false → Stopped json i p x
-  at-end : i ≡ length json → ended p ≡ true → Stopped json i p x
+  at_fault : x.watch.fault ≢ 0 → x.names.on ≡ false → Stopped json i p x
+  at_end : i ≡ length json → ended p ≡ true → Stopped json i p x
 
 -- a fault that is no name's, and the names before it
 pub record Seen (t : Text) (w : Watch) (g : Gather) : Type 0 where
-  pub told_is : verdict w [] ≡ told (otherFault t)
-  pub text-is : g.text ≡ textFrom (namesBefore t)
-  pub words_are : g.words ≡ wordsFrom 0 (namesBefore t)
+  pub told_is : verdict w [] ≡ told (other_fault t)
+  pub text_is : g.text ≡ text_from (names_before t)
+  pub words_are : g.words ≡ words_from 0 (names_before t)
 
-left-told : (o : Option Fault) → left_at o ≡ (told o).left
+left_told : (o : Option Fault) → left_at o ≡ (told o).left
 unfolding told
-left-told none = refl
-left-told (some f) = refl
+left_told none = refl
+left_told (some f) = refl
 
 module _ (t : Text) (short : length (bytes t) ≤ 65_536) (i : ℕ) (p : Place) (ks : List Bracket) (x : Kept) (tr : Trail (bytes t) i (at p ks) x) where
   -- what is kept of faults at the end
@@ -118,17 +118,17 @@ module _ (t : Text) (short : length (bytes t) ≤ 65_536) (i : ℕ) (p : Place) 
   nothing_left : i ≡ length json → drop i json ≡ []
   nothing_left e = ap (λ (k : ℕ). drop k json) e ∙ drop-length json
 
-  watch-last : Stopped json i p x → along watching json (some start) watch ≡ finally
+  watch_last : Stopped json i p x → along watching json (some start) watch ≡ finally
   unfolding along
-  watch-last (at-fault bad off) =
-      watch-along tr ∙ unmoved-on watching x.watch (λ q ls b bs. stays x.watch bad q ls b bs) (drop i json) (some (at p ks)) ∙ sym (stays x.watch bad p ks 0x20 [])
-  watch-last (at-end e l) = watch-along tr ∙ ap (λ (r : List ℕ). along watching r (some (at p ks)) x.watch) (nothing_left e)
+  watch_last (at_fault bad off) =
+      watch_along tr ∙ unmoved_on watching x.watch (λ q ls b bs. stays x.watch bad q ls b bs) (drop i json) (some (at p ks)) ∙ sym (stays x.watch bad p ks 0x20 [])
+  watch_last (at_end e l) = watch_along tr ∙ ap (λ (r : List ℕ). along watching r (some (at p ks)) x.watch) (nothing_left e)
 
-  told-last : Stopped json i p x → verdict finally [] ≡ told (otherFault t)
-  told-last s = ap (λ (w : Watch). verdict w []) (sym (watch-last s)) ∙ watched t short
+  told_last : Stopped json i p x → verdict finally [] ≡ told (other_fault t)
+  told_last s = ap (λ (w : Watch). verdict w []) (sym (watch_last s)) ∙ watched t short
 
-  limit_is : Stopped json i p x → (verdict finally []).left ≡ left_at (otherFault t)
-  limit_is s = ap (λ r. r.left) (told-last s) ∙ sym (left-told (otherFault t))
+  limit_is : Stopped json i p x → (verdict finally []).left ≡ left_at (other_fault t)
+  limit_is s = ap (λ r. r.left) (told_last s) ∙ sym (left_told (other_fault t))
 
   -- ---- the names
 
@@ -144,63 +144,63 @@ module _ (t : Text) (short : length (bytes t) ≤ 65_536) (i : ℕ) (p : Place) 
       limited tr limit h ∙ ap (λ (r : List ℕ). along (gather limit) r (some (at p ks)) x.names) (nothing_left e) ∙ l.no_name limit ks x.names in
       record { text_same = ap (λ (g : Gather). g.text) same; words_same = ap (λ (g : Gather). g.words) same }
 
-  behind-fault : (bad : x.watch.fault ≢ 0) → x.names.on ≡ false → Gathers x.watch.left
-  behind-fault bad off =
+  behind_fault : (bad : x.watch.fault ≢ 0) → x.names.on ≡ false → Gathers x.watch.left
+  behind_fault bad off =
       let r = (ordered tr).found bad in
-      let q = none-behind x.watch.left (drop i json) (some (at p ks)) x.names off (omega (arith, length-drop i json, r.0)) in
+      let q = none_behind x.watch.left (drop i json) (some (at p ks)) x.names off (omega (arith, length-drop i json, r.0)) in
       let same = limited tr x.watch.left r.1 in
-      record { text_same = ap (λ (g : Gather). g.text) same ∙ q.text-is; words_same = ap (λ (g : Gather). g.words) same ∙ q.words_are }
+      record { text_same = ap (λ (g : Gather). g.text) same ∙ q.text_is; words_same = ap (λ (g : Gather). g.words) same ∙ q.words_are }
 
-  off-at-end : Last p → x.names.on ≡ false
-  off-at-end l = ⊎_elim (λ (e : x.names.on ≡ true). false-is (sym l.out ∙ (ordered tr).named e)) (λ (e : x.names.on ≡ false). e) (decide x.names.on)
+  off_at_end : Last p → x.names.on ≡ false
+  off_at_end l = ⊎_elim (λ (e : x.names.on ≡ true). false_is (sym l.out ∙ (ordered tr).named e)) (λ (e : x.names.on ≡ false). e) (decide x.names.on)
 
-  faulty-limit : (w : Watch) → w.fault ≢ 0 → (verdict w []).left ≡ w.left
-  faulty-limit w z = rw (ne_eqb w.fault 0 z)
+  faulty_limit : (w : Watch) → w.fault ≢ 0 → (verdict w []).left ≡ w.left
+  faulty_limit w z = rw (ne_eqb w.fault 0 z)
 
-  calm-limit : (w : Watch) → w.fault ≡ 0 → (verdict w []).left ≡ 0
-  unfolding told firstFault unnamed
-  calm-limit w z = rw (eq-eqb w.fault 0 z)
+  calm_limit : (w : Watch) → w.fault ≡ 0 → (verdict w []).left ≡ 0
+  unfolding told first_fault unnamed
+  calm_limit w z = rw (eq-eqb w.fault 0 z)
 
-  gathers-fault : (bad : x.watch.fault ≢ 0) → x.names.on ≡ false → Gathers (verdict finally []).left
-  gathers-fault bad off =
-      let same : (verdict finally []).left ≡ x.watch.left = ap (λ (w : Watch). (verdict w []).left) (stays x.watch bad p ks 0x20 []) ∙ faulty-limit x.watch bad in
-      rw same (behind-fault bad off)
+  gathers_fault : (bad : x.watch.fault ≢ 0) → x.names.on ≡ false → Gathers (verdict finally []).left
+  gathers_fault bad off =
+      let same : (verdict finally []).left ≡ x.watch.left = ap (λ (w : Watch). (verdict w []).left) (stays x.watch bad p ks 0x20 []) ∙ faulty_limit x.watch bad in
+      rw same (behind_fault bad off)
 
-  gathers-end : (calm : x.watch.fault ≡ 0) → i ≡ length json → Last p → Gathers (verdict finally []).left
-  gathers-end calm e l =
+  gathers_end : (calm : x.watch.fault ≡ 0) → i ≡ length json → Last p → Gathers (verdict finally []).left
+  gathers_end calm e l =
       rw (going p ks 0x20 [] x.watch calm)
       (⊎_elim
-      (λ (z : last-watch.fault ≡ 0). rw (calm-limit last-watch z) (at_last e l 0 (λ h. h)))
-      (λ (z : last-watch.fault ≢ 0).
+      (λ (z : last_watch.fault ≡ 0). rw (calm_limit last_watch z) (at_last e l 0 (λ h. h)))
+      (λ (z : last_watch.fault ≢ 0).
       let n = l.number (length ks) x.watch calm z in
       let r = (ordered tr).number calm n.0 in
-      rw (faulty-limit last-watch z, n.1) (at_last e l x.watch.start r.1))
-      (by_zero last-watch.fault))
+      rw (faulty_limit last_watch z, n.1) (at_last e l x.watch.start r.1))
+      (by_zero last_watch.fault))
     where
-      last-watch : Watch
-      last-watch = moved p (length ks) 0x20 1 x.watch
+      last_watch : Watch
+      last_watch = moved p (length ks) 0x20 1 x.watch
 
   gathers : Stopped json i p x → Gathers (verdict finally []).left
-  gathers (at-fault bad off) = gathers-fault bad off
-  gathers (at-end e l) =
+  gathers (at_fault bad off) = gathers_fault bad off
+  gathers (at_end e l) =
       ⊎_elim
-      (λ (calm : x.watch.fault ≡ 0). gathers-end calm e (last p l))
-      (λ (bad : x.watch.fault ≢ 0). gathers-fault bad (off-at-end (last p l)))
+      (λ (calm : x.watch.fault ≡ 0). gathers_end calm e (last p l))
+      (λ (bad : x.watch.fault ≢ 0). gathers_fault bad (off_at_end (last p l)))
       (by_zero x.watch.fault)
 
   pub seen : Stopped json i p x → Seen t finally x.names
   seen s =
       let g = rw (limit_is s) at (gathers s) in
-      let all = text-gathers (left_at (otherFault t)) t (held-text t) in
+      let all = text_gathers (left_at (other_fault t)) t (held_text t) in
       record {
-        told_is = told-last s;
-        text-is = sym g.text_same ∙ all.text-is;
-        words_are = sym g.words_same ∙ all.words-is;
+        told_is = told_last s;
+        text_is = sym g.text_same ∙ all.text_is;
+        words_are = sym g.words_same ∙ all.words_is;
       }
 
   pub counts : i ≡ length json → ended p ≡ true → Tallied t x.tally
   unfolding along
   counts e l =
-      let same : along tallying json (some start) noTally ≡ x.tally =
-      tally-along tr ∙ ap (λ (r : List ℕ). along tallying r (some (at p ks)) x.tally) (nothing_left e) ∙ (last p l).no-count ks x.tally in
+      let same : along tallying json (some start) no_tally ≡ x.tally =
+      tally_along tr ∙ ap (λ (r : List ℕ). along tallying r (some (at p ks)) x.tally) (nothing_left e) ∙ (last p l).no_count ks x.tally in
       subst (Tallied t) same (tallied t)

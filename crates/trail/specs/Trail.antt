@@ -2,10 +2,10 @@
 -- Assumes nothing.
 use Rattle.std.specs.Prelude.{true, List, ◌⊎◌, ◌≡◌, ℕ, suc, ◌<◌, length, get_or, drop}
 use Rattle.std.proofs.Math.Option.{some}
-use Rattle.json.specs.Automaton.{State, at, step, start}
+use Rattle.jsontext.specs.Automaton.{State, at, step, start}
 use Rattle.survey.specs.declared.Watch.{Watch}
 use Rattle.survey.specs.Watching.{watch, watching}
-use Rattle.tally.specs.Tallying.{Tally, noTally, tallying}
+use Rattle.tally.specs.Tallying.{Tally, no_tally, tallying}
 use Rattle.naming.specs.Gathering.{Gather, nothing_yet, gather}
 
 pub record Kept : Type 0 where
@@ -14,8 +14,8 @@ pub record Kept : Type 0 where
   pub names : Gather
 
 -- before the first byte
-abbrev pub nothing-kept : Kept
-nothing-kept = record { watch = watch; tally = noTally; names = nothing_yet }
+abbrev pub nothing_kept : Kept
+nothing_kept = record { watch = watch; tally = no_tally; names = nothing_yet }
 
 -- a byte, with those behind it; all names are gathered
 abbrev pub keeping : State → ℕ → List ℕ → Kept → Kept
@@ -28,6 +28,6 @@ GoesOn x = (x.watch.fault ≡ 0) ⊎ (x.names.on ≡ true)
 
 -- after the first i bytes of a text
 pub data Trail (json : List ℕ) : ℕ → State → Kept → Type 0 where
-  begins : Trail json 0 start nothing-kept
+  begins : Trail json 0 start nothing_kept
   goes : {i : ℕ} {s t : State} {x : Kept} → Trail json i s x → GoesOn x → i < length json → step s (get_or json i 0) ≡ some t
       → Trail json (suc i) t (keeping s (get_or json i 0) (drop (suc i) json) x)

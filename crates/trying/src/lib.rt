@@ -2,13 +2,15 @@
 // in a line. No pair is open here, so what these functions keep costs no stack.
 //
 // The contracts cite `specs/Lent.antt` of `lent`.
+#![tactic(auto)]
+
 ghost use Rattle.std.specs.Prelude.{◌≡◌, ℕ, ◌+◌, ◌*◌, ◌≤◌, ◌<◌, length};
-ghost use Rattle.rulesheet.specs.Sheet.{schemaAt};
-ghost use Rattle.areas.specs.Cells.{pairIs, cell_at, Unsettled};
+ghost use Rattle.rulesheet.specs.Sheet.{schema_at};
+ghost use Rattle.areas.specs.Cells.{pair_is, cell_at, Unsettled};
 ghost use Rattle.rulesheet.specs.Ruleset.{Test, asserts};
 ghost use Rattle.meaning.specs.Rules.{passes};
 ghost use Rattle.rows.specs.Firsts.{FirstRows};
-ghost use Rattle.lent.specs.Lent.{pair, Lent, RowsPass, lent, lentCase, clauseAt, PassesFirst, Reads, ReadsClause};
+ghost use Rattle.lent.specs.Lent.{pair, Lent, RowsPass, lent, lent_case, clause_at, PassesFirst, Reads, ReadsClause};
 
 use clause::test::passes_clause;
 use lent::{RECORD, RULES, clauses_of, record_form, rules_form, schemas_of};
@@ -26,9 +28,9 @@ pub fn plain<'a, 'b>(
     p: Pair,
     many: u32,
 ) -> u32
-    requires reads { Reads sheets.now texts.now forms.now (pairIs p) × (many ≡ (schemaAt (lent sheets.now 1) p.rule.0).count) }
-    requires unsettled { Unsettled (lentCase sheets.now texts.now forms.now).m (pairIs p) cells.now }
-    ensures { PassesFirst (lentCase sheets.now texts.now forms.now) (pairIs p) many result }
+    requires reads { Reads sheets.now texts.now forms.now (pair_is p) × (many ≡ (schema_at (lent sheets.now 1) p.rule.0).count) }
+    requires unsettled { Unsettled (lent_case sheets.now texts.now forms.now).m (pair_is p) cells.now }
+    ensures { PassesFirst (lent_case sheets.now texts.now forms.now) (pair_is p) many result }
 {
     let form = record_form(forms);
     let rule_form = rules_form(forms);
@@ -77,9 +79,9 @@ pub fn plain_rows<'a, 'b>(
     q: Pair,
     n: u32,
 ) -> u32
-    requires lent { Lent sheets.now texts.now forms.now × (q.row.0 + n ≤ (lentCase sheets.now texts.now forms.now).n) × (q.rule.0 < (lentCase sheets.now texts.now forms.now).m) }
-    requires forms_in_bounds { ((lentCase sheets.now texts.now forms.now).n * (lentCase sheets.now texts.now forms.now).m ≤ length cells.now) × (length cells.now < 4294967296) }
-    ensures { (result ≤ n) × RowsPass (lentCase sheets.now texts.now forms.now) (pairIs q) (schemaAt (lent sheets.now 1) q.rule.0).count result cells.now }
+    requires lent { Lent sheets.now texts.now forms.now × (q.row.0 + n ≤ (lent_case sheets.now texts.now forms.now).n) × (q.rule.0 < (lent_case sheets.now texts.now forms.now).m) }
+    requires forms_in_bounds { ((lent_case sheets.now texts.now forms.now).n * (lent_case sheets.now texts.now forms.now).m ≤ length cells.now) × (length cells.now < 4294967296) }
+    ensures { (result ≤ n) × RowsPass (lent_case sheets.now texts.now forms.now) (pair_is q) (schema_at (lent sheets.now 1) q.rule.0).count result cells.now }
 {
     let form = record_form(forms);
     let rule_form = rules_form(forms);
@@ -108,9 +110,9 @@ pub fn holds<'a, 'b>(
     p: Pair,
     i: u32,
 ) -> bool
-    requires reads_clause { ReadsClause sheets.now texts.now forms.now (pairIs p) i }
-    requires unsettled { Unsettled (lentCase sheets.now texts.now forms.now).m (pairIs p) cells.now }
-    ensures { (t : Test) → clauseAt (lentCase sheets.now texts.now forms.now) (pairIs p) i ≡ asserts t → result ≡ passes (lentCase sheets.now texts.now forms.now).doc p.row.0 t }
+    requires reads_clause { ReadsClause sheets.now texts.now forms.now (pair_is p) i }
+    requires unsettled { Unsettled (lent_case sheets.now texts.now forms.now).m (pair_is p) cells.now }
+    ensures { (t : Test) → clause_at (lent_case sheets.now texts.now forms.now) (pair_is p) i ≡ asserts t → result ≡ passes (lent_case sheets.now texts.now forms.now).doc p.row.0 t }
 {
     let form = record_form(forms);
     let rule_form = rules_form(forms);

@@ -1,8 +1,8 @@
--- The computed forms agree with the rule, where every step leads below m; `chain-is` and `is-chain` of `Paths` say so of chains.
---     on-loop, loop-on             `onLoop` finds the schemas on a loop, and no other
+-- The computed forms agree with the rule, where every step leads below m; `chain_is` and `is_chain` of `Paths` say so of chains.
+--     on_loop_lem, loop_on         `on_loop` finds the schemas on a loop, and no other
 --     no_loop                      where no chain of k steps starts, there is no loop
---     loop-at, loop-first          the place of 8 is the lowest schema on a loop
---     chain-at, chain_first        the place of 9 is the lowest schema that starts a chain of 33
+--     loop_at, loop_first          the place of 8 is the lowest schema on a loop
+--     chain_at, chain_first        the place of 9 is the lowest schema that starts a chain of 33
 -- Assumes nothing.
 use mathlib.Core.Bool.{Bool, true, false}
 use mathlib.Core.List.{List, Memᴰ as In}
@@ -10,40 +10,40 @@ use mathlib.Core.Path.{◌≡◌}
 use Prim.Native.Nat.{ℕ, ◌<◌}
 use native.Mathlib.Omega.{arith}
 use Rattle.laws.specs.Lowest.{lowest}
-use Rattle.laws.proofs.Searches.{clear-below, holds_at, at-most-end}
-use Rattle.unguarded.specs.Graph.{chain_steps, OnLoop, Chain, chain, onLoop}
-use Rattle.unguarded.specs.Places.{loopPlace, chainPlace}
-use Rattle.unguarded.proofs.Lists.{is_false, not-both}
-use Rattle.unguarded.proofs.Paths.{via-reached, reached-via, chain-is, is-chain, loop-chain}
+use Rattle.laws.proofs.Searches.{clear_below, holds_at, at_most_end}
+use Rattle.unguarded.specs.Graph.{chain_steps, OnLoop, Chain, chain, on_loop}
+use Rattle.unguarded.specs.Places.{loop_place, chain_place}
+use Rattle.unguarded.proofs.Lists.{is_false, not_both}
+use Rattle.unguarded.proofs.Paths.{via_reached, reached_via, chain_is, is_chain, loop_chain}
 
 module _ (test : ℕ → Bool) (m : ℕ) where
   here : lowest test m < m → test (lowest test m) ≡ true
   here h = holds_at test m 0 (omega arith)
 
-  pub not-before : (s : ℕ) → s < lowest test m → test s ≡ false
-  not-before s h = clear-below test m 0 s (omega arith) (omega (arith, at-most-end test m 0)) h
+  pub not_before : (s : ℕ) → s < lowest test m → test s ≡ false
+  not_before s h = clear_below test m 0 s (omega arith) (omega (arith, at_most_end test m 0)) h
 
 module _ (m : ℕ) (next : ℕ → List ℕ) where
-  pub on-loop : (s : ℕ) → onLoop m next s ≡ true → OnLoop next s
-  unfolding onLoop
-  on-loop s e = via-reached next m s s e
+  pub on_loop_lem : (s : ℕ) → on_loop m next s ≡ true → OnLoop next s
+  unfolding on_loop
+  on_loop_lem s e = via_reached next m s s e
 
-  pub no_loop : (k s : ℕ) → chain next k s ≡ false → onLoop m next s ≡ false
-  no_loop k s e = is_false (onLoop m next s) (λ h. not-both (chain next k s) (loop-chain next k s (on-loop s h)) e)
+  pub no_loop : (k s : ℕ) → chain next k s ≡ false → on_loop m next s ≡ false
+  no_loop k s e = is_false (on_loop m next s) (λ h. not_both (chain next k s) (loop_chain next k s (on_loop_lem s h)) e)
 
-  pub loop-at : loopPlace m next < m → OnLoop next (loopPlace m next)
-  loop-at h = on-loop (loopPlace m next) (here (onLoop m next) m h)
+  pub loop_at : loop_place m next < m → OnLoop next (loop_place m next)
+  loop_at h = on_loop_lem (loop_place m next) (here (on_loop m next) m h)
 
-  pub chain-at : chainPlace m next < m → Chain next chain_steps (chainPlace m next)
-  chain-at h = chain-is next chain_steps (chainPlace m next) (here (chain next chain_steps) m h)
+  pub chain_at : chain_place m next < m → Chain next chain_steps (chain_place m next)
+  chain_at h = chain_is next chain_steps (chain_place m next) (here (chain next chain_steps) m h)
 
-  pub chain_first : (s : ℕ) → s < chainPlace m next → Chain next chain_steps s → ⊥
-  chain_first s h c = not-both (chain next chain_steps s) (is-chain next chain_steps s c) (not-before (chain next chain_steps) m s h)
+  pub chain_first : (s : ℕ) → s < chain_place m next → Chain next chain_steps s → ⊥
+  chain_first s h c = not_both (chain next chain_steps s) (is_chain next chain_steps s c) (not_before (chain next chain_steps) m s h)
 
   module _ (inside : (s t : ℕ) → In t (next s) → t < m) where
-    pub loop-on : (s : ℕ) → OnLoop next s → onLoop m next s ≡ true
-    unfolding onLoop
-    loop-on s l = reached-via next m inside l
+    pub loop_on : (s : ℕ) → OnLoop next s → on_loop m next s ≡ true
+    unfolding on_loop
+    loop_on s l = reached_via next m inside l
 
-    pub loop-first : (s : ℕ) → s < loopPlace m next → OnLoop next s → ⊥
-    loop-first s h l = not-both (onLoop m next s) (loop-on s l) (not-before (onLoop m next) m s h)
+    pub loop_first : (s : ℕ) → s < loop_place m next → OnLoop next s → ⊥
+    loop_first s h l = not_both (on_loop m next s) (loop_on s l) (not_before (on_loop m next) m s h)

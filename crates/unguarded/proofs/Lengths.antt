@@ -1,9 +1,9 @@
 -- The table of chain lengths.
---     blank-told                     a table of zeros tells nothing
---     raised-none, raised-more       a length by steps to one schema more
---     noted-none, noted_more, note-yes, note-no     marks
---     raised-chain                   a length that was raised is that of a chain
---     Deep, deep_none, deep_more, deep-all     no chain of up to n steps is longer than told
+--     blank_told                     a table of zeros tells nothing
+--     raised_none, raised_more       a length by steps to one schema more
+--     noted_none, noted_more, note_yes, note_no     marks
+--     raised_chain                   a length that was raised is that of a chain
+--     Deep, deep_none, deep_more, deep_all     no chain of up to n steps is longer than told
 --     right                          then the table tells which schemas start a chain of 33
 -- Assumes nothing.
 use mathlib.Core.Bool.{true, false}
@@ -12,7 +12,7 @@ use mathlib.Core.List.Memᴰ.{append_left as in_left}
 use mathlib.Core.List.Memᴰ.{append_right as in_right}
 use mathlib.Core.List.Memᴰ.{eq_of_singleton as in_one}
 use mathlib.Core.List.Memᴰ.{head as at_head}
-use mathlib.Core.List.Memᴰ.{not-nil as in-none}
+use mathlib.Core.List.Memᴰ.{not-nil as in_none}
 use mathlib.Core.List.{List, [], ◌∷◌, ◌++◌, Memᴰ as In}
 use mathlib.Core.Logic.{inl, inr, ⊎_elim}
 use mathlib.Core.Path.{◌≡◌, refl, sym, ◌∙◌, subst}
@@ -24,21 +24,21 @@ use lib.Dec.{leb}
 use lib.ListN.{length, get_or, set}
 use lib.Seq.{get_or-set_same, get_or-set_other}
 use borrow.Author.Tests.{le-leb, lt-leb}
-use Rattle.laws.proofs.Tests.{decide, le-or-lt}
+use Rattle.laws.proofs.Tests.{decide, le_or_lt}
 use Rattle.unguarded.specs.Graph.{chain_steps, chain}
-use Rattle.unguarded.specs.Worklist.{markCount, Marked}
+use Rattle.unguarded.specs.Worklist.{mark_count, Marked}
 use Rattle.unguarded.specs.Lengths.{Longer, Raised, Noted, Told, Over, Lengths}
-use Rattle.unguarded.proofs.Lists.{any-in, any_out, not-both}
+use Rattle.unguarded.proofs.Lists.{any_in, any_out, not_both}
 use Rattle.unguarded.proofs.Paths.{fewer}
-use Rattle.unguarded.proofs.Worklists.{none-marked}
+use Rattle.unguarded.proofs.Worklists.{none_marked}
 
 -- ---- one length
 
-pub raised-none : (table : List ℕ) (most : ℕ) → most ≤ chain_steps → Raised [] table most most
-raised-none table most h = record { more = omega arith; full = h; above = λ t i. absurd (in-none i); by = inl refl }
+pub raised_none : (table : List ℕ) (most : ℕ) → most ≤ chain_steps → Raised [] table most most
+raised_none table most h = record { more = omega arith; full = h; above = λ t i. absurd (in_none i); by = inl refl }
 
-pub raised-more : {ts table : List ℕ} {most r q : ℕ} (t : ℕ) → Raised ts table most r → Longer r (get_or table t 0) q → Raised (ts ++ (t ∷ [])) table most q
-raised-more {ts} {table} {most} {r} {q} t f l =
+pub raised_more : {ts table : List ℕ} {most r q : ℕ} (t : ℕ) → Raised ts table most r → Longer r (get_or table t 0) q → Raised (ts ++ (t ∷ [])) table most q
+raised_more {ts} {table} {most} {r} {q} t f l =
     record {
       more = omega (arith, f.more, l.more);
       full = l.full;
@@ -56,8 +56,8 @@ raised-more {ts} {table} {most} {r} {q} t f l =
 
 -- ---- marks
 
-pub noted-none : (s : ℕ) (late : List ℕ) → Noted s [] late late
-noted-none s late = record { kept = λ t h. h; marked = λ t i. absurd (in-none i) }
+pub noted_none : (s : ℕ) (late : List ℕ) → Noted s [] late late
+noted_none s late = record { kept = λ t h. h; marked = λ t i. absurd (in_none i) }
 
 pub noted_more : {s : ℕ} {ts us a b c : List ℕ} → Noted s ts a b → Noted s us b c → Noted s (ts ++ us) a c
 noted_more {ts = ts} f g =
@@ -67,8 +67,8 @@ noted_more {ts = ts} f g =
     }
 
 module _ (s t : ℕ) (late : List ℕ) where
-  pub note-yes : t < length late → Noted s (t ∷ []) late (set late t 1)
-  note-yes h =
+  pub note_yes : t < length late → Noted s (t ∷ []) late (set late t 1)
+  note_yes h =
       record {
         kept = λ u m. elim (ℕ_discrete u t) [ yes e ↦ rw e now | no e ↦ rw (get_or-set_other late t u 1 0 e) m ];
         marked = λ u i l. rw (in_one i) now;
@@ -77,25 +77,25 @@ module _ (s t : ℕ) (late : List ℕ) where
       now : Marked (set late t 1) t
       now = omega (arith, get_or-set_same late t 1 0 h)
 
-  pub note-no : s < t → Noted s (t ∷ []) late late
-  note-no h = record { kept = λ u m. m; marked = λ u i (l : u ≤ s). absurd (omega (arith, in_one i)) }
+  pub note_no : s < t → Noted s (t ∷ []) late late
+  note_no h = record { kept = λ u m. m; marked = λ u i (l : u ≤ s). absurd (omega (arith, in_one i)) }
 
 -- ---- the table
 
 module _ (m : ℕ) (next : ℕ → List ℕ) where
-  pub blank-told : (table : List ℕ) → m ≤ length table → markCount table ≡ 0 → Told m next table
+  pub blank_told : (table : List ℕ) → m ≤ length table → mark_count table ≡ 0 → Told m next table
   unfolding chain
-  blank-told table room blank =
-      let none = none-marked table blank in
+  blank_told table room blank =
+      let none = none_marked table blank in
       record { room = room; low = λ s. omega (arith, none s); has = λ s. rw (none s) }
 
-  pub raised-chain : {ts table : List ℕ} {most r s : ℕ} → Told m next table → ((t : ℕ) → In t ts → In t (next s)) → chain next most s ≡ true
+  pub raised_chain : {ts table : List ℕ} {most r s : ℕ} → Told m next table → ((t : ℕ) → In t ts → In t (next s)) → chain next most s ≡ true
       → Raised ts table most r → chain next r s ≡ true
   unfolding chain
-  raised-chain {table = table} {r = r} {s = s} told inside had f =
+  raised_chain {table = table} {r = r} {s = s} told inside had f =
       ⊎_elim
       (λ e. rw e had)
-      (λ g. fewer next (suc (get_or table g.0 0)) r s (omega (arith, g.1.1)) (any-in (chain next (get_or table g.0 0)) (inside g.0 g.1.0) (told.has g.0)))
+      (λ g. fewer next (suc (get_or table g.0 0)) r s (omega (arith, g.1.1)) (any_in (chain next (get_or table g.0 0)) (inside g.0 g.1.0) (told.has g.0)))
       f.by
 
   -- no chain of up to n steps is longer than told
@@ -117,11 +117,11 @@ module _ (m : ℕ) (next : ℕ → List ℕ) where
           ⊎_elim
           (λ (full : chain_steps ≤ get_or high s 0). omega arith)
           (λ (g : get_or high s 0 < chain_steps). omega (arith, over.rises s a.0 a.1.0 g))
-          (le-or-lt chain_steps (get_or high s 0))
+          (le_or_lt chain_steps (get_or high s 0))
 
-  pub deep-all : {table : List ℕ} → Over m next table table → (n : ℕ) → n ≤ chain_steps → Deep n table
-  deep-all {table} over zero h = deep_none table
-  deep-all {table} over (suc n) h = subst (λ (k : ℕ). Deep k table) (add-one n) (deep_more h over (deep-all over n (omega arith)))
+  pub deep_all : {table : List ℕ} → Over m next table table → (n : ℕ) → n ≤ chain_steps → Deep n table
+  deep_all {table} over zero h = deep_none table
+  deep_all {table} over (suc n) h = subst (λ (k : ℕ). Deep k table) (add-one n) (deep_more h over (deep_all over n (omega arith)))
 
   pub right : {table : List ℕ} → Told m next table → Deep chain_steps table → Lengths m next table
   right {table} told deep =
@@ -132,8 +132,8 @@ module _ (m : ℕ) (next : ℕ → List ℕ) where
             (λ (c : chain next chain_steps s ≡ true). le-leb chain_steps (get_or table s 0) (deep.reaches chain_steps s (omega arith) c) ∙ sym c)
             (λ (c : chain next chain_steps s ≡ false).
             ⊎_elim
-            (λ (full : chain_steps ≤ get_or table s 0). absurd (not-both (chain next chain_steps s) (fewer next (get_or table s 0) chain_steps s full (told.has s)) c))
+            (λ (full : chain_steps ≤ get_or table s 0). absurd (not_both (chain next chain_steps s) (fewer next (get_or table s 0) chain_steps s full (told.has s)) c))
             (λ (g : get_or table s 0 < chain_steps). lt-leb chain_steps (get_or table s 0) g ∙ sym c)
-            (le-or-lt chain_steps (get_or table s 0)))
+            (le_or_lt chain_steps (get_or table s 0)))
             (decide (chain next chain_steps s));
       }

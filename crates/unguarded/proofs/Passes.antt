@@ -1,9 +1,9 @@
 -- A pass over the clauses of a sheet, from the last to the first.
 --     Passing, begin             what holds once the clauses from k on were passed, and where none has a step from there on
---     quiet-on                   clauses that have no step
---     clause-raised, clause-kept     one clause more, which raises the length of its schema, or does not
---     pass-done                  at the end of the pass
---     quiet-sheet                where no clause has a step there is no chain
+--     quiet_on                   clauses that have no step
+--     clause_raised, clause_kept     one clause more, which raises the length of its schema, or does not
+--     pass_done                  at the end of the pass
+--     quiet_sheet                where no clause has a step there is no chain
 -- Assumes nothing.
 use mathlib.Core.Bool.{Bool, true, false, not, ◌||◌}
 use mathlib.Core.List.{List, [], Memᴰ as In}
@@ -16,37 +16,37 @@ use lib.Dec.{eqb}
 use lib.ListN.{length, get_or, set, length-set}
 use lib.Seq.{get_or-set_same, get_or-set_other}
 use borrow.Author.Tests.{eqb-true, not-false}
-use Rattle.laws.proofs.Tests.{le-or-lt, neither}
-use Rattle.laws.proofs.Searches.{lowest-is}
+use Rattle.laws.proofs.Tests.{le_or_lt, neither}
+use Rattle.laws.proofs.Searches.{lowest_is}
 use Rattle.rulesheet.specs.declared.form.RuleForm.{RuleForm}
-use Rattle.rulesheet.specs.Sheet.{schemasWord, clausesWord, schemaAt, targetsOf, next_of}
+use Rattle.rulesheet.specs.Sheet.{schemas_word, clauses_word, schema_at, targets_of, next_of}
 use Rattle.rulesheet.specs.Read.{RulesLaid}
 use Rattle.unguarded.specs.Graph.{chain_steps, chain}
-use Rattle.unguarded.specs.Places.{chainPlace}
+use Rattle.unguarded.specs.Places.{chain_place}
 use Rattle.unguarded.specs.Worklist.{Marked}
 use Rattle.unguarded.specs.Lengths.{Quiet, Takes, StartAfter, Raised, Noted, Told, Passed}
-use Rattle.unguarded.proofs.Lists.{is_false, empty-none, any_out}
-use Rattle.unguarded.proofs.Steps.{clause-inside}
-use Rattle.unguarded.proofs.Takers.{start-after, takers-rise, taken_step, step-taken}
-use Rattle.unguarded.proofs.Lengths.{raised-chain}
+use Rattle.unguarded.proofs.Lists.{is_false, empty_none, any_out}
+use Rattle.unguarded.proofs.Steps.{clause_inside}
+use Rattle.unguarded.proofs.Takers.{start_after, takers_rise, taken_step, step_taken}
+use Rattle.unguarded.proofs.Lengths.{raised_chain}
 
 module _ (ws : List ℕ) where
   -- a fact about each step of a clause from k on: the schema that takes it, and where it leads
   abbrev EachFrom : ℕ → (ℕ → ℕ → Type 0) → Type 0
-  EachFrom k P = (j u t : ℕ) → k ≤ j → Takes ws u j → In t (targetsOf ws j) → P u t
+  EachFrom k P = (j u t : ℕ) → k ≤ j → Takes ws u j → In t (targets_of ws j) → P u t
 
   -- along a step, `high` tells a longer chain than `low`
   abbrev Rises : List ℕ → List ℕ → ℕ → ℕ → Type 0
   Rises low high u t = get_or high u 0 < chain_steps → get_or low t 0 < get_or high u 0
 
   pub record Passing (table₀ table late : List ℕ) (again : Bool) (s k : ℕ) : Type 0 where
-    pub told : Told (schemasWord ws) (next_of ws) table
+    pub told : Told (schemas_word ws) (next_of ws) table
     pub more : (u : ℕ) → get_or table₀ u 0 ≤ get_or table u 0
     pub each : EachFrom k (Rises table₀ table)
     pub all : again ≡ false → EachFrom k (Rises table table)
     pub marked : EachFrom k (λ u t. t ≤ u → Marked late t)
-    pub inside : s < schemasWord ws
-    pub within : k ≤ clausesWord ws
+    pub inside : s < schemas_word ws
+    pub within : k ≤ clauses_word ws
     pub after : (j : ℕ) → j < k → StartAfter ws s j
 
   -- ---- clauses without a step
@@ -55,11 +55,11 @@ module _ (ws : List ℕ) where
   silent {from} {to} P quiet each j u t l v i =
       ⊎_elim
       (λ (h : to ≤ j). each j u t h v i)
-      (λ (h : j < to). absurd (empty-none (targetsOf ws j) (quiet.none j l h) i))
-      (le-or-lt to j)
+      (λ (h : j < to). absurd (empty_none (targets_of ws j) (quiet.none j l h) i))
+      (le_or_lt to j)
 
-  pub quiet-on : {table₀ table late : List ℕ} {again : Bool} {s k from : ℕ} → Passing table₀ table late again s k → Quiet ws from k → Passing table₀ table late again s from
-  quiet-on {table₀} {table} {late} p quiet =
+  pub quiet_on : {table₀ table late : List ℕ} {again : Bool} {s k from : ℕ} → Passing table₀ table late again s k → Quiet ws from k → Passing table₀ table late again s from
+  quiet_on {table₀} {table} {late} p quiet =
       record {
         told = p.told;
         more = p.more;
@@ -74,23 +74,23 @@ module _ (ws : List ℕ) where
 -- ---- on a sheet whose layout is accepted
 
 module _ (ws : List ℕ) (form : RuleForm) (laid : RulesLaid ws form) where
-  past : (P : ℕ → ℕ → Type 0) → EachFrom ws (clausesWord ws) P
+  past : (P : ℕ → ℕ → Type 0) → EachFrom ws (clauses_word ws) P
   past P j u t l v i =
-      absurd (omega (arith, v.low, v.high, clause-inside ws form laid u (j - (schemaAt ws u).first) v.inside (omega (arith, v.low, v.high))))
+      absurd (omega (arith, v.low, v.high, clause_inside ws form laid u (j - (schema_at ws u).first) v.inside (omega (arith, v.low, v.high))))
 
   -- where no clause has a step there is no chain
-  pub quiet-sheet : {last : ℕ} → last ≤ 0 → Quiet ws last (clausesWord ws) → schemasWord ws ≡ chainPlace (schemasWord ws) (next_of ws)
+  pub quiet_sheet : {last : ℕ} → last ≤ 0 → Quiet ws last (clauses_word ws) → schemas_word ws ≡ chain_place (schemas_word ws) (next_of ws)
   unfolding chain
-  quiet-sheet h quiet =
-      lowest-is (chain (next_of ws) chain_steps) (schemasWord ws) (schemasWord ws) (omega arith)
+  quiet_sheet h quiet =
+      lowest_is (chain (next_of ws) chain_steps) (schemas_word ws) (schemas_word ws) (omega arith)
       (λ s l. is_false (chain (next_of ws) chain_steps s) (λ e. let a = any_out (chain (next_of ws) 31) (next_of ws s) e in nowhere s a.0 a.1.0))
-      (λ (l : schemasWord ws < schemasWord ws). absurd (omega arith))
+      (λ (l : schemas_word ws < schemas_word ws). absurd (omega arith))
     where
       nowhere : (s t : ℕ) → In t (next_of ws s) → ⊥
-      nowhere s t i = let v = step-taken ws form laid i in silent ws (λ u t. ⊥) quiet (past (λ u t. ⊥)) v.0 s t (omega arith) v.1.0 v.1.1
+      nowhere s t i = let v = step_taken ws form laid i in silent ws (λ u t. ⊥) quiet (past (λ u t. ⊥)) v.0 s t (omega arith) v.1.0 v.1.1
 
-  pub begin : {last : ℕ} (table late : List ℕ) → 0 < schemasWord ws → Quiet ws last (clausesWord ws) → Told (schemasWord ws) (next_of ws) table
-      → Passing ws table table late false (schemasWord ws - 1) last
+  pub begin : {last : ℕ} (table late : List ℕ) → 0 < schemas_word ws → Quiet ws last (clauses_word ws) → Told (schemas_word ws) (next_of ws) table
+      → Passing ws table table late false (schemas_word ws - 1) last
   begin table late some quiet told =
       record {
         told = told;
@@ -100,43 +100,43 @@ module _ (ws : List ℕ) (form : RuleForm) (laid : RulesLaid ws form) where
         marked = silent ws (λ u t. t ≤ u → Marked late t) quiet (past (λ u t. t ≤ u → Marked late t));
         inside = omega arith;
         within = quiet.low;
-        after = λ j l u (a : schemasWord ws - 1 < u) (b : u < schemasWord ws). absurd (omega arith);
+        after = λ j l u (a : schemas_word ws - 1 < u) (b : u < schemas_word ws). absurd (omega arith);
       }
 
-  pub pass-done : {table₀ table late : List ℕ} {again : Bool} {s k : ℕ} → k ≤ 0 → Passing ws table₀ table late again s k → Passed (schemasWord ws) (next_of ws) table₀ table again
-  pass-done h p =
+  pub pass_done : {table₀ table late : List ℕ} {again : Bool} {s k : ℕ} → k ≤ 0 → Passing ws table₀ table late again s k → Passed (schemas_word ws) (next_of ws) table₀ table again
+  pass_done h p =
       record {
         told = p.told;
-        each = record { rises = λ s t i. let v = step-taken ws form laid i in p.each v.0 s t (omega arith) v.1.0 v.1.1 };
-        all = λ e. record { rises = λ s t i. let v = step-taken ws form laid i in p.all e v.0 s t (omega arith) v.1.0 v.1.1 };
+        each = record { rises = λ s t i. let v = step_taken ws form laid i in p.each v.0 s t (omega arith) v.1.0 v.1.1 };
+        all = λ e. record { rises = λ s t i. let v = step_taken ws form laid i in p.all e v.0 s t (omega arith) v.1.0 v.1.1 };
       }
 
   -- clause k is passed: schema s, which takes it, now has the length `long`, and no other schema has another length than before
   module _ {table₀ table late : List ℕ} {again : Bool} {s₀ k₀ k long : ℕ} {late' : List ℕ} (s : ℕ) (p : Passing ws table₀ table late again s₀ k₀) (one : k₀ ≡ k + 1) (v : Takes ws s k)
-      (f : Raised (targetsOf ws k) table (get_or table s 0) long) (n : Noted s (targetsOf ws k) late late') (table' : List ℕ) (again' : Bool)
+      (f : Raised (targets_of ws k) table (get_or table s 0) long) (n : Noted s (targets_of ws k) late late') (table' : List ℕ) (again' : Bool)
       (size : length table' ≡ length table) (here : get_or table' s 0 ≡ long) (there : (u : ℕ) → (u ≡ s → ⊥) → get_or table' u 0 ≡ get_or table u 0)
       (same : again' ≡ false → (again ≡ false) × ((Marked late' s → ⊥) ⊎ (long ≡ get_or table s 0))) where
     rose : (u : ℕ) → get_or table u 0 ≤ get_or table' u 0
     rose u = elim (ℕ_discrete u s) [ yes e ↦ rw e (omega (arith, here, f.more)) | no e ↦ omega (arith, there u e) ]
 
     -- the step of a clause from k on is that of clause k, or was passed before
-    which : (P : ℕ → ℕ → Type 0) → ((t : ℕ) → In t (targetsOf ws k) → P s t) → EachFrom ws k₀ P → EachFrom ws k P
+    which : (P : ℕ → ℕ → Type 0) → ((t : ℕ) → In t (targets_of ws k) → P s t) → EachFrom ws k₀ P → EachFrom ws k P
     which P now before j u t l w i =
         ⊎_elim
         (λ (h : k₀ ≤ j). before j u t h w i)
         (λ (h : j < k₀).
         let e : j ≡ k = omega arith in
-        let q : u ≡ s = omega (arith, takers-rise ws form laid v w l, takers-rise ws form laid w v (omega arith)) in
-        subst (λ (x : ℕ). P x t) (sym q) (now t (subst (λ (x : ℕ). In t (targetsOf ws x)) e i)))
-        (le-or-lt k₀ j)
+        let q : u ≡ s = omega (arith, takers_rise ws form laid v w l, takers_rise ws form laid w v (omega arith)) in
+        subst (λ (x : ℕ). P x t) (sym q) (now t (subst (λ (x : ℕ). In t (targets_of ws x)) e i)))
+        (le_or_lt k₀ j)
 
-    told : Told (schemasWord ws) (next_of ws) table'
+    told : Told (schemas_word ws) (next_of ws) table'
     told =
         record {
           room = omega (arith, p.told.room, size);
           low = λ u. elim (ℕ_discrete u s) [ yes e ↦ rw e (omega (arith, here, f.full)) | no e ↦ omega (arith, there u e, p.told.low u) ];
           has = λ u. elim (ℕ_discrete u s) [
-            | yes e ↦ rw (e, here) (raised-chain (schemasWord ws) (next_of ws) p.told (λ t i. taken_step ws form laid v i) (p.told.has s) f)
+            | yes e ↦ rw (e, here) (raised_chain (schemas_word ws) (next_of ws) p.told (λ t i. taken_step ws form laid v i) (p.told.has s) f)
             | no e ↦ rw (there u e) (p.told.has u)
           ];
         }
@@ -163,12 +163,12 @@ module _ (ws : List ℕ) (form : RuleForm) (laid : RulesLaid ws form) where
         itself : t ≡ s → get_or table' t 0 < get_or table' u 0
         itself q =
             ⊎_elim
-            (λ unmarked. absurd (unmarked (subst (λ (x : ℕ). Marked late' x) q (marked j u t l w i (omega (arith, takers-rise ws form laid v w l))))))
+            (λ unmarked. absurd (unmarked (subst (λ (x : ℕ). Marked late' x) q (marked j u t l w i (omega (arith, takers_rise ws form laid v w l))))))
             (λ (kept : long ≡ get_or table s 0). omega (arith, rw (← q) at here, rw (← q) at kept, old j u t l w i h))
             (same e).1
 
-    pub clause-done : Passing ws table₀ table' late' again' s k
-    clause-done =
+    pub clause_done : Passing ws table₀ table' late' again' s k
+    clause_done =
         record {
           told = told;
           more = λ u. omega (arith, p.more u, rose u);
@@ -177,20 +177,20 @@ module _ (ws : List ℕ) (form : RuleForm) (laid : RulesLaid ws form) where
           marked = marked;
           inside = v.inside;
           within = omega (arith, p.within);
-          after = λ j l. start-after ws form laid v j (omega arith);
+          after = λ j l. start_after ws form laid v j (omega arith);
         }
 
   -- the two ways that a clause is passed
   module _ {table₀ table late : List ℕ} {again : Bool} {s₀ k₀ k long : ℕ} {late' : List ℕ} (s : ℕ) (p : Passing ws table₀ table late again s₀ k₀) (one : k₀ ≡ k + 1) (v : Takes ws s k)
-      (f : Raised (targetsOf ws k) table (get_or table s 0) long) (n : Noted s (targetsOf ws k) late late') where
-    pub clause-raised : Passing ws table₀ (set table s long) late' (again || not (eqb (get_or late' s 0) 0)) s k
-    clause-raised =
-        clause-done s p one v f n (set table s long) (again || not (eqb (get_or late' s 0) 0)) (simp length-set)
+      (f : Raised (targets_of ws k) table (get_or table s 0) long) (n : Noted s (targets_of ws k) late late') where
+    pub clause_raised : Passing ws table₀ (set table s long) late' (again || not (eqb (get_or late' s 0) 0)) s k
+    clause_raised =
+        clause_done s p one v f n (set table s long) (again || not (eqb (get_or late' s 0) 0)) (simp length-set)
         (get_or-set_same table s long 0 (omega (arith, v.inside, p.told.room)))
         (λ u e. get_or-set_other table s u long 0 e)
         (λ e. ((neither again _ e).0, inl (λ (h : Marked late' s). omega (arith, eqb-true (get_or late' s 0) 0 (not-false _ (neither again _ e).1)))))
 
-    pub clause-kept : long ≤ get_or table s 0 → Passing ws table₀ table late' again s k
-    clause-kept h =
+    pub clause_kept : long ≤ get_or table s 0 → Passing ws table₀ table late' again s k
+    clause_kept h =
         let e : long ≡ get_or table s 0 = omega (arith, f.more) in
-        clause-done s p one v f n table again refl (sym e) (λ u q. refl) (λ q. (q, inr e))
+        clause_done s p one v f n table again refl (sym e) (λ u q. refl) (λ q. (q, inr e))

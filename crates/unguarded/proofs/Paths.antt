@@ -1,9 +1,9 @@
 -- Paths of unguarded steps, and the functions that find them.
---     edge, reached-on                  paths are joined
---     via-reached, reached-via          what is reached by way of the schemas below m is all that is reached, if every step leads below m
---     chain-is, is-chain                the chains that are computed are all the chains
+--     edge, reached_on                  paths are joined
+--     via_reached, reached_via          what is reached by way of the schemas below m is all that is reached, if every step leads below m
+--     chain_is, is_chain                the chains that are computed are all the chains
 --     shorter, fewer                    a chain has shorter chains
---     loop-chain                        a loop has chains of every length
+--     loop_chain                        a loop has chains of every length
 --     longest-low, -yes, -no            the longest chain of at most k steps
 -- Assumes nothing.
 use mathlib.Core.Bool.{Bool, true, false, ◌&&◌, ◌||◌, cond, or-true}
@@ -17,8 +17,8 @@ use native.Mathlib.Omega.{arith}
 use lib.Dec.{eqb}
 use borrow.Author.Tests.{eqb-true, eq-eqb}
 use Rattle.laws.proofs.Tests.{left, right, either}
-use Rattle.unguarded.specs.Graph.{Path, here, step, Reached, OnLoop, Chain, someOf, chain, via, longest}
-use Rattle.unguarded.proofs.Lists.{any-in, any_out}
+use Rattle.unguarded.specs.Graph.{Path, here, step, Reached, OnLoop, Chain, some_of, chain, via, longest}
+use Rattle.unguarded.proofs.Lists.{any_in, any_out}
 
 module _ (next : ℕ → List ℕ) where
   join : {s t u j k : ℕ} → Path next t j s → Path next u (suc k) t → Reached next s u
@@ -31,34 +31,34 @@ module _ (next : ℕ → List ℕ) where
   pub edge : {s t : ℕ} → In t (next s) → Reached next s t
   edge i = (0, step i here)
 
-  pub reached-on : {s t u : ℕ} → Reached next s t → In u (next t) → Reached next s u
-  reached-on p i = then p (edge i)
+  pub reached_on : {s t u : ℕ} → Reached next s t → In u (next t) → Reached next s u
+  reached_on p i = then p (edge i)
 
   -- ---- by way of the schemas below k
 
-  edge_in : (s t : ℕ) → someOf (eqb t) (next s) ≡ true → In t (next s)
+  edge_in : (s t : ℕ) → some_of (eqb t) (next s) ≡ true → In t (next s)
   edge_in s t e = let r = any_out (eqb t) (next s) e in cast (eqb-true t r.0 r.1.1) r.1.0
 
-  pub via-reached : (k s t : ℕ) → via next k s t ≡ true → Reached next s t
+  pub via_reached : (k s t : ℕ) → via next k s t ≡ true → Reached next s t
   unfolding via
-  via-reached zero s t e = edge (edge_in s t e)
-  via-reached (suc k) s t e =
+  via_reached zero s t e = edge (edge_in s t e)
+  via_reached (suc k) s t e =
       ⊎_elim
-      (λ h. via-reached k s t h)
-      (λ h. then (via-reached k s k (left (via next k s k) (via next k k t) h)) (via-reached k k t (right (via next k s k) (via next k k t) h)))
+      (λ h. via_reached k s t h)
+      (λ h. then (via_reached k s k (left (via next k s k) (via next k k t) h)) (via_reached k k t (right (via next k s k) (via next k k t) h)))
       (either (via next k s t) (via next k s k && via next k k t) e)
 
-  via-edge : (k s t : ℕ) → In t (next s) → via next k s t ≡ true
+  via_edge : (k s t : ℕ) → In t (next s) → via next k s t ≡ true
   unfolding via
-  via-edge zero s t i = any-in (eqb t) i (eq-eqb t t refl)
-  via-edge (suc k) s t i = rw (via-edge k s t i)
+  via_edge zero s t i = any_in (eqb t) i (eq-eqb t t refl)
+  via_edge (suc k) s t i = rw (via_edge k s t i)
 
   -- what t reaches by way of those below k, s does too, if it has a step to t and t is below k
-  via-more : (k s t u : ℕ) → t < k → In t (next s) → via next k t u ≡ true → via next k s u ≡ true
+  via_more : (k s t u : ℕ) → t < k → In t (next s) → via next k t u ≡ true → via next k s u ≡ true
   unfolding via
-  via-more zero s t u l i e = absurd (omega arith)
-  via-more (suc k) s t u l i e =
-      ⊎_elim (λ q. last q) (λ q. early (λ w h. via-more k s t w q i h)) (eq-or-lt_of_le (le_of_suc-le-suc l))
+  via_more zero s t u l i e = absurd (omega arith)
+  via_more (suc k) s t u l i e =
+      ⊎_elim (λ q. last q) (λ q. early (λ w h. via_more k s t w q i h)) (eq-or-lt_of_le (le_of_suc-le-suc l))
     where
       through : via next k k u ≡ true → via next k s k ≡ true → (via next k s u || via next k s k && via next k k u) ≡ true
       through a b = rw (a, b, or-true)
@@ -67,7 +67,7 @@ module _ (next : ℕ → List ℕ) where
       last q =
           through
           (⊎_elim (λ h. subst (λ x. via next k x u ≡ true) q h) (λ h. right (via next k t k) (via next k k u) h) (either (via next k t u) (via next k t k && via next k k u) e))
-          (via-edge k s k (cast (sym q) i))
+          (via_edge k s k (cast (sym q) i))
 
       early : ((w : ℕ) → via next k t w ≡ true → via next k s w ≡ true) → (via next k s u || via next k s k && via next k k u) ≡ true
       early more =
@@ -77,35 +77,35 @@ module _ (next : ℕ → List ℕ) where
           (either (via next k t u) (via next k t k && via next k k u) e)
 
   module _ (m : ℕ) (inside : (s t : ℕ) → In t (next s) → t < m) where
-    via-path : (k s t : ℕ) → Path next t (suc k) s → via next m s t ≡ true
-    via-path zero s t (step i here) = via-edge m s t i
-    via-path (suc k) s t (step {t = u} i p) = via-more m s u t (inside s u i) i (via-path k u t p)
+    via_path : (k s t : ℕ) → Path next t (suc k) s → via next m s t ≡ true
+    via_path zero s t (step i here) = via_edge m s t i
+    via_path (suc k) s t (step {t = u} i p) = via_more m s u t (inside s u i) i (via_path k u t p)
 
-    pub reached-via : {s t : ℕ} → Reached next s t → via next m s t ≡ true
-    reached-via {s} {t} p = via-path p.0 s t p.1
+    pub reached_via : {s t : ℕ} → Reached next s t → via next m s t ≡ true
+    reached_via {s} {t} p = via_path p.0 s t p.1
 
   -- ---- chains
 
-  pub chain-is : (k s : ℕ) → chain next k s ≡ true → Chain next k s
+  pub chain_is : (k s : ℕ) → chain next k s ≡ true → Chain next k s
   unfolding chain
-  chain-is zero s e = (s, here)
-  chain-is (suc k) s e =
+  chain_is zero s e = (s, here)
+  chain_is (suc k) s e =
       let a = any_out (chain next k) (next s) e in
-      let c = chain-is k a.0 a.1.1 in
+      let c = chain_is k a.0 a.1.1 in
       (c.0, step a.1.0 c.1)
 
-  path-chain : (k s t : ℕ) → Path next t k s → chain next k s ≡ true
+  path_chain : (k s t : ℕ) → Path next t k s → chain next k s ≡ true
   unfolding chain
-  path-chain zero s t p = refl
-  path-chain (suc k) s t (step {t = u} i p) = any-in (chain next k) i (path-chain k u t p)
+  path_chain zero s t p = refl
+  path_chain (suc k) s t (step {t = u} i p) = any_in (chain next k) i (path_chain k u t p)
 
-  pub is-chain : (k s : ℕ) → Chain next k s → chain next k s ≡ true
-  is-chain k s c = path-chain k s c.0 c.1
+  pub is_chain : (k s : ℕ) → Chain next k s → chain next k s ≡ true
+  is_chain k s c = path_chain k s c.0 c.1
 
   pub shorter : (k s : ℕ) → chain next (suc k) s ≡ true → chain next k s ≡ true
   unfolding chain
   shorter zero s e = refl
-  shorter (suc k) s e = let a = any_out (chain next (suc k)) (next s) e in any-in (chain next k) a.1.0 (shorter k a.0 a.1.1)
+  shorter (suc k) s e = let a = any_out (chain next (suc k)) (next s) e in any_in (chain next k) a.1.0 (shorter k a.0 a.1.1)
 
   pub fewer : (n k s : ℕ) → k ≤ n → chain next n s ≡ true → chain next k s ≡ true
   fewer zero k s l e = let q : k ≡ 0 = omega arith in rw q e
@@ -119,26 +119,26 @@ module _ (next : ℕ → List ℕ) where
   around : (k s z : ℕ) → OnLoop next z → Reached next s z → chain next k s ≡ true
   unfolding chain
   around zero s z l p = refl
-  around (suc k) s z l p = let a = on p.0 s z l p.1 in any-in (chain next k) a.1.0 (around k a.0 z l a.1.1)
+  around (suc k) s z l p = let a = on p.0 s z l p.1 in any_in (chain next k) a.1.0 (around k a.0 z l a.1.1)
 
-  pub loop-chain : (k s : ℕ) → OnLoop next s → chain next k s ≡ true
-  loop-chain k s l = around k s s l l
+  pub loop_chain : (k s : ℕ) → OnLoop next s → chain next k s ≡ true
+  loop_chain k s l = around k s s l l
 
   -- ---- the longest chain
 
-  pub longest-low : (k s : ℕ) → longest next k s ≤ k
+  pub longest_low : (k s : ℕ) → longest next k s ≤ k
   unfolding longest
-  longest-low zero s = omega arith
-  longest-low (suc k) s = pick (chain next (suc k) s) (longest-low k s)
+  longest_low zero s = omega arith
+  longest_low (suc k) s = pick (chain next (suc k) s) (longest_low k s)
     where
       pick : (b : Bool) → longest next k s ≤ k → cond b (suc k) (longest next k s) ≤ suc k
       pick true h = omega arith
       pick false h = omega arith
 
-  pub longest-yes : (k s : ℕ) → chain next (suc k) s ≡ true → longest next (suc k) s ≡ suc k
+  pub longest_yes : (k s : ℕ) → chain next (suc k) s ≡ true → longest next (suc k) s ≡ suc k
   unfolding longest
-  longest-yes k s e = rw e
+  longest_yes k s e = rw e
 
-  pub longest-no : (k s : ℕ) → chain next (suc k) s ≡ false → longest next (suc k) s ≡ longest next k s
+  pub longest_no : (k s : ℕ) → chain next (suc k) s ≡ false → longest next (suc k) s ≡ longest next k s
   unfolding longest
-  longest-no k s e = rw e
+  longest_no k s e = rw e

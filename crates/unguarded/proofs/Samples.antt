@@ -6,30 +6,30 @@ use mathlib.Core.List.{List, [], ◌∷◌}
 use mathlib.Core.Path.{◌≡◌, refl}
 use Prim.Native.Nat.{ℕ, suc}
 use lib.Dec.{eqb, ltb}
-use Rattle.laws.specs.Lowest.{lowestFrom}
-use Rattle.unguarded.specs.Graph.{someOf, chain, via, onLoop}
-use Rattle.unguarded.specs.Places.{loopPlace, chainPlace}
+use Rattle.laws.specs.Lowest.{lowest_from}
+use Rattle.unguarded.specs.Graph.{some_of, chain, via, on_loop}
+use Rattle.unguarded.specs.Places.{loop_place, chain_place}
 
 -- only schema s has a step: to itself
-abbrev toItself : ℕ → ℕ → List ℕ
-toItself s u = cond (eqb u s) (s ∷ []) []
+abbrev to_itself : ℕ → ℕ → List ℕ
+to_itself s u = cond (eqb u s) (s ∷ []) []
 
-pub sample9 : loopPlace 1 (toItself 0) ≡ 0
-unfolding someOf via onLoop lowestFrom
+pub sample9 : loop_place 1 (to_itself 0) ≡ 0
+unfolding some_of via on_loop lowest_from
 sample9 = refl
 
-pub sample10 : loopPlace 2 (toItself 1) ≡ 1
-unfolding someOf via onLoop lowestFrom
+pub sample10 : loop_place 2 (to_itself 1) ≡ 1
+unfolding some_of via on_loop lowest_from
 sample10 = refl
 
 -- a chain from schema 0 to schema n
 abbrev up_to : ℕ → ℕ → List ℕ
 up_to n u = cond (ltb u n) (suc u ∷ []) []
 
-pub chain-of-33 : chainPlace 33 (up_to 32) ≡ 0
-unfolding someOf chain lowestFrom
-chain-of-33 = refl
+pub chain_of_33 : chain_place 33 (up_to 32) ≡ 0
+unfolding some_of chain lowest_from
+chain_of_33 = refl
 
-pub chain-of-32 : chainPlace 32 (up_to 31) ≡ 32
-unfolding someOf chain lowestFrom
-chain-of-32 = refl
+pub chain_of_32 : chain_place 32 (up_to 31) ≡ 32
+unfolding some_of chain lowest_from
+chain_of_32 = refl

@@ -1,6 +1,6 @@
 -- The worklist: what a visit leaves, and what is marked at the end.
---     marked-most, none-marked, tail-most, blank-tidy     counting marks
---     visited-none, visited-more, visit-old, visit-new, tail-room     visits
+--     marked_most, none_marked, tail_most, blank_tidy     counting marks
+--     visited_none, visited_more, visit_old, visit_new, tail_room     visits
 --     Working, begin, turn, next_low, said     the whole of a search from schema s, and what it says of s
 -- Assumes nothing.
 use mathlib.Core.Bool.{not}
@@ -9,7 +9,7 @@ use mathlib.Core.List.Memᴰ.{append_left as in_left}
 use mathlib.Core.List.Memᴰ.{append_right as in_right}
 use mathlib.Core.List.Memᴰ.{eq_of_singleton as in_one}
 use mathlib.Core.List.Memᴰ.{head as at_head}
-use mathlib.Core.List.Memᴰ.{not-nil as in-none}
+use mathlib.Core.List.Memᴰ.{not-nil as in_none}
 use mathlib.Core.List.{List, [], ◌∷◌, ◌++◌, Memᴰ as In}
 use mathlib.Core.Logic.{◌⊎◌, inl, inr, ⊎_elim}
 use mathlib.Core.Path.{◌≡◌, refl, sym, ap, ◌∙◌, subst}
@@ -21,65 +21,65 @@ use lib.ListN.{length, get_or, set, length-set}
 use lib.Seq.{get_or-set_same, get_or-set_other}
 use borrow.Author.Count.{below_more}
 use borrow.Author.Tests.{eq-eqb, ne_eqb}
-use Rattle.rulesheet.specs.Faults.{schemas-max}
-use Rattle.unguarded.specs.Graph.{Path, here, step, Reached, onLoop}
-use Rattle.unguarded.specs.Worklist.{markCount, Marked, Tidy, Visited}
+use Rattle.rulesheet.specs.Faults.{schemas_max}
+use Rattle.unguarded.specs.Graph.{Path, here, step, Reached, on_loop}
+use Rattle.unguarded.specs.Worklist.{mark_count, Marked, Tidy, Visited}
 use Rattle.unguarded.proofs.Lists.{is_false}
-use Rattle.unguarded.proofs.Paths.{edge, reached-on}
-use Rattle.unguarded.proofs.Agreement.{on-loop, loop-on}
+use Rattle.unguarded.proofs.Paths.{edge, reached_on}
+use Rattle.unguarded.proofs.Agreement.{on_loop_lem, loop_on}
 
 -- ---- counting
 
-marked-most : (l : List ℕ) → markCount l ≤ length l
-unfolding markCount
-marked-most [] = omega arith
-marked-most (zero ∷ l) = omega (arith, marked-most l)
-marked-most (suc x ∷ l) = omega (arith, marked-most l)
+marked_most : (l : List ℕ) → mark_count l ≤ length l
+unfolding mark_count
+marked_most [] = omega arith
+marked_most (zero ∷ l) = omega (arith, marked_most l)
+marked_most (suc x ∷ l) = omega (arith, marked_most l)
 
-marked-room : (l : List ℕ) (t : ℕ) → t < length l → get_or l t 0 ≡ 0 → markCount l < length l
-unfolding markCount
-marked-room [] t h e = absurd (omega arith)
-marked-room (zero ∷ l) t h e = omega (arith, marked-most l)
-marked-room (suc x ∷ l) zero h e = absurd (omega arith)
-marked-room (suc x ∷ l) (suc t) h e = omega (arith, marked-room l t (omega arith) e)
+marked_room : (l : List ℕ) (t : ℕ) → t < length l → get_or l t 0 ≡ 0 → mark_count l < length l
+unfolding mark_count
+marked_room [] t h e = absurd (omega arith)
+marked_room (zero ∷ l) t h e = omega (arith, marked_most l)
+marked_room (suc x ∷ l) zero h e = absurd (omega arith)
+marked_room (suc x ∷ l) (suc t) h e = omega (arith, marked_room l t (omega arith) e)
 
-marked-set : (l : List ℕ) (t : ℕ) → t < length l → get_or l t 0 ≡ 0 → markCount (set l t 1) ≡ suc (markCount l)
-unfolding markCount
-marked-set [] t h e = absurd (omega arith)
-marked-set (zero ∷ l) zero h e = refl
-marked-set (zero ∷ l) (suc t) h e = marked-set l t (omega arith) e
-marked-set (suc x ∷ l) zero h e = absurd (omega arith)
-marked-set (suc x ∷ l) (suc t) h e = ap suc (marked-set l t (omega arith) e)
+marked_set : (l : List ℕ) (t : ℕ) → t < length l → get_or l t 0 ≡ 0 → mark_count (set l t 1) ≡ suc (mark_count l)
+unfolding mark_count
+marked_set [] t h e = absurd (omega arith)
+marked_set (zero ∷ l) zero h e = refl
+marked_set (zero ∷ l) (suc t) h e = marked_set l t (omega arith) e
+marked_set (suc x ∷ l) zero h e = absurd (omega arith)
+marked_set (suc x ∷ l) (suc t) h e = ap suc (marked_set l t (omega arith) e)
 
-pub none-marked : (l : List ℕ) → markCount l ≡ 0 → (t : ℕ) → get_or l t 0 ≡ 0
-unfolding markCount
-none-marked [] e t = refl
-none-marked (zero ∷ l) e zero = refl
-none-marked (zero ∷ l) e (suc t) = none-marked l e t
-none-marked (suc x ∷ l) e t = absurd (omega arith)
+pub none_marked : (l : List ℕ) → mark_count l ≡ 0 → (t : ℕ) → get_or l t 0 ≡ 0
+unfolding mark_count
+none_marked [] e t = refl
+none_marked (zero ∷ l) e zero = refl
+none_marked (zero ∷ l) e (suc t) = none_marked l e t
+none_marked (suc x ∷ l) e t = absurd (omega arith)
 
-pub tail-most : {seen queue : List ℕ} {tail : ℕ} → Tidy seen queue tail → tail ≤ schemas-max
-tail-most {seen = seen} d = omega (arith, marked-most seen, d.counted, d.seen-long)
+pub tail_most : {seen queue : List ℕ} {tail : ℕ} → Tidy seen queue tail → tail ≤ schemas_max
+tail_most {seen = seen} d = omega (arith, marked_most seen, d.counted, d.seen_long)
 
-pub blank-tidy : (seen queue : List ℕ) → length seen ≡ schemas-max → length queue ≡ schemas-max → markCount seen ≡ 0 → Tidy seen queue 0
-blank-tidy seen queue a b e =
+pub blank_tidy : (seen queue : List ℕ) → length seen ≡ schemas_max → length queue ≡ schemas_max → mark_count seen ≡ 0 → Tidy seen queue 0
+blank_tidy seen queue a b e =
     record {
-      seen-long = a;
+      seen_long = a;
       queue_long = b;
       counted = e;
-      listed = λ t h. absurd (omega (arith, none-marked seen e t));
+      listed = λ t h. absurd (omega (arith, none_marked seen e t));
       queued = λ i h. absurd (omega arith);
     }
 
 -- ---- visits
 
-pub visited-none : (seen queue : List ℕ) (tail : ℕ) → Tidy seen queue tail → Visited [] seen queue tail seen queue tail
-visited-none seen queue tail d =
-    record { tidy = d; more = omega arith; kept = λ t h. h; fixed = λ i h. refl; all = λ t h. absurd (in-none h); only = λ t h. inl h }
+pub visited_none : (seen queue : List ℕ) (tail : ℕ) → Tidy seen queue tail → Visited [] seen queue tail seen queue tail
+visited_none seen queue tail d =
+    record { tidy = d; more = omega arith; kept = λ t h. h; fixed = λ i h. refl; all = λ t h. absurd (in_none h); only = λ t h. inl h }
 
-pub visited-more : {ts us : List ℕ} {a q : List ℕ} {n : ℕ} {b r : List ℕ} {k : ℕ} {c s : List ℕ} {l : ℕ}
+pub visited_more : {ts us : List ℕ} {a q : List ℕ} {n : ℕ} {b r : List ℕ} {k : ℕ} {c s : List ℕ} {l : ℕ}
     → Visited ts a q n b r k → Visited us b r k c s l → Visited (ts ++ us) a q n c s l
-visited-more {ts = ts} {us = us} f g =
+visited_more {ts = ts} {us = us} f g =
     record {
       tidy = g.tidy;
       more = omega (arith, f.more, g.more);
@@ -90,22 +90,22 @@ visited-more {ts = ts} {us = us} f g =
     }
 
 module _ (seen queue : List ℕ) (tail t : ℕ) (d : Tidy seen queue tail) where
-  pub visit-old : Marked seen t → Visited (t ∷ []) seen queue tail seen queue tail
-  visit-old h =
+  pub visit_old : Marked seen t → Visited (t ∷ []) seen queue tail seen queue tail
+  visit_old h =
       record { tidy = d; more = omega arith; kept = λ u k. k; fixed = λ i k. refl; all = λ u i. rw (in_one i) h; only = λ u k. inl k }
 
-  module _ (low : t < schemas-max) (new : get_or seen t 0 ≡ 0) where
-    in-seen : t < length seen
-    in-seen = omega (arith, d.seen-long)
+  module _ (low : t < schemas_max) (new : get_or seen t 0 ≡ 0) where
+    in_seen : t < length seen
+    in_seen = omega (arith, d.seen_long)
 
-    pub tail-room : tail < schemas-max
-    tail-room = omega (arith, marked-room seen t in-seen new, d.counted, d.seen-long)
+    pub tail_room : tail < schemas_max
+    tail_room = omega (arith, marked_room seen t in_seen new, d.counted, d.seen_long)
 
-    in-queue : tail < length queue
-    in-queue = omega (arith, d.queue_long, tail-room)
+    in_queue : tail < length queue
+    in_queue = omega (arith, d.queue_long, tail_room)
 
     now : Marked (set seen t 1) t
-    now = omega (arith, get_or-set_same seen t 1 0 in-seen)
+    now = omega (arith, get_or-set_same seen t 1 0 in_seen)
 
     keeps : (u : ℕ) → Marked seen u → Marked (set seen t 1) u
     keeps u h = elim (ℕ_discrete u t) [ yes e ↦ rw e now | no e ↦ rw (get_or-set_other seen t u 1 0 e) h ]
@@ -116,20 +116,20 @@ module _ (seen queue : List ℕ) (tail t : ℕ) (d : Tidy seen queue tail) where
     adds : (u : ℕ) → Marked (set seen t 1) u → Marked seen u ⊎ (u ≡ t)
     adds u h = elim (ℕ_discrete u t) [ yes e ↦ inr e | no e ↦ inl (rw (get_or-set_other seen t u 1 0 e) at h) ]
 
-    pub visit-new : Visited (t ∷ []) seen queue tail (set seen t 1) (set queue tail t) (tail + 1)
-    visit-new =
+    pub visit_new : Visited (t ∷ []) seen queue tail (set seen t 1) (set queue tail t) (tail + 1)
+    visit_new =
         record {
           tidy = record {
-            seen-long = simp length-set d.seen-long;
+            seen_long = simp length-set d.seen_long;
             queue_long = simp length-set d.queue_long;
-            counted = marked-set seen t in-seen new ∙ omega (arith, d.counted);
+            counted = marked_set seen t in_seen new ∙ omega (arith, d.counted);
             listed = λ u h. ⊎_elim
                 (λ m. let r = d.listed u m in (r.0, (omega (arith, r.1.0), stays r.0 r.1.0 ∙ r.1.1)))
-                (λ e. (tail, (omega arith, get_or-set_same queue tail t 0 in-queue ∙ sym e)))
+                (λ e. (tail, (omega arith, get_or-set_same queue tail t 0 in_queue ∙ sym e)))
                 (adds u h);
             queued = below_more (λ i. Marked (set seen t 1) (get_or (set queue tail t) i 0)) tail
                 (λ i h. rw (stays i h) (keeps (get_or queue i 0) (d.queued i h)))
-                (rw (get_or-set_same queue tail t 0 in-queue) now);
+                (rw (get_or-set_same queue tail t 0 in_queue) now);
           };
           more = omega arith;
           kept = keeps;
@@ -149,13 +149,13 @@ pub record Working (next : ℕ → List ℕ) (s : ℕ) (seen queue : List ℕ) (
   pub done : (i : ℕ) → i < head → (t : ℕ) → In t (next (get_or queue i 0)) → Marked seen t
 
 module _ (next : ℕ → List ℕ) (s : ℕ) where
-  pub begin : {seen₀ queue₀ seen queue : List ℕ} {tail : ℕ} → markCount seen₀ ≡ 0
+  pub begin : {seen₀ queue₀ seen queue : List ℕ} {tail : ℕ} → mark_count seen₀ ≡ 0
       → Visited (next s) seen₀ queue₀ 0 seen queue tail → Working next s seen queue tail 0
   begin {seen₀ = seen₀} blank f =
       record {
         tidy = f.tidy;
         low = omega arith;
-        sound = λ t h. ⊎_elim (λ m. absurd (omega (arith, none-marked seen₀ blank t))) (λ i. edge next i) (f.only t h);
+        sound = λ t h. ⊎_elim (λ m. absurd (omega (arith, none_marked seen₀ blank t))) (λ i. edge next i) (f.only t h);
         start = f.all;
         done = λ i h. absurd (omega arith);
       }
@@ -166,7 +166,7 @@ module _ (next : ℕ → List ℕ) (s : ℕ) where
       record {
         tidy = f.tidy;
         low = omega (arith, f.more);
-        sound = λ t k. ⊎_elim (λ m. w.sound t m) (λ i. reached-on next (w.sound (get_or queue head 0) (w.tidy.queued head h)) i) (f.only t k);
+        sound = λ t k. ⊎_elim (λ m. w.sound t m) (λ i. reached_on next (w.sound (get_or queue head 0) (w.tidy.queued head h)) i) (f.only t k);
         start = λ t i. f.kept t (w.start t i);
         done = below_more (λ i. (t : ℕ) → In t (next (get_or queue' i 0)) → Marked seen' t) head
             (λ i k t m. f.kept t (w.done i k t (subst (λ x. In t (next x)) (f.fixed i (omega (arith, w.low))) m)))
@@ -190,21 +190,21 @@ module _ (next : ℕ → List ℕ) (s : ℕ) where
     complete u r = from_start r.0 u r.1
 
   module _ (m : ℕ) (inside : (s t : ℕ) → In t (next s) → t < m) where
-    ends-inside : (j u t : ℕ) → Path next t (suc j) u → t < m
-    ends-inside zero u t (step i here) = inside u t i
-    ends-inside (suc j) u t (step {t = v} i p) = ends-inside j v t p
+    ends_inside : (j u t : ℕ) → Path next t (suc j) u → t < m
+    ends_inside zero u t (step i here) = inside u t i
+    ends_inside (suc j) u t (step {t = v} i p) = ends_inside j v t p
 
     -- what is next in the queue is a schema
     pub next_low : {seen queue : List ℕ} {tail head : ℕ} → Working next s seen queue tail head → head < tail → get_or queue head 0 < m
     next_low {queue = queue} {head = head} w h =
         let r = w.sound (get_or queue head 0) (w.tidy.queued head h) in
-        ends-inside r.0 s (get_or queue head 0) r.1
+        ends_inside r.0 s (get_or queue head 0) r.1
 
     -- at the end the mark of s tells
     pub said : {seen queue : List ℕ} {tail head : ℕ} → Working next s seen queue tail head → tail ≤ head
-        → not (eqb (get_or seen s 0) 0) ≡ onLoop m next s
+        → not (eqb (get_or seen s 0) 0) ≡ on_loop m next s
     said {seen = seen} w e =
         elim (ℕ_discrete (get_or seen s 0) 0) [
-          | yes q ↦ rw (eq-eqb (get_or seen s 0) 0 q) (sym (is_false (onLoop m next s) (λ h. omega (arith, complete w e s (on-loop m next s h)))))
-          | no q ↦ rw (ne_eqb (get_or seen s 0) 0 q) (sym (loop-on m next inside s (w.sound s (omega (arith, q)))))
+          | yes q ↦ rw (eq-eqb (get_or seen s 0) 0 q) (sym (is_false (on_loop m next s) (λ h. omega (arith, complete w e s (on_loop_lem m next s h)))))
+          | no q ↦ rw (ne_eqb (get_or seen s 0) 0 q) (sym (loop_on m next inside s (w.sound s (omega (arith, q)))))
         ]

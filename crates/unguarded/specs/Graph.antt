@@ -32,19 +32,19 @@ Chain next k s = (t : ℕ) × Path next t k s
 -- ---- the same, computed
 
 -- one of the numbers passes the test
-unfoldable pub someOf : (ℕ → Bool) → List ℕ → Bool
-someOf test [] = false
-someOf test (x ∷ xs) = test x || someOf test xs
+unfoldable pub some_of : (ℕ → Bool) → List ℕ → Bool
+some_of test [] = false
+some_of test (x ∷ xs) = test x || some_of test xs
 
 module _ (next : ℕ → List ℕ) where
   -- a chain of k steps starts at s
   unfoldable pub chain : ℕ → ℕ → Bool
   chain zero s = true
-  chain (suc k) s = someOf (chain k) (next s)
+  chain (suc k) s = some_of (chain k) (next s)
 
   -- t is reached from s by way of schemas below k alone
   unfoldable pub via : ℕ → ℕ → ℕ → Bool
-  via zero s t = someOf (eqb t) (next s)
+  via zero s t = some_of (eqb t) (next s)
   via (suc k) s t = via k s t || via k s k && via k k t
 
   -- the steps of the longest chain that starts at s, of those with at most k steps
@@ -53,8 +53,8 @@ module _ (next : ℕ → List ℕ) where
   longest (suc k) s = let shorter = longest k s in cond (chain (suc k) s) (suc k) shorter
 
 -- s is on a loop of a graph of m schemas
-unfoldable pub onLoop : ℕ → (ℕ → List ℕ) → ℕ → Bool
-onLoop m next s = via next m s s
+unfoldable pub on_loop : ℕ → (ℕ → List ℕ) → ℕ → Bool
+on_loop m next s = via next m s s
 
 -- ---- where nothing is refused
 

@@ -4,7 +4,7 @@
 use Rattle.std.specs.Prelude.{Bool, true, false, ◌⊎◌, ◌≡◌, ℕ, ◌+◌, ◌≤◌, ◌<◌, leb, length, get_or}
 use mathlib.Core.List.{List, Memᴰ as In}
 use Rattle.rulesheet.specs.declared.form.RuleForm.{RuleForm}
-use Rattle.rulesheet.specs.Sheet.{schemasWord, clausesWord, schemaAt, targetsOf, next_of}
+use Rattle.rulesheet.specs.Sheet.{schemas_word, clauses_word, schema_at, targets_of, next_of}
 use Rattle.rulesheet.specs.Read.{RulesLaid}
 use Rattle.unguarded.specs.Graph.{chain_steps, chain}
 use Rattle.unguarded.specs.Worklist.{Marked}
@@ -14,17 +14,17 @@ use Rattle.unguarded.specs.Worklist.{Marked}
 -- no clause from `from` up to `to` has a step
 pub record Quiet (ws : List ℕ) (from to : ℕ) : Type 0 where
   pub low : from ≤ to
-  pub none : (k : ℕ) → from ≤ k → k < to → length (targetsOf ws k) ≡ 0
+  pub none : (k : ℕ) → from ≤ k → k < to → length (targets_of ws k) ≡ 0
 
 -- clause k is one of schema s
 pub record Takes (ws : List ℕ) (s k : ℕ) : Type 0 where
-  pub inside : s < schemasWord ws
-  pub low : (schemaAt ws s).first ≤ k
-  pub high : k < (schemaAt ws s).first + (schemaAt ws s).count
+  pub inside : s < schemas_word ws
+  pub low : (schema_at ws s).first ≤ k
+  pub high : k < (schema_at ws s).first + (schema_at ws s).count
 
 -- the clauses of the schemas after s come after clause k
 abbrev pub StartAfter : List ℕ → ℕ → ℕ → Type 0
-StartAfter ws s k = (u : ℕ) → s < u → u < schemasWord ws → k < (schemaAt ws u).first
+StartAfter ws s k = (u : ℕ) → s < u → u < schemas_word ws → k < (schema_at ws u).first
 
 -- ---- one length
 
@@ -74,6 +74,6 @@ module _ (m : ℕ) (next : ℕ → List ℕ) where
 -- what a pass starts from: the clauses from `last` on have no step, no length is told that no chain has, and there is room for marks
 pub record Ready (ws : List ℕ) (form : RuleForm) (last : ℕ) (table late : List ℕ) : Type 0 where
   pub laid : RulesLaid ws form
-  pub quiet : Quiet ws last (clausesWord ws)
-  pub told : Told (schemasWord ws) (next_of ws) table
-  pub room : schemasWord ws ≤ length late
+  pub quiet : Quiet ws last (clauses_word ws)
+  pub told : Told (schemas_word ws) (next_of ws) table
+  pub room : schemas_word ws ≤ length late

@@ -4,19 +4,19 @@
 -- Assumes nothing.
 use Rattle.std.specs.Prelude.{List, ◌≡◌, ℕ}
 use Rattle.laws.specs.Lowest.{lowest}
-use Rattle.rulesheet.specs.Sheet.{schemasWord, next_of}
+use Rattle.rulesheet.specs.Sheet.{schemas_word, next_of}
 use Rattle.unguarded.specs.declared.Unguarded.{Unguarded}
-use Rattle.unguarded.specs.Graph.{chain_steps, chain, onLoop}
+use Rattle.unguarded.specs.Graph.{chain_steps, chain, on_loop}
 
 -- the place of 8 in a graph of m schemas, or m
-abbrev pub loopPlace : ℕ → (ℕ → List ℕ) → ℕ
-loopPlace m next = lowest (onLoop m next) m
+abbrev pub loop_place : ℕ → (ℕ → List ℕ) → ℕ
+loop_place m next = lowest (on_loop m next) m
 
 -- the place of 9, or m
-abbrev pub chainPlace : ℕ → (ℕ → List ℕ) → ℕ
-chainPlace m next = lowest (chain next chain_steps) m
+abbrev pub chain_place : ℕ → (ℕ → List ℕ) → ℕ
+chain_place m next = lowest (chain next chain_steps) m
 
 -- what the check of a sheet gives
 pub record Placed (ws : List ℕ) (r : Unguarded) : Type 0 where
-  pub looped_is : r.looped ≡ loopPlace (schemasWord ws) (next_of ws)
-  pub long-is : r.long ≡ chainPlace (schemasWord ws) (next_of ws)
+  pub looped_is : r.looped ≡ loop_place (schemas_word ws) (next_of ws)
+  pub long_is : r.long ≡ chain_place (schemas_word ws) (next_of ws)

@@ -2,22 +2,22 @@
 -- Assumes nothing.
 use mathlib.Core.List.{List, [], ◌∷◌, Memᴰ as In}
 use Rattle.std.specs.Prelude.{◌⊎◌, ◌≡◌, ℕ, zero, suc, ◌≤◌, ◌<◌, length, get_or}
-use Rattle.rulesheet.specs.Faults.{schemas-max}
+use Rattle.rulesheet.specs.Faults.{schemas_max}
 
 -- how many marks are set
-unfoldable pub markCount : List ℕ → ℕ
-markCount [] = 0
-markCount (zero ∷ marks) = markCount marks
-markCount (suc x ∷ marks) = suc (markCount marks)
+unfoldable pub mark_count : List ℕ → ℕ
+mark_count [] = 0
+mark_count (zero ∷ marks) = mark_count marks
+mark_count (suc x ∷ marks) = suc (mark_count marks)
 
 abbrev pub Marked : List ℕ → ℕ → Type 0
 Marked seen t = 0 < get_or seen t 0
 
 -- the first `tail` places of the queue hold each marked schema once, and nothing else
 pub record Tidy (seen queue : List ℕ) (tail : ℕ) : Type 0 where
-  pub seen-long : length seen ≡ schemas-max
-  pub queue_long : length queue ≡ schemas-max
-  pub counted : markCount seen ≡ tail
+  pub seen_long : length seen ≡ schemas_max
+  pub queue_long : length queue ≡ schemas_max
+  pub counted : mark_count seen ≡ tail
   pub listed : (t : ℕ) → Marked seen t → (i : ℕ) × ((i < tail) × (get_or queue i 0 ≡ t))
   pub queued : (i : ℕ) → i < tail → Marked seen (get_or queue i 0)
 

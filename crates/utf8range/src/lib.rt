@@ -1,11 +1,13 @@
 // Whether a range of a lent text is UTF-8.
 //
-// Contracts cite `isUtf8` of crate `utf8`, and `specs/Places.antt`: the places inside a character,
+// Contracts cite `is_utf8` of crate `utf8`, and `specs/Places.antt`: the places inside a character,
 // and what is passed between two characters.
+#![tactic(auto)]
+
 ghost use Rattle.std.specs.Prelude.{◌≡◌, true, ◌≤◌, length};
 ghost use Rattle.text.specs.Part.{fits, part};
-ghost use Rattle.utf8.specs.Automaton.{isUtf8};
-ghost use Rattle.utf8range.specs.Places.{inside as insideOf, Onward};
+ghost use Rattle.utf8.specs.Automaton.{is_utf8};
+ghost use Rattle.utf8range.specs.Places.{inside as inside_of, Onward};
 
 use ascii::ascii_run;
 use text::Range;
@@ -27,7 +29,7 @@ fn onward(text: &[u8], s: State, from: usize, end: usize) -> usize
 // Whether the range's bytes are UTF-8.
 pub fn is_utf8(text: &[u8], range: Range) -> bool
     requires { fits (length text.now) range ≡ true }
-    ensures { result ≡ isUtf8 (part text.now range) }
+    ensures { result ≡ is_utf8 (part text.now range) }
 {
     let start = range.start as usize;
     let n = range.length as usize;
@@ -47,7 +49,7 @@ pub fn is_utf8(text: &[u8], range: Range) -> bool
 
 // Whether the place is inside a character of a text that is UTF-8.
 pub fn inside(text: &[u8], at: usize) -> bool
-    ensures { result ≡ insideOf text.now at }
+    ensures { result ≡ inside_of text.now at }
 {
     if at >= text.len() {
         return false;
@@ -61,9 +63,9 @@ pub fn inside(text: &[u8], at: usize) -> bool
 
 // Whether the range's bytes are UTF-8, where the whole text is: two bytes are read.
 pub fn range_is_utf8(text: &[u8], range: Range) -> bool
-    requires text_value { isUtf8 text.now ≡ true }
+    requires text_value { is_utf8 text.now ≡ true }
     requires range_value { fits (length text.now) range ≡ true }
-    ensures { result ≡ isUtf8 (part text.now range) }
+    ensures { result ≡ is_utf8 (part text.now range) }
 {
     if range.length == 0 {
         return true;

@@ -1,7 +1,9 @@
 // The first pass over a JSON text, as far as it looks for faults: what each byte does to what is
 // kept, in code. Its contracts cite `Watching` and `Bounds` of `survey`.
+#![tactic(auto)]
+
 ghost use Rattle.std.specs.Prelude.{◌≡◌, ◌≤◌, ◌<◌};
-ghost use Rattle.grammar.specs.Codes.{placeAt};
+ghost use Rattle.grammar.specs.Codes.{place_at};
 ghost use Rattle.survey.specs.Watching.{moved};
 ghost use Rattle.survey.specs.Bounds.{Sound};
 
@@ -19,7 +21,7 @@ use survey::Watch;
 // Within a number.
 fn number_moves(place: u8, depth: u32, byte: u8, left: usize, s: Watch) -> Watch
     requires { (16 ≤ place) × (place < 24) × (depth < 100) × Sound s }
-    ensures { result ≡ moved (placeAt place) depth byte left s }
+    ensures { result ≡ moved (place_at place) depth byte left s }
 {
     if place == 16 {
         return whole_digit(byte, s);
@@ -45,7 +47,7 @@ fn number_moves(place: u8, depth: u32, byte: u8, left: usize, s: Watch) -> Watch
 // Within a string.
 fn string_moves(place: u8, depth: u32, byte: u8, left: usize, s: Watch) -> Watch
     requires { (24 ≤ place) × (place < 36) }
-    ensures { result ≡ moved (placeAt place) depth byte left s }
+    ensures { result ≡ moved (place_at place) depth byte left s }
 {
     if place < 26 {
         if byte == 0x5C {
@@ -68,7 +70,7 @@ fn string_moves(place: u8, depth: u32, byte: u8, left: usize, s: Watch) -> Watch
 // Where a value or a name may start, and after a value.
 fn outer_moves(place: u8, depth: u32, byte: u8, left: usize, s: Watch) -> Watch
     requires { (place < 5) × (depth < 100) × Sound s }
-    ensures { result ≡ moved (placeAt place) depth byte left s }
+    ensures { result ≡ moved (place_at place) depth byte left s }
 {
     if place == 0 {
         return value_starts(depth, byte, left, s);
@@ -98,7 +100,7 @@ fn outer_moves(place: u8, depth: u32, byte: u8, left: usize, s: Watch) -> Watch
 // open around it, and how many bytes are left from it on.
 pub fn move_on(place: u8, depth: u32, byte: u8, left: usize, s: Watch) -> Watch
     requires { (place < 50) × (depth < 100) × Sound s }
-    ensures { result ≡ moved (placeAt place) depth byte left s }
+    ensures { result ≡ moved (place_at place) depth byte left s }
 {
     if 36 <= place {
         return s;

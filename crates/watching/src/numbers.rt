@@ -1,14 +1,14 @@
 // Numbers: their digits, and the faults 23 and 24 at their end.
 ghost use Rattle.std.specs.Prelude.{cond, ◌≡◌, eqb, ◌<◌};
-ghost use Rattle.figure.specs.Figure.{Fair, wholeMore, partMore, powerMore, powerBack};
-ghost use Rattle.survey.specs.Watching.{withFigure, ended, digited, digitOr, isEnd};
+ghost use Rattle.figure.specs.Figure.{Fair, whole_more, part_more, power_more, power_back};
+ghost use Rattle.survey.specs.Watching.{with_figure, ended, digited, digit_or, is_end};
 
 use crate::values::{at_fault, digit};
 use figure::{Figure, part_more, power_back, whole_more, written};
 use survey::Watch;
 
 pub(crate) fn with_figure(f: Figure, s: Watch) -> Watch
-    ensures { result ≡ withFigure f s }
+    ensures { result ≡ with_figure f s }
 {
     let escapes = s.escapes;
     Watch {
@@ -40,7 +40,7 @@ pub fn number_ends(depth: u32, s: Watch) -> Watch
 // A digit of the whole part.
 pub(crate) fn whole_digit(byte: u8, s: Watch) -> Watch
     requires { Fair s.figure }
-    ensures { result ≡ digited wholeMore byte s }
+    ensures { result ≡ digited whole_more byte s }
 {
     if digit(byte) {
         let figure = s.figure;
@@ -52,7 +52,7 @@ pub(crate) fn whole_digit(byte: u8, s: Watch) -> Watch
 // A digit behind the point.
 pub(crate) fn part_digit(byte: u8, s: Watch) -> Watch
     requires { Fair s.figure }
-    ensures { result ≡ digited partMore byte s }
+    ensures { result ≡ digited part_more byte s }
 {
     if digit(byte) {
         let figure = s.figure;
@@ -64,7 +64,7 @@ pub(crate) fn part_digit(byte: u8, s: Watch) -> Watch
 // A digit of the exponent.
 pub(crate) fn power_digit(byte: u8, s: Watch) -> Watch
     requires { Fair s.figure }
-    ensures { result ≡ digited powerMore byte s }
+    ensures { result ≡ digited power_more byte s }
 {
     if digit(byte) {
         let figure = s.figure;
@@ -75,7 +75,7 @@ pub(crate) fn power_digit(byte: u8, s: Watch) -> Watch
 
 // Whether a number ends with the byte behind it.
 pub(crate) fn number_over(byte: u8) -> bool
-    ensures { result ≡ isEnd byte }
+    ensures { result ≡ is_end byte }
 {
     (byte < 0x2E) | ((byte == 0x5D) | (byte == 0x7D))
 }
@@ -83,7 +83,7 @@ pub(crate) fn number_over(byte: u8) -> bool
 // In the whole part.
 pub(crate) fn whole_or_end(depth: u32, byte: u8, s: Watch) -> Watch
     requires { (depth < 100) × Fair s.figure }
-    ensures { result ≡ digitOr wholeMore depth byte s }
+    ensures { result ≡ digit_or whole_more depth byte s }
 {
     if number_over(byte) {
         return number_ends(depth, s);
@@ -94,7 +94,7 @@ pub(crate) fn whole_or_end(depth: u32, byte: u8, s: Watch) -> Watch
 // Behind the point.
 pub(crate) fn part_or_end(depth: u32, byte: u8, s: Watch) -> Watch
     requires { (depth < 100) × Fair s.figure }
-    ensures { result ≡ digitOr partMore depth byte s }
+    ensures { result ≡ digit_or part_more depth byte s }
 {
     if number_over(byte) {
         return number_ends(depth, s);
@@ -105,7 +105,7 @@ pub(crate) fn part_or_end(depth: u32, byte: u8, s: Watch) -> Watch
 // In the exponent.
 pub(crate) fn power_or_end(depth: u32, byte: u8, s: Watch) -> Watch
     requires { (depth < 100) × Fair s.figure }
-    ensures { result ≡ digitOr powerMore depth byte s }
+    ensures { result ≡ digit_or power_more depth byte s }
 {
     if number_over(byte) {
         return number_ends(depth, s);
@@ -116,7 +116,7 @@ pub(crate) fn power_or_end(depth: u32, byte: u8, s: Watch) -> Watch
 // Behind the letter e.
 pub(crate) fn in_exponent(byte: u8, s: Watch) -> Watch
     requires { Fair s.figure }
-    ensures { result ≡ cond (eqb byte 0x2D) (withFigure (powerBack s.figure) s) (digited powerMore byte s) }
+    ensures { result ≡ cond (eqb byte 0x2D) (with_figure (power_back s.figure) s) (digited power_more byte s) }
 {
     if byte == 0x2D {
         let figure = s.figure;

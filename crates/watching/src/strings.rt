@@ -1,15 +1,15 @@
 // Strings: escapes, and the fault 26.
 ghost use Rattle.std.specs.Prelude.{◌≡◌, ◌<◌};
-ghost use Rattle.escapes.specs.Escapes.{hexAt};
-ghost use Rattle.json.specs.Value.{isHigh, isLow};
-ghost use Rattle.survey.specs.Watching.{noEscapes, withEscapes, parted, coded, slashed, codeMore, hexed};
+ghost use Rattle.escapes.specs.Escapes.{hex_at};
+ghost use Rattle.jsontext.specs.Value.{is_high, is_low};
+ghost use Rattle.survey.specs.Watching.{no_escapes, with_escapes, parted, coded, slashed, code_more, hexed};
 
 use crate::values::at_fault;
 use survey::{Escapes, Watch};
 
 // At the start of a string.
 pub(crate) fn no_escapes() -> Escapes
-    ensures { result ≡ noEscapes }
+    ensures { result ≡ no_escapes }
 {
     Escapes {
         code: 0,
@@ -20,7 +20,7 @@ pub(crate) fn no_escapes() -> Escapes
 }
 
 pub(crate) fn with_escapes(e: Escapes, s: Watch) -> Watch
-    ensures { result ≡ withEscapes e s }
+    ensures { result ≡ with_escapes e s }
 {
     let figure = s.figure;
     Watch {
@@ -46,13 +46,13 @@ pub(crate) fn surrogate_parts(s: Watch) -> Watch
 
 // Whether the code is a high surrogate, and a low one.
 pub fn high(code: u32) -> bool
-    ensures { result ≡ isHigh code }
+    ensures { result ≡ is_high code }
 {
     (0xD800 <= code) & (code <= 0xDBFF)
 }
 
 pub fn low(code: u32) -> bool
-    ensures { result ≡ isLow code }
+    ensures { result ≡ is_low code }
 {
     (0xDC00 <= code) & (code <= 0xDFFF)
 }
@@ -111,7 +111,7 @@ pub(crate) fn backslash(left: usize, s: Watch) -> Watch
 
 // What a byte is worth as a hexadecimal digit; of one that is none something small.
 pub fn hex_worth(byte: u8) -> u32
-    ensures { (result ≡ hexAt byte) × (result < 256) }
+    ensures { (result ≡ hex_at byte) × (result < 256) }
 {
     if byte <= 0x39 {
         if byte < 0x30 {
@@ -130,7 +130,7 @@ pub fn hex_worth(byte: u8) -> u32
 
 // The code with a hexadecimal digit more.
 pub(crate) fn code_more(byte: u8, s: Watch) -> u32
-    ensures { (result ≡ codeMore byte s) × (result < 0x20000) }
+    ensures { (result ≡ code_more byte s) × (result < 0x20000) }
 {
     let e = s.escapes;
     e.code % 0x1000 * 16 + hex_worth(byte)
@@ -154,7 +154,7 @@ pub(crate) fn hex_digit(byte: u8, s: Watch) -> Watch
 
 // The last hexadecimal digit.
 pub(crate) fn hex_last(byte: u8, s: Watch) -> Watch
-    ensures { result ≡ coded (codeMore byte s) s }
+    ensures { result ≡ coded (code_more byte s) s }
 {
     escape_whole(code_more(byte, s), s)
 }

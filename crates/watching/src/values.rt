@@ -1,8 +1,8 @@
 // Values: their starts, and the faults 22 and 24 of all that are no numbers.
 ghost use Rattle.std.specs.Prelude.{◌≡◌, ◌<◌, ◌≤◌};
-ghost use Rattle.sheet.specs.Record.{rows-max};
-ghost use Rattle.figure.specs.Figure.{noFigure};
-ghost use Rattle.survey.specs.Watching.{found, numeric, isDigit, firstFigure, counted, begun, opened};
+ghost use Rattle.sheet.specs.Record.{rows_max};
+ghost use Rattle.figure.specs.Figure.{no_figure};
+ghost use Rattle.survey.specs.Watching.{found, numeric, is_digit, first_figure, counted, begun, opened};
 
 use crate::strings::no_escapes;
 use figure::{Figure, whole_more};
@@ -26,7 +26,7 @@ pub(crate) fn at_fault(number: u32, left: usize, s: Watch) -> Watch
 
 // Whether the byte is a digit.
 pub(crate) fn digit(byte: u8) -> bool
-    ensures { result ≡ isDigit byte }
+    ensures { result ≡ is_digit byte }
 {
     (0x30 <= byte) & (byte <= 0x39)
 }
@@ -40,7 +40,7 @@ pub(crate) fn starts_number(byte: u8) -> bool
 
 // Before the first digit of a number.
 pub(crate) fn no_figure() -> Figure
-    ensures { result ≡ noFigure }
+    ensures { result ≡ no_figure }
 {
     Figure {
         kept: 0,
@@ -53,7 +53,7 @@ pub(crate) fn no_figure() -> Figure
 
 // The figure of a value's first byte.
 pub(crate) fn first_figure(byte: u8) -> Figure
-    ensures { result ≡ firstFigure byte }
+    ensures { result ≡ first_figure byte }
 {
     if digit(byte) {
         return whole_more(no_figure(), byte as u64 - 0x30);
@@ -63,7 +63,7 @@ pub(crate) fn first_figure(byte: u8) -> Figure
 
 // One value more.
 pub(crate) fn one_more(byte: u8, left: usize, s: Watch) -> Watch
-    requires { s.values < rows-max }
+    requires { s.values < rows_max }
     ensures { result ≡ counted byte left s }
 {
     Watch {
@@ -78,7 +78,7 @@ pub(crate) fn one_more(byte: u8, left: usize, s: Watch) -> Watch
 
 // A value starts with the byte, where so many brackets are open.
 pub(crate) fn value_begins(depth: u32, byte: u8, left: usize, s: Watch) -> Watch
-    requires { (depth < 100) × (s.values ≤ rows-max) }
+    requires { (depth < 100) × (s.values ≤ rows_max) }
     ensures { result ≡ begun depth byte left s }
 {
     if s.values == 1024 {
@@ -92,7 +92,7 @@ pub(crate) fn value_begins(depth: u32, byte: u8, left: usize, s: Watch) -> Watch
 
 // Where a value may start.
 pub(crate) fn value_starts(depth: u32, byte: u8, left: usize, s: Watch) -> Watch
-    requires { (depth < 100) × (s.values ≤ rows-max) }
+    requires { (depth < 100) × (s.values ≤ rows_max) }
     ensures { result ≡ opened depth byte left s }
 {
     if 0x20 < byte {

@@ -1,8 +1,8 @@
 -- Ways of names from their roots, and where they lead.
---     fork-one          two names part at one place
+--     fork_one          two names part at one place
 --     way_on, way-wider a way with one step more, and over more names
 --     told-not, told-by what is read tells whether a name leads on
---     one-leads         one name at most leads on
+--     one_leads         one name at most leads on
 --     From, together    such a name agrees with x up to where they are compared from
 --     Seeking           what holds where the way of name i has come to a node with a mark
 -- Assumes nothing.
@@ -17,13 +17,13 @@ use lib.Dec.{eqb}
 use lib.ListN.{length, get_or}
 use lib.Seq.{ext_get_or}
 use borrow.Author.Tests.{lt-ltb, eqb-true, eqb-false}
-use Rattle.laws.proofs.Tests.{le-or-lt}
+use Rattle.laws.proofs.Tests.{le_or_lt}
 use Rattle.text.specs.Words.{Alike, Agreed}
 use Rattle.text.proofs.Alike.{none, join}
 use Rattle.ways.specs.declared.Spot.{Spot}
-use Rattle.names.specs.Names.{repeatsBy}
-use Rattle.ways.specs.Tree.{letterOf, place_of, placeAt, rootOf, printOf, Forked, Leads, Told, Way, stay, go, Reached, Free, Stand, Child, Spotted}
-use Rattle.names.proofs.Repeats.{repeats-here, repeats-not}
+use Rattle.names.specs.Names.{repeats_by}
+use Rattle.ways.specs.Tree.{letter_of, place_of, place_at, root_of, print_of, Forked, Leads, Told, Way, stay, go, Reached, Free, Stand, Child, Spotted}
+use Rattle.names.proofs.Repeats.{repeats_here, repeats_not}
 
 never : false ≡ true → ⊥
 never e = let z : ◌≡◌ {A = ℕ} 0 1 = cc in omega arith
@@ -33,15 +33,15 @@ never e = let z : ◌≡◌ {A = ℕ} 0 1 = cc in omega arith
 earlier : {x y : List ℕ} {m n : ℕ} → Forked x y m → Forked x y n → m < n → ⊥
 earlier f g l = f.parts (g.alike.same _ (omega arith) l)
 
-pub fork-one : {x y : List ℕ} {m n : ℕ} → Forked x y m → Forked x y n → m ≡ n
-fork-one {x} {y} {m} {n} f g =
+pub fork_one : {x y : List ℕ} {m n : ℕ} → Forked x y m → Forked x y n → m ≡ n
+fork_one {x} {y} {m} {n} f g =
     ⊎_elim
     (λ (l : m ≤ n). ⊎_elim (λ (e : m ≡ n). e) (λ (k : m < n). absurd (earlier f g k)) (eq-or-lt_of_le l))
     (λ (l : n < m). absurd (earlier g f l))
-    (le-or-lt m n)
+    (le_or_lt m n)
 
-pub no-fork : {x y : List ℕ} {m : ℕ} → Forked x y m → x ≡ y → ⊥
-no-fork {x} {y} {m} f e = f.parts (ap (λ (bs : List ℕ). get_or bs m 0) e)
+pub no_fork : {x y : List ℕ} {m : ℕ} → Forked x y m → x ≡ y → ⊥
+no_fork {x} {y} {m} f e = f.parts (ap (λ (bs : List ℕ). get_or bs m 0) e)
 
 -- names that agree up to `from` and from there on to r, which is their length or not
 module _ {x y : List ℕ} {from r : ℕ} (long : length x ≡ length y) (front : Alike x y 0 from) (g : Agreed x y from r) where
@@ -60,56 +60,56 @@ module _ {places : ℕ} {name : ℕ → List ℕ} {nodes marks : List ℕ} where
   -- ---- ways
 
   pub way_on : {x : List ℕ} {i node mark end last : ℕ} → Way places name nodes marks x i node mark end last
-      → (c m : ℕ) → c < i → Leads places name nodes marks end last (letterOf places end last x) c → Forked x (name c) m
+      → (c m : ℕ) → c < i → Leads places name nodes marks end last (letter_of places end last x) c → Forked x (name c) m
       → Way places name nodes marks x i node mark (places + c) m
   way_on stay c m h l f = go c m h l f stay
   way_on (go d n g k e w) c m h l f = go d n g k e (way_on w c m h l f)
 
-  pub way-wider : {x : List ℕ} {i node mark end last : ℕ} (j : ℕ) → i ≤ j → Way places name nodes marks x i node mark end last
+  pub way_wider : {x : List ℕ} {i node mark end last : ℕ} (j : ℕ) → i ≤ j → Way places name nodes marks x i node mark end last
       → Way places name nodes marks x j node mark end last
-  way-wider j h stay = stay
-  way-wider j h (go d n g k e w) = go d n (omega arith) k e (way-wider j h w)
+  way_wider j h stay = stay
+  way_wider j h (go d n g k e w) = go d n (omega arith) k e (way_wider j h w)
 
   -- ---- names that lead on
 
-  pub told-not : {node mark letter c : ℕ} → (Leads places name nodes marks node mark letter c → ⊥)
+  pub told_not : {node mark letter c : ℕ} → (Leads places name nodes marks node mark letter c → ⊥)
       → Told places name nodes marks node mark letter c false
-  told-not miss = record { hit = λ e. absurd (never e); miss = λ e. miss }
+  told_not miss = record { hit = λ e. absurd (never e); miss = λ e. miss }
 
-  pub told-by : {node mark letter c read : ℕ} → get_or nodes c 0 ≡ node → get_or marks c 0 ≡ mark → read ≡ letterOf places node mark (name c)
+  pub told_by : {node mark letter c read : ℕ} → get_or nodes c 0 ≡ node → get_or marks c 0 ≡ mark → read ≡ letter_of places node mark (name c)
       → Told places name nodes marks node mark letter c (eqb read letter)
-  told-by {letter = letter} {read = read} p q e =
+  told_by {letter = letter} {read = read} p q e =
       record {
         hit = λ t. record { under = p; marked = q; lettered = sym e ∙ eqb-true read letter t };
         miss = λ f l. eqb-false read letter f (e ∙ l.lettered);
       }
 
-  pub leads-place : {node mark letter c : ℕ} → Leads places name nodes marks node mark letter c
-      → placeAt places nodes c ≡ place_of places node
-  leads-place l = ap (place_of places) l.under
+  pub leads_place : {node mark letter c : ℕ} → Leads places name nodes marks node mark letter c
+      → place_at places nodes c ≡ place_of places node
+  leads_place l = ap (place_of places) l.under
 
-  pub branch-mark : {x : List ℕ} {i node mark : ℕ} → Reached places name nodes marks x i node mark → places ≤ node → mark < length x
-  branch-mark {node = node} r l = let e : node ≡ places + (node - places) = omega arith in (r.forked (node - places) e).within
+  pub branch_mark : {x : List ℕ} {i node mark : ℕ} → Reached places name nodes marks x i node mark → places ≤ node → mark < length x
+  branch_mark {node = node} r l = let e : node ≡ places + (node - places) = omega arith in (r.forked (node - places) e).within
 
   module _ {x : List ℕ} {i node mark r : ℕ} where
-    pub child-one : 0 < r → r ≤ i → Leads places name nodes marks node mark (letterOf places node mark x) (r - 1)
+    pub child_one : 0 < r → r ≤ i → Leads places name nodes marks node mark (letter_of places node mark x) (r - 1)
         → Child places name nodes marks x i node mark r
-    child-one some h l = record { within = h; one = λ g. l; none = λ e. absurd (zero e) }
+    child_one some h l = record { within = h; one = λ g. l; none = λ e. absurd (zero e) }
       where
         zero : r ≡ 0 → ⊥
         zero e = omega arith
 
-    pub child-none : r ≤ 0 → ((c : ℕ) → c < i → Leads places name nodes marks node mark (letterOf places node mark x) c → ⊥)
+    pub child_none : r ≤ 0 → ((c : ℕ) → c < i → Leads places name nodes marks node mark (letter_of places node mark x) c → ⊥)
         → Child places name nodes marks x i node mark r
-    child-none h alone = record { within = omega arith; one = λ g. absurd (zero g); none = λ e. alone }
+    child_none h alone = record { within = omega arith; one = λ g. absurd (zero g); none = λ e. alone }
       where
         zero : 0 < r → ⊥
         zero g = omega arith
 
   module _ {i : ℕ} (s : Stand places name nodes marks i) where
-    not-both : {node mark letter c d : ℕ} → c < d → d < i → Leads places name nodes marks node mark letter c
+    not_both : {node mark letter c d : ℕ} → c < d → d < i → Leads places name nodes marks node mark letter c
         → Leads places name nodes marks node mark letter d → ⊥
-    not-both {node} {mark} {letter} {c} {d} l h p q =
+    not_both {node} {mark} {letter} {c} {d} l h p q =
         (s.free d h).alone c l
         (record {
           under = p.under ∙ sym q.under;
@@ -117,19 +117,19 @@ module _ {places : ℕ} {name : ℕ → List ℕ} {nodes marks : List ℕ} where
           lettered = rw (q.under, q.marked) (p.lettered ∙ sym q.lettered);
         })
 
-    pub one-leads : {node mark letter c d : ℕ} → c < i → d < i → Leads places name nodes marks node mark letter c
+    pub one_leads : {node mark letter c d : ℕ} → c < i → d < i → Leads places name nodes marks node mark letter c
         → Leads places name nodes marks node mark letter d → c ≡ d
-    one-leads {c = c} {d = d} h g p q =
+    one_leads {c = c} {d = d} h g p q =
         ⊎_elim
-        (λ (l : c ≤ d). ⊎_elim (λ (e : c ≡ d). e) (λ (k : c < d). absurd (not-both k g p q)) (eq-or-lt_of_le l))
-        (λ (l : d < c). absurd (not-both l h q p))
-        (le-or-lt c d)
+        (λ (l : c ≤ d). ⊎_elim (λ (e : c ≡ d). e) (λ (k : c < d). absurd (not_both k g p q)) (eq-or-lt_of_le l))
+        (λ (l : d < c). absurd (not_both l h q p))
+        (le_or_lt c d)
 
     -- the name that leads name x on has its length, and agrees with it as far as they were compared
-    module _ (x : List ℕ) {node mark c : ℕ} (h : c < i) (p : Leads places name nodes marks node mark (letterOf places node mark x) c) where
-      pub root-long : node < places → length x ≡ length (name c)
-      unfolding letterOf
-      root-long l = sym (rw (lt-ltb node places l) at p.lettered)
+    module _ (x : List ℕ) {node mark c : ℕ} (h : c < i) (p : Leads places name nodes marks node mark (letter_of places node mark x) c) where
+      pub root_long : node < places → length x ≡ length (name c)
+      unfolding letter_of
+      root_long l = sym (rw (lt-ltb node places l) at p.lettered)
 
       module _ (r : Reached places name nodes marks x i node mark) (l : places ≤ node) where
         above : node ≡ places + (node - places)
@@ -141,23 +141,23 @@ module _ {places : ℕ} {name : ℕ → List ℕ} {nodes marks : List ℕ} where
         its : Forked (name c) (name (node - places)) mark
         its = rw p.marked at ((s.free c h).reached.forked (node - places) (p.under ∙ above))
 
-        pub branch-long : length x ≡ length (name c)
-        branch-long = mine.long ∙ sym its.long
+        pub branch_long : length x ≡ length (name c)
+        branch_long = mine.long ∙ sym its.long
 
-        pub branch-alike : Alike x (name c) 0 mark
-        branch-alike = record { same = λ k low high. mine.alike.same k low high ∙ sym (its.alike.same k low high) }
+        pub branch_alike : Alike x (name c) 0 mark
+        branch_alike = record { same = λ k low high. mine.alike.same k low high ∙ sym (its.alike.same k low high) }
 
-        pub branch-within : mark ≤ length x
-        branch-within = omega (arith, mine.within)
+        pub branch_within : mark ≤ length x
+        branch_within = omega (arith, mine.within)
 
       -- and so they may be compared from there on
       pub together : {from : ℕ} → From places node mark from → Reached places name nodes marks x i node mark
           → (length x ≡ length (name c)) × Alike x (name c) 0 from × (from ≤ length x)
       together f r =
           ⊎_elim
-          (λ (l : places ≤ node). (branch-long r l, rw (f.branch l) (branch-alike r l), rw (f.branch l) (branch-within r l)))
-          (λ (l : node < places). (root-long l, rw (f.root l) (none x (name c) 0), rw (f.root l) (omega arith)))
-          (le-or-lt places node)
+          (λ (l : places ≤ node). (branch_long r l, rw (f.branch l) (branch_alike r l), rw (f.branch l) (branch_within r l)))
+          (λ (l : node < places). (root_long l, rw (f.root l) (none x (name c) 0), rw (f.root l) (omega arith)))
+          (le_or_lt places node)
 
 -- what holds where the way of name i has come to a node with a mark: each earlier name that is the same stands there or further on
 pub record Seeking (places : ℕ) (name : ℕ → List ℕ) (nodes marks : List ℕ) (i node mark : ℕ) : Type 0 where
@@ -165,41 +165,41 @@ pub record Seeking (places : ℕ) (name : ℕ → List ℕ) (nodes marks : List 
   pub ahead : (k : ℕ) → k < i → name k ≡ name i → Way places name nodes marks (name i) i node mark (get_or nodes k 0) (get_or marks k 0)
 
 module _ {places : ℕ} {name : ℕ → List ℕ} {nodes marks : List ℕ} {i : ℕ} (s : Stand places name nodes marks i) where
-  pub begin : rootOf places (name i) < places → Seeking places name nodes marks i (rootOf places (name i)) (printOf (name i))
+  pub begin : root_of places (name i) < places → Seeking places name nodes marks i (root_of places (name i)) (print_of (name i))
   begin low =
       record {
         reached = record { low = omega arith; forked = λ b e. absurd (root b e); way = stay };
-        ahead = λ k h e. way-wider i (omega arith) (rw e at (s.free k h).reached.way);
+        ahead = λ k h e. way_wider i (omega arith) (rw e at (s.free k h).reached.way);
       }
     where
-      root : (b : ℕ) → rootOf places (name i) ≡ places + b → ⊥
+      root : (b : ℕ) → root_of places (name i) ≡ places + b → ⊥
       root b e = omega arith
 
   module _ {node mark : ℕ} (g : Seeking places name nodes marks i node mark) where
     -- no name leads on: no earlier name is the same
     ends : {k end last : ℕ} → k < i → name k ≡ name i → Way places name nodes marks (name i) i node mark end last
         → get_or nodes k 0 ≡ end → get_or marks k 0 ≡ last
-        → ((c : ℕ) → c < i → Leads places name nodes marks node mark (letterOf places node mark (name i)) c → ⊥) → ⊥
-    ends {k} h e stay p q alone = alone k h (record { under = p; marked = q; lettered = ap (letterOf places node mark) e })
+        → ((c : ℕ) → c < i → Leads places name nodes marks node mark (letter_of places node mark (name i)) c → ⊥) → ⊥
+    ends {k} h e stay p q alone = alone k h (record { under = p; marked = q; lettered = ap (letter_of places node mark) e })
     ends h e (go c m l t f w) p q alone = alone c l t
 
-    pub fresh : ((c : ℕ) → c < i → Leads places name nodes marks node mark (letterOf places node mark (name i)) c → ⊥)
+    pub fresh : ((c : ℕ) → c < i → Leads places name nodes marks node mark (letter_of places node mark (name i)) c → ⊥)
         → (k : ℕ) → k < i → name k ≡ name i → ⊥
     fresh alone k h e = ends h e (g.ahead k h e) refl refl alone
 
     -- name c leads on, and parts from name i: the way goes on from there
-    module _ {c m : ℕ} (h : c < i) (t : Leads places name nodes marks node mark (letterOf places node mark (name i)) c)
+    module _ {c m : ℕ} (h : c < i) (t : Leads places name nodes marks node mark (letter_of places node mark (name i)) c)
         (f : Forked (name i) (name c) m) where
       turn : {k end last : ℕ} → k < i → name k ≡ name i → Way places name nodes marks (name i) i node mark end last
           → get_or nodes k 0 ≡ end → get_or marks k 0 ≡ last → Way places name nodes marks (name i) i (places + c) m end last
       turn {k} l e stay p q =
           absurd
-          (no-fork f
-          (sym e ∙ ap name (one-leads s l h (record { under = p; marked = q; lettered = ap (letterOf places node mark) e }) t)))
+          (no_fork f
+          (sym e ∙ ap name (one_leads s l h (record { under = p; marked = q; lettered = ap (letter_of places node mark) e }) t)))
       turn l e (go d n b u v w) p q =
-          let same = one-leads s b h u t in
-          let mark-same : n ≡ m = fork-one (rw same at v) f in
-          rw (same, mark-same) at w
+          let same = one_leads s b h u t in
+          let mark_same : n ≡ m = fork_one (rw same at v) f in
+          rw (same, mark_same) at w
 
       pub onward : Seeking places name nodes marks i (places + c) m
       onward =
@@ -214,14 +214,14 @@ module _ {places : ℕ} {name : ℕ → List ℕ} {nodes marks : List ℕ} {i : 
           }
 
 module _ {places : ℕ} {name : ℕ → List ℕ} {nodes marks : List ℕ} {i node mark : ℕ} where
-  pub spotted-same : (k : ℕ) → k < i → name k ≡ name i
+  pub spotted_same : (k : ℕ) → k < i → name k ≡ name i
       → Spotted places name nodes marks i (record { same = true; node = node; mark = mark })
-  spotted-same k h e = record { same = λ t. (k, h, e); free = λ f. absurd (never (sym f)); fresh = λ f. absurd (never (sym f)) }
+  spotted_same k h e = record { same = λ t. (k, h, e); free = λ f. absurd (never (sym f)); fresh = λ f. absurd (never (sym f)) }
 
-  pub spotted-free : Stand places name nodes marks i → Seeking places name nodes marks i node mark
-      → ((c : ℕ) → c < i → Leads places name nodes marks node mark (letterOf places node mark (name i)) c → ⊥)
+  pub spotted_free : Stand places name nodes marks i → Seeking places name nodes marks i node mark
+      → ((c : ℕ) → c < i → Leads places name nodes marks node mark (letter_of places node mark (name i)) c → ⊥)
       → Spotted places name nodes marks i (record { same = false; node = node; mark = mark })
-  spotted-free s g alone =
+  spotted_free s g alone =
       record {
         same = λ t. absurd (never t);
         free = λ f. record { reached = g.reached; alone = alone };
@@ -229,32 +229,32 @@ module _ {places : ℕ} {name : ℕ → List ℕ} {nodes marks : List ℕ} {i no
       }
 
 module _ {places : ℕ} {name : ℕ → List ℕ} {nodes marks : List ℕ} {i : ℕ} {spot : Spot} (t : Spotted places name nodes marks i spot) where
-  pub spot-same : spot.same ≡ true → repeatsBy name i ≡ true
-  spot-same e = let found = t.same e in repeats-here name i found.0 found.1 found.2
+  pub spot_same : spot.same ≡ true → repeats_by name i ≡ true
+  spot_same e = let found = t.same e in repeats_here name i found.0 found.1 found.2
 
-  pub spot-fresh : spot.same ≡ false → repeatsBy name i ≡ false
-  spot-fresh e = repeats-not name i (t.fresh e)
+  pub spot_fresh : spot.same ≡ false → repeats_by name i ≡ false
+  spot_fresh e = repeats_not name i (t.fresh e)
 
 -- a name leads name i on, and the two are compared
 module _ {places : ℕ} {name : ℕ → List ℕ} {nodes marks : List ℕ} {i node mark from r : ℕ} (s : Stand places name nodes marks i)
     (g : Seeking places name nodes marks i node mark) (f : From places node mark from)
     (d : Child places name nodes marks (name i) i node mark r) (some : r ≡ 0 → ⊥) where
-  pub met-below : r - 1 < i
-  met-below = omega (arith, d.within)
+  pub met_below : r - 1 < i
+  met_below = omega (arith, d.within)
 
-  its-lead : Leads places name nodes marks node mark (letterOf places node mark (name i)) (r - 1)
-  its-lead = d.one (omega arith)
+  its_lead : Leads places name nodes marks node mark (letter_of places node mark (name i)) (r - 1)
+  its_lead = d.one (omega arith)
 
   pub met : (length (name i) ≡ length (name (r - 1))) × Alike (name i) (name (r - 1)) 0 from × (from ≤ length (name i))
-  met = together s (name i) met-below its-lead f g.reached
+  met = together s (name i) met_below its_lead f g.reached
 
   -- the node rises
-  pub met-above : node < places + (r - 1)
-  met-above = omega (arith, (s.free (r - 1) met-below).reached.low, its-lead.under)
+  pub met_above : node < places + (r - 1)
+  met_above = omega (arith, (s.free (r - 1) met_below).reached.low, its_lead.under)
 
   module _ {a : ℕ} (e : Agreed (name i) (name (r - 1)) from a) where
-    pub met-same : length (name i) ≤ a → Spotted places name nodes marks i (record { same = true; node = node; mark = mark })
-    met-same h = spotted-same (r - 1) met-below (sym (equal met.0 met.1 e h))
+    pub met_same : length (name i) ≤ a → Spotted places name nodes marks i (record { same = true; node = node; mark = mark })
+    met_same h = spotted_same (r - 1) met_below (sym (equal met.0 met.1 e h))
 
-    pub met-on : a < length (name i) → Seeking places name nodes marks i (places + (r - 1)) a
-    met-on h = onward s g met-below its-lead (parted met.0 met.1 e h)
+    pub met_on : a < length (name i) → Seeking places name nodes marks i (places + (r - 1)) a
+    met_on h = onward s g met_below its_lead (parted met.0 met.1 e h)

@@ -9,27 +9,27 @@
 -- Assumes nothing.
 use Rattle.std.specs.Prelude.{Bool, true, false, cond, List, ◌≡◌, ℕ, zero, suc, ◌+◌, ◌*◌, ◌-◌, ◌/◌, ◌%◌, ◌≤◌, ◌<◌, eqb, ltb, length, get_or, set}
 use Rattle.text.specs.Words.{Alike}
-use Rattle.text.specs.Fingerprint.{fingerprintOf}
+use Rattle.text.specs.Fingerprint.{fingerprint_of}
 use Rattle.ways.specs.declared.Spot.{Spot}
 
 -- the most places of a table
-abbrev pub places-max : ℕ
-places-max = 8_192
+abbrev pub places_max : ℕ
+places_max = 8_192
 
 -- the place of a number of 32 bits among so many
-abbrev pub scaledTo : ℕ → ℕ → ℕ
-scaledTo places n = n * places / 4_294_967_296
+abbrev pub scaled_to : ℕ → ℕ → ℕ
+scaled_to places n = n * places / 4_294_967_296
 
 -- a name's root, and its mark there
-unfoldable pub rootOf : ℕ → List ℕ → ℕ
-rootOf places bs = scaledTo places (fingerprintOf bs / 4_294_967_296)
+unfoldable pub root_of : ℕ → List ℕ → ℕ
+root_of places bs = scaled_to places (fingerprint_of bs / 4_294_967_296)
 
-unfoldable pub printOf : List ℕ → ℕ
-printOf bs = fingerprintOf bs % 4_294_967_296
+unfoldable pub print_of : List ℕ → ℕ
+print_of bs = fingerprint_of bs % 4_294_967_296
 
 -- a name's letter under a node, by its mark
-unfoldable pub letterOf : ℕ → ℕ → ℕ → List ℕ → ℕ
-letterOf places node mark bs = cond (ltb node places) (length bs) (get_or bs mark 0)
+unfoldable pub letter_of : ℕ → ℕ → ℕ → List ℕ → ℕ
+letter_of places node mark bs = cond (ltb node places) (length bs) (get_or bs mark 0)
 
 -- the place of the names under a node: a root is a place, and name c has the place c
 unfoldable pub place_of : ℕ → ℕ → ℕ
@@ -49,19 +49,19 @@ latest place p (suc i) = cond (eqb (place i) p) (suc i) (latest place p i)
 
 -- the chains of the first i names by their places
 pub record Chains (place : ℕ → ℕ) (heads next : List ℕ) (i : ℕ) : Type 0 where
-  pub heads-are : (p : ℕ) → p < length heads → get_or heads p 0 ≡ latest place p i
-  pub next-are : (k : ℕ) → k < i → get_or next k 0 ≡ latest place (place k) k
+  pub heads_are : (p : ℕ) → p < length heads → get_or heads p 0 ≡ latest place p i
+  pub next_are : (k : ℕ) → k < i → get_or next k 0 ≡ latest place (place k) k
 
 -- the place of name k where it stands
-abbrev pub placeAt : ℕ → List ℕ → ℕ → ℕ
-placeAt places nodes k = place_of places (get_or nodes k 0)
+abbrev pub place_at : ℕ → List ℕ → ℕ → ℕ
+place_at places nodes k = place_of places (get_or nodes k 0)
 
 module _ (places : ℕ) (name : ℕ → List ℕ) (nodes marks : List ℕ) where
   -- name c stands under the node with this mark and this letter
   pub record Leads (node mark letter c : ℕ) : Type 0 where
     pub under : get_or nodes c 0 ≡ node
     pub marked : get_or marks c 0 ≡ mark
-    pub lettered : letterOf places node mark (name c) ≡ letter
+    pub lettered : letter_of places node mark (name c) ≡ letter
 
   -- r tells whether it does
   pub record Told (node mark letter c : ℕ) (r : Bool) : Type 0 where
@@ -71,19 +71,19 @@ module _ (places : ℕ) (name : ℕ → List ℕ) (nodes marks : List ℕ) where
   -- the way of x over the first i names, from a node with a mark to another
   pub data Way (x : List ℕ) (i : ℕ) : ℕ → ℕ → ℕ → ℕ → Type 0 where
     stay : {node mark : ℕ} → Way x i node mark node mark
-    go : {node mark end last : ℕ} (c m : ℕ) → c < i → Leads node mark (letterOf places node mark x) c → Forked x (name c) m → Way x i (places + c) m end last
+    go : {node mark end last : ℕ} (c m : ℕ) → c < i → Leads node mark (letter_of places node mark x) c → Forked x (name c) m → Way x i (places + c) m end last
         → Way x i node mark end last
 
   -- over the first i names the way of x comes to this node with this mark
   pub record Reached (x : List ℕ) (i node mark : ℕ) : Type 0 where
     pub low : node < places + i
     pub forked : (b : ℕ) → node ≡ places + b → Forked x (name b) mark
-    pub way : Way x i (rootOf places x) (printOf x) node mark
+    pub way : Way x i (root_of places x) (print_of x) node mark
 
   -- and no name leads on
   pub record Free (x : List ℕ) (i node mark : ℕ) : Type 0 where
     pub reached : Reached x i node mark
-    pub alone : (c : ℕ) → c < i → Leads node mark (letterOf places node mark x) c → ⊥
+    pub alone : (c : ℕ) → c < i → Leads node mark (letter_of places node mark x) c → ⊥
 
   -- each of the first i names stands where its way ends
   pub record Stand (i : ℕ) : Type 0 where
@@ -92,8 +92,8 @@ module _ (places : ℕ) (name : ℕ → List ℕ) (nodes marks : List ℕ) where
   -- r is one more than the number of the name that leads on, or 0 where none does
   pub record Child (x : List ℕ) (i node mark r : ℕ) : Type 0 where
     pub within : r ≤ i
-    pub one : 0 < r → Leads node mark (letterOf places node mark x) (r - 1)
-    pub none : r ≡ 0 → (c : ℕ) → c < i → Leads node mark (letterOf places node mark x) c → ⊥
+    pub one : 0 < r → Leads node mark (letter_of places node mark x) (r - 1)
+    pub none : r ≡ 0 → (c : ℕ) → c < i → Leads node mark (letter_of places node mark x) c → ⊥
 
   -- an earlier name is the same as name i, or where its way ends
   pub record Spotted (i : ℕ) (spot : Spot) : Type 0 where
@@ -110,15 +110,15 @@ pub record Put (heads next nodes marks : List ℕ) (i node mark : ℕ) (heads' n
 
 -- there is room for so many names
 pub record Room (count : ℕ) (heads next nodes marks : List ℕ) : Type 0 where
-  pub some-places : 0 < length heads
-  pub few-places : length heads ≤ places-max
-  pub enough-places : count ≤ length heads
-  pub next-room : count ≤ length next
-  pub nodes-room : count ≤ length nodes
-  pub marks-room : count ≤ length marks
+  pub some_places : 0 < length heads
+  pub few_places : length heads ≤ places_max
+  pub enough_places : count ≤ length heads
+  pub next_room : count ≤ length next
+  pub nodes_room : count ≤ length nodes
+  pub marks_room : count ≤ length marks
 
 -- the first i of so many names stand in the tables
 pub record Standing (name : ℕ → List ℕ) (count : ℕ) (heads next nodes marks : List ℕ) (i : ℕ) : Type 0 where
   pub room : Room count heads next nodes marks
   pub stand : Stand (length heads) name nodes marks i
-  pub chains : Chains (placeAt (length heads) nodes) heads next i
+  pub chains : Chains (place_at (length heads) nodes) heads next i

@@ -5,15 +5,17 @@
 // No byte of a name is compared twice, and no earlier name is passed more than twice, whatever the
 // names are: who builds names with equal prints makes the search slower, up to one step for each
 // earlier name, and never wrong.
+#![tactic(auto)]
+
 ghost use Rattle.std.specs.Prelude.{◌≡◌, ◌+◌, ◌≤◌, ◌<◌, length, get_or};
 ghost use Rattle.names.specs.Names.{name_at, Lying};
-ghost use Rattle.ways.specs.Tree.{scaledTo, letterOf, place_of, Told, Reached, Child, Spotted, Standing};
+ghost use Rattle.ways.specs.Tree.{scaled_to, letter_of, place_of, Told, Reached, Child, Spotted, Standing};
 
 use names::{Names, name_at};
 
 // Where the way of a name ends: under which node, with which mark; or that it is the same as an
 // earlier name.
-#[derive(Drop)]
+#[derive(Clone, Copy)]
 pub struct Spot {
     pub same: bool,
     pub node: usize,
@@ -30,7 +32,7 @@ fn wide(word: u16) -> usize
 // The place of a number of 32 bits among so many.
 fn scaled(places: usize, number: u64) -> usize
     requires { (number < 4294967296) × (0 < places) × (places ≤ 8192) }
-    ensures { (result ≡ scaledTo places number) × (result < places) }
+    ensures { (result ≡ scaled_to places number) × (result < places) }
 {
     (number * places as u64 / 4_294_967_296) as usize
 }
@@ -38,7 +40,7 @@ fn scaled(places: usize, number: u64) -> usize
 // A name's letter under a node, by its mark.
 fn letter_of(places: usize, node: usize, mark: u32, name: &[u8]) -> u64
     requires { places ≤ node → mark < length name.now }
-    ensures { result ≡ letterOf places node mark name.now }
+    ensures { result ≡ letter_of places node mark name.now }
 {
     if node < places {
         return name.len() as u64;

@@ -2,15 +2,15 @@
 -- Assumes nothing.
 use Rattle.std.specs.Prelude.{Bool, cond, ◌||◌, List, [], ◌∷◌, ◌++◌, ◌≡◌, ℕ, suc, ◌+◌, ◌*◌, ◌≤◌, ◌<◌, eqb, length, get_or, drop}
 use Rattle.text.specs.declared.Range.{Range}
-use Rattle.sheet.specs.Kinds.{number-max}
+use Rattle.sheet.specs.Kinds.{number_max}
 use Rattle.sheet.specs.Record.{row_words}
-use Rattle.json.specs.Datum.{Datum}
-use Rattle.json.specs.Text.{Text, bytes}
-use Rattle.json.specs.Value.{value_of}
+use Rattle.jsontext.specs.Datum.{Datum}
+use Rattle.jsontext.specs.Text.{Text, bytes}
+use Rattle.jsontext.specs.Value.{value_of}
 use Rattle.breadth.specs.Forest.{tree}
 use Rattle.breadth.specs.Breadth.{depth}
 use Rattle.breadth.specs.Sheet.{rows, text}
-use Rattle.breadth.specs.Words.{sheetWords}
+use Rattle.breadth.specs.Words.{sheet_words}
 use Rattle.breadth.specs.Counters.{one, size}
 use Rattle.breadth.specs.Tokens.{tokens, begin}
 use Rattle.breadth.proofs.Tables.{Holds}
@@ -20,13 +20,13 @@ use Rattle.placing.specs.Fair.{Sayable, Fair}
 
 -- ---- white space
 
-abbrev pub isBlank : ℕ → Bool
-isBlank b = eqb b 0x20 || (eqb b 0x0A || (eqb b 0x0D || eqb b 0x09))
+abbrev pub is_blank : ℕ → Bool
+is_blank b = eqb b 0x20 || (eqb b 0x0A || (eqb b 0x0D || eqb b 0x09))
 
 -- how many bytes of white space come first
-unfoldable pub blanksOf : List ℕ → ℕ
-blanksOf [] = 0
-blanksOf (b ∷ l) = cond (isBlank b) (suc (blanksOf l)) 0
+unfoldable pub blanks_of : List ℕ → ℕ
+blanks_of [] = 0
+blanks_of (b ∷ l) = cond (is_blank b) (suc (blanks_of l)) 0
 
 -- ---- one lexeme after the other
 
@@ -49,38 +49,38 @@ Bounded cells most = (k : ℕ) → get_or cells k 0 ≤ most
 pub record Ready (n i k : ℕ) (rows bytes words : List ℕ) : Type 0 where
   pub low : k < levels
   pub rows_long : length rows ≡ levels
-  pub bytes-long : length bytes ≡ levels
+  pub bytes_long : length bytes ≡ levels
   pub words_long : row_words * n ≤ length words
-  pub rows-low : Bounded rows (65_536 + i)
+  pub rows_low : Bounded rows (65_536 + i)
   pub bytes_low : Bounded bytes (65_536 + i)
 
 -- a desk in parts
-abbrev pub deskOf : ℕ → ℕ → ℕ → List ℕ → List ℕ → List ℕ → List ℕ → Desk
-deskOf k start size rows bytes words text =
+abbrev pub desk_of : ℕ → ℕ → ℕ → List ℕ → List ℕ → List ℕ → List ℕ → Desk
+desk_of k start size rows bytes words text =
     record { level = k; rows = rows; bytes = bytes; label = record { start = start; length = size }; words = words; text = text }
 
 -- ---- the whole text
 
-abbrev pub datumOf : Text → Datum
-datumOf t = value_of number-max t.root
+abbrev pub datum_of : Text → Datum
+datum_of t = value_of number_max t.root
 
 -- these bytes are of a text that can be written, and the counters stand at the starts of its levels
-pub record Writable (json : List ℕ) (n room_for : ℕ) (rowStarts byteStarts words room : List ℕ) : Type 0 where
+pub record Writable (json : List ℕ) (n room_for : ℕ) (row_starts byte_starts words room : List ℕ) : Type 0 where
   pub of : Text
   pub spelled : bytes of ≡ json
   pub sayable : Sayable of.root
-  pub shallow : depth (tree (datumOf of)) < levels
-  pub rows_start : Holds rowStarts (begin one (tokens (tree (datumOf of)))) levels
-  pub bytes-start : Holds byteStarts (begin size (tokens (tree (datumOf of)))) levels
-  pub rows-many : n ≡ length (rows (tree (datumOf of)))
-  pub bytes-many : room_for ≡ length (text (tree (datumOf of)))
-  pub words-fit : row_words * n + 4 ≤ length words
-  pub text-fits : room_for ≤ length room
+  pub shallow : depth (tree (datum_of of)) < levels
+  pub rows_start : Holds row_starts (begin one (tokens (tree (datum_of of)))) levels
+  pub bytes_start : Holds byte_starts (begin size (tokens (tree (datum_of of)))) levels
+  pub rows_many : n ≡ length (rows (tree (datum_of of)))
+  pub bytes_many : room_for ≡ length (text (tree (datum_of of)))
+  pub words_fit : row_words * n + 4 ≤ length words
+  pub text_fits : room_for ≤ length room
 
 -- what stands there in the end
 pub record Stands (t : Text) (words room words' room' : List ℕ) : Type 0 where
   pub words_are :
       words'
-      ≡ sheetWords (rows (tree (datumOf t))) (length (text (tree (datumOf t))))
-      ++ drop (length (sheetWords (rows (tree (datumOf t))) (length (text (tree (datumOf t)))))) words
-  pub text-is : room' ≡ text (tree (datumOf t)) ++ drop (length (text (tree (datumOf t)))) room
+      ≡ sheet_words (rows (tree (datum_of t))) (length (text (tree (datum_of t))))
+      ++ drop (length (sheet_words (rows (tree (datum_of t))) (length (text (tree (datum_of t)))))) words
+  pub text_is : room' ≡ text (tree (datum_of t)) ++ drop (length (text (tree (datum_of t)))) room

@@ -1,9 +1,11 @@
 // The second pass over a JSON text that is accepted: every row's words and every byte of the text are
 // written at their places (`specs/Reading.antt`, which contracts cite).
+#![tactic(auto)]
+
 ghost use Rattle.std.specs.Prelude.{true, [], ◌∷◌, ◌≡◌, ◌+◌, ◌-◌, ◌*◌, ◌≤◌, ◌<◌, length, get_or, drop, set};
 ghost use Rattle.sheet.specs.Record.{row_words};
-ghost use Rattle.placing.specs.Desk.{rowPut, rowShut, ownerAt};
-ghost use Rattle.writing.specs.Reading.{isBlank, blanksOf, Reading, Going, Ready, deskOf, Writable, Stands};
+ghost use Rattle.placing.specs.Desk.{row_put, row_shut, owner_at};
+ghost use Rattle.writing.specs.Reading.{is_blank, blanks_of, Reading, Going, Ready, desk_of, Writable, Stands};
 
 use figures::{byte_at, read_number};
 use setting::{Content, clear_rows, finish, owner_at, put_row, shut_row};
@@ -11,7 +13,7 @@ use strings::copy_string;
 use text::Range;
 
 // A place of the text, how many brackets are open there, and the label that waits for its value.
-#[derive(Drop)]
+#[derive(Clone, Copy)]
 struct Spot {
     at: usize,
     level: usize,
@@ -20,7 +22,7 @@ struct Spot {
 }
 
 // The first words of a row.
-#[derive(Drop)]
+#[derive(Clone, Copy)]
 struct Head {
     kind: u32,
     first: u32,
@@ -29,7 +31,7 @@ struct Head {
 
 // Whether white space stands there.
 fn blank_at(json: &[u8], i: usize) -> bool
-    ensures { result ≡ isBlank (get_or json.now i 0) }
+    ensures { result ≡ is_blank (get_or json.now i 0) }
 {
     let byte = byte_at(json, i);
     if byte == 0x20 {
@@ -47,7 +49,7 @@ fn blank_at(json: &[u8], i: usize) -> bool
 // The first place from `start` on at which there is no white space.
 fn skip(json: &[u8], start: usize) -> usize
     requires { start ≤ 65_536 }
-    ensures { result ≡ start + blanksOf (drop start json.now) }
+    ensures { result ≡ start + blanks_of (drop start json.now) }
 {
     let mut i = start;
     while blank_at(json, i) {
@@ -60,7 +62,7 @@ fn skip(json: &[u8], start: usize) -> usize
 fn take_row(rows: &mut [u32], words: &mut [u32], n: usize, k: usize, row: Head, label: Range)
     requires { (k < length rows.old) × (row_words * n ≤ length words.old) × (get_or rows.old k 0 < 1_000_000) }
     ensures counted { rows.new ≡ set rows.old k (get_or rows.old k 0 + 1) }
-    ensures written { words.new ≡ rowPut n words.old (get_or rows.old k 0) (row.kind ∷ row.first ∷ row.count ∷ ownerAt k rows.old ∷ label.start ∷ label.length ∷ []) }
+    ensures written { words.new ≡ row_put n words.old (get_or rows.old k 0) (row.kind ∷ row.first ∷ row.count ∷ owner_at k rows.old ∷ label.start ∷ label.length ∷ []) }
 {
     let r = rows[k];
     let owner = owner_at(rows, k);
@@ -87,7 +89,7 @@ fn write_string(
     requires reading { Reading json.now spot.at spot.level }
     requires ready_2 { Ready n spot.at spot.level rows.old bytes.old words.old }
     requires at_in_bounds { (spot.at < length json.now) × (length json.now ≤ 65_536) × (get_or json.now spot.at 0 ≡ 0x22) }
-    ensures going { (s : Reading json.now spot.at spot.level) → Going n json.now spot.at (deskOf spot.level spot.start spot.size rows.old bytes.old words.old text.old) s result.at (deskOf result.level result.start result.size rows.new bytes.new words.new text.new) }
+    ensures going { (s : Reading json.now spot.at spot.level) → Going n json.now spot.at (desk_of spot.level spot.start spot.size rows.old bytes.old words.old text.old) s result.at (desk_of result.level result.start result.size rows.new bytes.new words.new text.new) }
     ensures ready { (Ready n result.at result.level rows.new bytes.new words.new) × (spot.at < result.at) }
 {
     let k = spot.level;
@@ -135,7 +137,7 @@ fn write_row(
 ) -> Spot
     requires { (spot.level < length rows.old) × (row_words * n ≤ length words.old) × (get_or rows.old spot.level 0 < 1_000_000) }
     ensures counted { rows.new ≡ set rows.old spot.level (get_or rows.old spot.level 0 + 1) }
-    ensures written { words.new ≡ rowPut n words.old (get_or rows.old spot.level 0) (kind ∷ first ∷ count ∷ ownerAt spot.level rows.old ∷ spot.start ∷ spot.size ∷ []) }
+    ensures written { words.new ≡ row_put n words.old (get_or rows.old spot.level 0) (kind ∷ first ∷ count ∷ owner_at spot.level rows.old ∷ spot.start ∷ spot.size ∷ []) }
     ensures moved { (result.at ≡ to) × (result.level ≡ spot.level) × (result.start ≡ 0) × (result.size ≡ 0) }
 {
     let row = Head {
@@ -160,7 +162,7 @@ fn write_row(
 fn open_row(rows: &mut [u32], words: &mut [u32], n: usize, spot: Spot, kind: u32) -> Spot
     requires { (spot.level + 1 < length rows.old) × (row_words * n ≤ length words.old) × (get_or rows.old spot.level 0 < 1_000_000) × (spot.at < 65_536) }
     ensures counted { rows.new ≡ set rows.old spot.level (get_or rows.old spot.level 0 + 1) }
-    ensures written { words.new ≡ rowPut n words.old (get_or rows.old spot.level 0) (kind ∷ get_or rows.old (spot.level + 1) 0 ∷ 0 ∷ ownerAt spot.level rows.old ∷ spot.start ∷ spot.size ∷ []) }
+    ensures written { words.new ≡ row_put n words.old (get_or rows.old spot.level 0) (kind ∷ get_or rows.old (spot.level + 1) 0 ∷ 0 ∷ owner_at spot.level rows.old ∷ spot.start ∷ spot.size ∷ []) }
     ensures moved { (result.at ≡ spot.at + 1) × (result.level ≡ spot.level + 1) × (result.start ≡ 0) × (result.size ≡ 0) }
 {
     let inner = spot.level + 1;
@@ -178,7 +180,7 @@ fn open_row(rows: &mut [u32], words: &mut [u32], n: usize, spot: Spot, kind: u32
 // The end at the spot of the container that is open.
 fn close_row(rows: &[u32], words: &mut [u32], n: usize, spot: Spot) -> Spot
     requires { (0 < spot.level) × (spot.level < length rows.now) × (row_words * n ≤ length words.old) × (spot.at < 65_536) }
-    ensures written { words.new ≡ rowShut n words.old (get_or rows.now (spot.level - 1) 0 - 1) (get_or rows.now spot.level 0) }
+    ensures written { words.new ≡ row_shut n words.old (get_or rows.now (spot.level - 1) 0 - 1) (get_or rows.now spot.level 0) }
     ensures moved { (result.at ≡ spot.at + 1) × (result.level ≡ spot.level - 1) × (result.start ≡ 0) × (result.size ≡ 0) }
 {
     let k = spot.level;
@@ -206,7 +208,7 @@ fn turn(
     requires reading { Reading json.now spot.at spot.level }
     requires ready_2 { Ready n spot.at spot.level rows.old bytes.old words.old }
     requires at_in_bounds { (spot.at < length json.now) × (length json.now ≤ 65_536) }
-    ensures going { (s : Reading json.now spot.at spot.level) → Going n json.now spot.at (deskOf spot.level spot.start spot.size rows.old bytes.old words.old text.old) s result.at (deskOf result.level result.start result.size rows.new bytes.new words.new text.new) }
+    ensures going { (s : Reading json.now spot.at spot.level) → Going n json.now spot.at (desk_of spot.level spot.start spot.size rows.old bytes.old words.old text.old) s result.at (desk_of result.level result.start result.size rows.new bytes.new words.new text.new) }
     ensures ready { (Ready n result.at result.level rows.new bytes.new words.new) × (spot.at < result.at) }
 {
     let i = spot.at;

@@ -1,0 +1,7 @@
+-- `enlist` meets its contract: past the end of the list there is nothing to write. Assumes nothing.
+use mathlib.Core.Path.{sym}
+use lib.Seq.{set_out}
+use Rattle.areas.proofs.enlist.Goals as goal
+
+pub returns-then-list-count : goal.returns-then-list-count
+returns-then-list-count c = sym (set_out c.args.list.now c.args.count c.args.k c.if-list-count.true)

@@ -1,0 +1,40 @@
+-- `decimal::power` meets its contract, arm by arm; past the others 0 is left.
+-- Assumes nothing.
+use mathlib.Core.Path.{◌≡◌}
+use native.Mathlib.Omega.{arith}
+use Rattle.decimal.proofs.Powers.{before}
+use Rattle.decimal.proofs.power.Goals as goal
+
+pub returns-in-1 : goal.returns-in-1
+returns-in-1 c = rw c.in-1.is
+
+pub returns-in-2 : goal.returns-in-2
+returns-in-2 c = rw c.in-2.is
+
+pub returns-in-3 : goal.returns-in-3
+returns-in-3 c = rw c.in-3.is
+
+pub returns-in-4 : goal.returns-in-4
+returns-in-4 c = rw c.in-4.is
+
+pub returns-in-5 : goal.returns-in-5
+returns-in-5 c = rw c.in-5.is
+
+pub returns-in-6 : goal.returns-in-6
+returns-in-6 c = rw c.in-6.is
+
+pub returns-in-7 : goal.returns-in-7
+returns-in-7 c = rw c.in-7.is
+
+pub returns-in-8 : goal.returns-in-8
+returns-in-8 c = rw c.in-8.is
+
+pub returns-in-9 : goal.returns-in-9
+returns-in-9 c = rw c.in-9.is
+
+pub returns-in_default : goal.returns-in_default
+returns-in_default c =
+    let n = c.args.n in
+    let r = c.in_default.in_default-own.rest in
+    let e : n ≡ 0 = omega (arith, before 0 n (before 1 n (before 2 n (before 3 n (before 4 n (before 5 n (before 6 n (before 7 n (before 8 n (omega arith) r.1) r.0.1) r.0.0.1) r.0.0.0.1) r.0.0.0.0.1) r.0.0.0.0.0.1) r.0.0.0.0.0.0.1) r.0.0.0.0.0.0.0.1) r.0.0.0.0.0.0.0.0.1) in
+    rw e

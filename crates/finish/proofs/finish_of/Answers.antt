@@ -1,0 +1,28 @@
+-- `finish_of` meets its contract. Assumes nothing.
+use mathlib.Core.Path.{refl, ap, ◌∙◌}
+use borrow.Author.Rules.{rules}
+use Rattle.sheet.specs.Record.{doc_of}
+use Rattle.areas.specs.Cells.{pair_is}
+use Rattle.clause.specs.Read.{clause_in}
+use Rattle.clause.proofs.Reading.{words_read}
+use Rattle.plan.specs.Plan.{ends_by}
+use Rattle.finish.proofs.Ending.{spared_ends}
+use Rattle.finish.proofs.finish_of.Goals as goal
+
+pub finish_in-requires : goal.finish_in-requires
+finish_in-requires c =
+    let asked = c.requires in record {
+      laid = asked.0;
+      rules_laid = (asked.1.0.0.laid, (words_read asked.1.0.0 asked.1.0.1 asked.1.0.2 asked.1.1 c.sparing_by-clause.ensures).tested);
+    }
+
+pub returns : goal.returns
+returns c =
+    let asked = c.requires in
+    let read = words_read asked.1.0.0 asked.1.0.1 asked.1.0.2 asked.1.1 c.sparing_by-clause.ensures in
+    let p = pair_is c.args.p in
+    λ ts.
+    let doc = doc_of c.args.«record».now ts in
+    c.finish_in.ensures ts c.args.rule-text.now p refl
+    ∙ ap (λ x. ends_by doc p x c.args.tally) read.means
+    ∙ spared_ends doc p (clause_in c.args.rules.now c.args.rule-text.now c.args.p.rule.0 c.args.i) c.args.tally

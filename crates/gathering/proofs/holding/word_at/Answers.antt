@@ -1,0 +1,10 @@
+-- `gathering::holding::word_at` meets its contract. Assumes nothing.
+use mathlib.Core.Path.{sym}
+use native.Mathlib.Omega.{arith}
+use lib.ListN.{get_or-eq_default}
+use Rattle.gathering.proofs.holding.word_at.Goals as goal
+
+pub returns : goal.returns
+returns c =
+    let a = c.args in
+    sym (get_or-eq_default a.area.now 0 (omega arith))

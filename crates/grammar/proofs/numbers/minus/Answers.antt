@@ -1,0 +1,35 @@
+-- `grammar::numbers::minus` meets its contract: each move is asked in its turn.
+-- Assumes nothing.
+use mathlib.Core.Bool.{true, false}
+use mathlib.Core.Option.{none}
+use mathlib.Core.Path.{◌≡◌, sym, ◌∙◌}
+use Rattle.jsontext.specs.Automaton as Auto
+use Rattle.jsontext.specs.Automaton.{moves, pick}
+use Rattle.grammar.specs.Codes.{leads, inside}
+use Rattle.grammar.proofs.numbers.minus.Goals as goal
+
+pub returns-then-within : goal.returns-then-within
+unfolding leads pick
+returns-then-within c =
+    let s = c.args in
+    let e1 : inside 0x30 0x30 s.byte ≡ true = sym c.within.ensures ∙ c.if-within.true in
+    let rest : leads (moves Auto.minus none) s.byte ≡ 17 = rw (e1) in
+    sym (rest)
+
+pub returns-then-within-2 : goal.returns-then-within-2
+unfolding leads pick
+returns-then-within-2 c =
+    let s = c.args in
+    let e1 : inside 0x30 0x30 s.byte ≡ false = sym c.within.ensures ∙ c.if-within.false in
+    let e2 : inside 0x31 0x39 s.byte ≡ true = sym c.within-2.ensures ∙ c.if-within-2.true in
+    let rest : leads (moves Auto.minus none) s.byte ≡ 18 = rw (e1, e2) in
+    sym (rest)
+
+pub returns : goal.returns
+unfolding leads pick
+returns c =
+    let s = c.args in
+    let e1 : inside 0x30 0x30 s.byte ≡ false = sym c.within.ensures ∙ c.if-within.false in
+    let e2 : inside 0x31 0x39 s.byte ≡ false = sym c.within-2.ensures ∙ c.if-within-2.false in
+    let rest : leads (moves Auto.minus none) s.byte ≡ 63 = rw (e1, e2) in
+    sym (rest)

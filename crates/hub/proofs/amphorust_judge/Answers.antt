@@ -1,0 +1,8 @@
+use Rattle.number.proofs.Calls.{count_fits, call_told}
+use Rattle.hub.proofs.amphorust_judge.Goals as goal
+
+pub number_of-requires : goal.number_of-requires
+number_of-requires c = count_fits _ _ _ _ _ _ _ c.judge-answer.result c.judge-answer.ensures
+
+pub returns : goal.returns
+returns c = call_told _ _ _ _ _ _ _ c.judge-answer.result c.judge-answer.ensures c.number_of.ensures

@@ -1,0 +1,12 @@
+-- `visit_clause` meets its contract. Where i steps were passed, their schemas were visited. Assumes nothing.
+use Prim.Native.Nat.{◌-◌, ◌≤◌}
+use Rattle.rulesheet.specs.Sheet.{targets_of}
+use Rattle.unguarded.specs.Worklist.{Visited}
+use lib.ListN.{take}
+use Rattle.loops.proofs.visit_clause.Given as goal
+
+abbrev pub invariant-loop-i : goal.invariant-loop-i
+invariant-loop-i l = (l.i ≤ l.n) × Visited (take l.i (targets_of l.words l.k)) l.initial.seen l.initial.queue l.tail l.seen l.queue l.end
+
+abbrev pub decreases-loop-i : goal.decreases-loop-i
+decreases-loop-i l = l.n - l.i

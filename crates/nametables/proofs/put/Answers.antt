@@ -1,0 +1,8 @@
+-- `nametables::put` meets its contract. Assumes nothing.
+use mathlib.Core.Path.{refl}
+use Rattle.nametables.proofs.put.Goals as goal
+
+pub returns : goal.returns
+returns c =
+    let e = c.place_of-place.ensures.0 in
+    record { first = rw e; then = rw e; under = refl; marked = refl }

@@ -1,0 +1,21 @@
+-- `maximum_rows` meets its contract: each row passed over is no number or at most the limit. Assumes nothing.
+use mathlib.Core.Bool.{true}
+use mathlib.Core.List.{List}
+use mathlib.Core.Path.{◌≡◌}
+use Prim.Native.Nat.{ℕ, ◌-◌}
+use lib.Signed.{le_z}
+use Rattle.decimal.specs.declared.Decimal.{Decimal}
+use Rattle.decimal.specs.Value.{value}
+use Rattle.sheet.specs.Record.{doc_of}
+use Rattle.meaning.specs.Tests.{number?, given}
+use Rattle.rows.specs.Firsts.{FirstRows}
+use Rattle.rows.proofs.maximum_rows.Given as goal
+
+abbrev So : List ℕ → Decimal → ℕ → Type 0
+So ws limit j = (ts : List ℕ) → given (number? ((doc_of ws ts).value j)) (λ y. le_z y (value limit)) ≡ true
+
+abbrev pub invariant-loop-k : goal.invariant-loop-k
+invariant-loop-k l = FirstRows l.row.0 l.n l.k (So «record» l.limit)
+
+abbrev pub decreases-loop-k : goal.decreases-loop-k
+decreases-loop-k l = l.n - l.k

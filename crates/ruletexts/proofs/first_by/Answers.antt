@@ -1,0 +1,46 @@
+use mathlib.Core.Logic.{⊎_elim}
+use mathlib.Core.Path.{◌≡◌, sym, ap, ◌∙◌}
+use Prim.Native.Nat.{◌+◌, ◌-◌}
+use native.Mathlib.Omega.{arith}
+use Rattle.laws.proofs.Searches.{ended}
+use Rattle.rulesheet.specs.Sheet.{clauses_word, entries_word}
+use Rattle.rulesheet.specs.Faults.{is_list, list_start, not_utf8}
+use Rattle.rulesheet.proofs.Trailers.{facts, form_c, form_e}
+use Rattle.rulesheet.proofs.Walking.{fields_read, told, Walked, walk_begins, walk_past, list_inside, walk_ends, walk_on}
+use Rattle.rulesheet.proofs.Repeating.{all_taken}
+use Rattle.ruletexts.proofs.first_by.Goals as goal
+
+pub loop-k-init : goal.loop-k-init
+loop-k-init c = (omega arith, walk_begins c.args.words.now (not_utf8 c.args.words.now c.args.text.now))
+
+pub clause_at-clause-requires : goal.clause_at-clause-requires
+clause_at-clause-requires c = (c.requires.0.clauses_laid.schemas_laid.formed, omega arith)
+
+pub first_in-bad-requires : goal.first_in-bad-requires
+first_in-bad-requires c = record {
+      rules_laid = (c.requires.0, c.requires.1, c.requires.2);
+      k_lt_c = (omega arith, (told is_list (fields_read c.args.words.now c.loop-k.k c.clause_at-clause.ensures c.shape_of-shape.ensures) c.is_list.ensures c.if-is_list.true));
+    }
+
+pub overflow_add-clause : goal.overflow_add-clause
+overflow_add-clause c = let inside = list_inside c.args.words.now c.args.form c.requires.0.clauses_laid (omega arith) c.clause_at-clause.result c.clause_at-clause.ensures (told is_list (fields_read c.args.words.now c.loop-k.k c.clause_at-clause.ensures c.shape_of-shape.ensures) c.is_list.ensures c.if-is_list.true) in omega (arith, form_e c.args.words.now c.args.form c.requires.0.clauses_laid.schemas_laid.formed, (facts c.args.words.now c.args.form c.requires.0.clauses_laid.schemas_laid.formed).few_entries)
+
+pub returns-then-bad-clause : goal.returns-then-bad-clause
+returns-then-bad-clause c = walk_ends c.args.words.now c.args.form c.requires.0.clauses_laid (omega arith) c.clause_at-clause.result c.clause_at-clause.ensures (told is_list (fields_read c.args.words.now c.loop-k.k c.clause_at-clause.ensures c.shape_of-shape.ensures) c.is_list.ensures c.if-is_list.true) (not_utf8 c.args.words.now c.args.text.now) c.loop-k.invariant.1 c.first_in-bad.result c.first_in-bad.ensures c.if-bad-clause.true
+
+pub overflow_add-k : goal.overflow_add-k
+overflow_add-k c = omega (arith, (facts c.args.words.now c.args.form c.requires.0.clauses_laid.schemas_laid.formed).few_clauses, form_c c.args.words.now c.args.form c.requires.0.clauses_laid.schemas_laid.formed)
+
+pub loop-k-preserved : goal.loop-k-preserved
+loop-k-preserved c = let next : Walked c.args.words.now (not_utf8 c.args.words.now c.args.text.now) (c.loop-k.k + 1) =
+    ⊎_elim
+    (λ w. walk_on c.args.words.now c.args.form c.requires.0.clauses_laid (omega arith) c.clause_at-clause.result c.clause_at-clause.ensures (told is_list (fields_read c.args.words.now c.loop-k.k c.clause_at-clause.ensures c.shape_of-shape.ensures) c.is_list.ensures w.0.taken) (not_utf8 c.args.words.now c.args.text.now) c.loop-k.invariant.1 w.1.result w.1.ensures w.3.left)
+    (λ w. walk_past c.args.words.now (not_utf8 c.args.words.now c.args.text.now) c.loop-k.invariant.1 (told is_list (fields_read c.args.words.now c.loop-k.k c.clause_at-clause.ensures c.shape_of-shape.ensures) c.is_list.ensures w.left))
+    c.if-is_list.branch
+    in
+    (omega arith, next)
+
+pub returns : goal.returns
+returns c = let e : c.loop-k.k ≡ clauses_word c.args.words.now = omega (arith, form_c c.args.words.now c.args.form c.requires.0.clauses_laid.schemas_laid.formed) in
+    let x : list_start c.args.words.now c.loop-k.k ≡ entries_word c.args.words.now = ap (list_start c.args.words.now) e ∙ all_taken c.args.words.now c.args.text.now c.args.form c.requires.0 in
+    form_e c.args.words.now c.args.form c.requires.0.clauses_laid.schemas_laid.formed ∙ sym (c.loop-k.invariant.1.rest ∙ ended (not_utf8 c.args.words.now c.args.text.now) (entries_word c.args.words.now) (list_start c.args.words.now c.loop-k.k) (omega arith) ∙ x)

@@ -1,0 +1,6 @@
+-- `number_of` meets its contract. Assumes nothing.
+use Rattle.sheet.proofs.Values.{number_read}
+use Rattle.sheet.proofs.record.number_of.Goals as goal
+
+pub returns : goal.returns
+returns c = number_read c.args.words.now c.args.form c.args.row.0 c.row_at-it.result c.requires.0 c.requires.1 c.row_at-it.ensures c.of_word.result c.of_word.ensures

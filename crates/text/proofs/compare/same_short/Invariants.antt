@@ -1,0 +1,9 @@
+-- `text::compare::same_short` meets its contract. The loop's invariant: from k on the bytes are alike. Assumes nothing.
+use Rattle.text.proofs.Comparing.{Rest}
+use Rattle.text.proofs.compare.same_short.Given as goal
+
+abbrev pub invariant-loop-k : goal.invariant-loop-k
+invariant-loop-k l = Rest l.a l.b l.k
+
+abbrev pub decreases-loop-k : goal.decreases-loop-k
+decreases-loop-k l = l.k

@@ -1,0 +1,27 @@
+-- `watching::numbers::whole_digit` meets its contract. Assumes nothing.
+use mathlib.Core.Bool.{true, false}
+use mathlib.Core.Path.{◌≡◌, sym, ap, ◌∙◌}
+use Rattle.figure.specs.declared.Figure.{Figure}
+use Rattle.figure.specs.Figure.{whole_more}
+use Rattle.survey.specs.Watching.{with_figure, is_digit}
+use Rattle.survey.proofs.Branches.{digit_low, digit_small, digited_yes, digited_no}
+use Rattle.watching.proofs.numbers.whole_digit.Goals as goal
+
+pub overflow_sub-byte : goal.overflow_sub-byte
+overflow_sub-byte c =
+    digit_low c.args.byte (sym c.digit.ensures ∙ c.if-digit.true)
+
+pub whole_more-requires : goal.whole_more-requires
+whole_more-requires c =
+    (c.requires, digit_small c.args.byte (sym c.digit.ensures ∙ c.if-digit.true))
+
+pub returns-then-digit : goal.returns-then-digit
+returns-then-digit c =
+    let a = c.args in
+    let d : is_digit a.byte ≡ true = sym c.digit.ensures ∙ c.if-digit.true in
+    c.with_figure.ensures ∙ ap (λ (f : Figure). with_figure f a.s) c.whole_more.ensures ∙ sym (digited_yes whole_more a.byte a.s d)
+
+pub returns : goal.returns
+returns c =
+    let a = c.args in
+    sym (digited_no whole_more a.byte a.s (sym c.digit.ensures ∙ c.if-digit.false))

@@ -1,0 +1,22 @@
+-- `ways::leads` meets its contract. Assumes nothing.
+use mathlib.Core.Path.{sym, ◌∙◌}
+use native.Mathlib.Omega.{arith}
+use Rattle.ways.proofs.Ways.{told_not, told_by}
+use Rattle.ways.proofs.leads.Goals as goal
+
+pub returns-then-wide-node : goal.returns-then-wide-node
+returns-then-wide-node c = told_not (λ l. c.if-wide-node.true (c.wide.ensures ∙ l.under))
+
+pub returns-then-marks-k : goal.returns-then-marks-k
+returns-then-marks-k c = told_not (λ l. c.if-marks-k.true l.marked)
+
+pub letter_of-requires : goal.letter_of-requires
+letter_of-requires c l =
+    rw (c.name_at.ensures, ← c.if-marks-k.false) (c.requires.k_in_bounds (omega arith))
+
+pub returns : goal.returns
+returns c =
+    told_by
+    (sym c.wide.ensures ∙ c.if-wide-node.false)
+    c.if-marks-k.false
+    (rw c.name_at.ensures at c.letter_of.ensures)

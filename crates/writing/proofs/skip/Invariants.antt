@@ -1,0 +1,15 @@
+-- `writing::skip` meets its contract.
+-- Assumes nothing.
+use mathlib.Core.Path.{◌≡◌}
+use Prim.Native.Nat.{◌+◌, ◌-◌}
+use lib.ListN.{length, drop}
+use Rattle.writing.specs.Reading.{blanks_of}
+use Rattle.writing.proofs.skip.Given as goal
+
+abbrev pub invariant-loop-i : goal.invariant-loop-i
+invariant-loop-i l =
+    l.i + blanks_of (drop l.i l.json) ≡ l.start + blanks_of (drop l.start l.json)
+
+abbrev pub decreases-loop-i : goal.decreases-loop-i
+decreases-loop-i l =
+    length l.json - l.i

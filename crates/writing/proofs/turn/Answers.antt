@@ -1,0 +1,164 @@
+-- `writing::turn` meets its contract.
+-- Assumes nothing.
+use Prim.Native.Nat.{◌+◌, ◌-◌}
+use native.Mathlib.Omega.{arith}
+use Rattle.sheet.specs.declared.kind.RowKind.TheVariants.{Null, False, True, Number, Array, Object}
+use Rattle.placing.specs.Desk.{Desk}
+use Rattle.writing.specs.Reading.{Reading, desk_of}
+use Rattle.writing.proofs.Cases.{gap_going, null_going, true_going, false_going}
+use Rattle.writing.proofs.Containers.{array_going, object_going, array_end_going, object_end_going, array_room, object_room, array_open, object_open}
+use Rattle.writing.proofs.Strings.{number_forward, number_going}
+use Rattle.writing.proofs.Ready.{ready_on}
+use Rattle.writing.proofs.Turns.{row_turn, open_turn, shut_turn, false_there}
+use Rattle.writing.proofs.turn.Goals as goal
+
+pub write_string-requires : goal.write_string-requires
+write_string-requires c =
+    let s₀ = c.requires.reading in
+    let ok = c.requires.ready_2 in
+    let l = c.requires.at_in_bounds in record {
+      reading = s₀;
+      ready_2 = ok;
+      at_in_bounds = (l.0, l.1, c.if-byte-eq34.true);
+    }
+
+pub returns-then-byte-le44 : goal.returns-then-byte-le44
+returns-then-byte-le44 c =
+    let a = c.args in
+    let d : Desk = desk_of a.spot.level a.spot.start a.spot.size a.rows.now a.bytes.now a.words.now a.text.now in
+    let ok = c.requires.ready_2 in
+    let l = c.requires.at_in_bounds in record {
+      going = (λ (s : Reading a.json.now a.spot.at a.spot.level). gap_going a.json.now a.spot.at a.n d s l.0 (omega arith) c.if-byte-eq34.false);
+      ready = (ready_on a.n a.spot.at a.spot.level a.rows.now a.bytes.now a.words.now ok (a.spot.at + 1) (omega arith), omega arith);
+    }
+
+pub write_row-requires : goal.write_row-requires
+write_row-requires c =
+    let a = c.args in
+    let ok = c.requires.ready_2 in
+    let l = c.requires.at_in_bounds in
+    (omega (arith, ok.low, ok.rows_long), ok.words_long, omega (arith, ok.rows_low a.spot.level, l.0, l.1))
+
+pub returns-then-byte-le57 : goal.returns-then-byte-le57
+returns-then-byte-le57 c =
+    let a = c.args in
+    let d : Desk = desk_of a.spot.level a.spot.start a.spot.size a.rows.now a.bytes.now a.words.now a.text.now in
+    let s₀ = c.requires.reading in
+    let ok = c.requires.ready_2 in
+    let l = c.requires.at_in_bounds in
+    row_turn a.n a.spot.at a.spot.level a.spot.start a.spot.size a.json.now a.rows.now a.bytes.now a.words.now a.text.now ok Number c.read_number-f.result.word c.read_number-f.result.scale c.read_number-f.result.to _ _ _ _ _ _ c.write_row.ensures.counted c.write_row.ensures.written c.write_row.ensures.moved (number_forward a.n a.json.now a.spot.at d s₀ l.0 (omega arith) (omega arith) _ _ _ c.read_number-f.ensures) (λ (s : Reading a.json.now a.spot.at a.spot.level). number_going a.n a.json.now a.spot.at d s l.0 (omega arith) (omega arith) _ _ _ c.read_number-f.ensures)
+
+pub open_row-requires : goal.open_row-requires
+open_row-requires c =
+    let a = c.args in
+    let d : Desk = desk_of a.spot.level a.spot.start a.spot.size a.rows.now a.bytes.now a.words.now a.text.now in
+    let s₀ = c.requires.reading in
+    let ok = c.requires.ready_2 in
+    let l = c.requires.at_in_bounds in
+    (omega (arith, array_room a.json.now a.spot.at a.n d s₀ l.0 c.if-byte-eq91.true, ok.rows_long), ok.words_long, omega (arith, ok.rows_low a.spot.level, l.0, l.1), omega (arith, l.0, l.1))
+
+pub returns-then-byte-eq91 : goal.returns-then-byte-eq91
+returns-then-byte-eq91 c =
+    let a = c.args in
+    let d : Desk = desk_of a.spot.level a.spot.start a.spot.size a.rows.now a.bytes.now a.words.now a.text.now in
+    let s₀ = c.requires.reading in
+    let ok = c.requires.ready_2 in
+    let l = c.requires.at_in_bounds in
+    open_turn a.n a.spot.at a.spot.level a.spot.start a.spot.size a.json.now a.rows.now a.bytes.now a.words.now a.text.now ok Array _ _ _ _ _ _ c.open_row.ensures.counted c.open_row.ensures.written c.open_row.ensures.moved (array_room a.json.now a.spot.at a.n d s₀ l.0 c.if-byte-eq91.true) (λ (s : Reading a.json.now a.spot.at a.spot.level). array_going a.json.now a.spot.at a.n d s l.0 c.if-byte-eq91.true)
+
+pub open_row-requires-then-byte-eq123 : goal.open_row-requires-then-byte-eq123
+open_row-requires-then-byte-eq123 c =
+    let a = c.args in
+    let d : Desk = desk_of a.spot.level a.spot.start a.spot.size a.rows.now a.bytes.now a.words.now a.text.now in
+    let s₀ = c.requires.reading in
+    let ok = c.requires.ready_2 in
+    let l = c.requires.at_in_bounds in
+    (omega (arith, object_room a.json.now a.spot.at a.n d s₀ l.0 c.if-byte-eq123.true, ok.rows_long), ok.words_long, omega (arith, ok.rows_low a.spot.level, l.0, l.1), omega (arith, l.0, l.1))
+
+pub returns-then-byte-eq123 : goal.returns-then-byte-eq123
+returns-then-byte-eq123 c =
+    let a = c.args in
+    let d : Desk = desk_of a.spot.level a.spot.start a.spot.size a.rows.now a.bytes.now a.words.now a.text.now in
+    let s₀ = c.requires.reading in
+    let ok = c.requires.ready_2 in
+    let l = c.requires.at_in_bounds in
+    open_turn a.n a.spot.at a.spot.level a.spot.start a.spot.size a.json.now a.rows.now a.bytes.now a.words.now a.text.now ok Object _ _ _ _ _ _ c.open_row-then-byte-eq123.ensures.counted c.open_row-then-byte-eq123.ensures.written c.open_row-then-byte-eq123.ensures.moved (object_room a.json.now a.spot.at a.n d s₀ l.0 c.if-byte-eq123.true) (λ (s : Reading a.json.now a.spot.at a.spot.level). object_going a.json.now a.spot.at a.n d s l.0 c.if-byte-eq123.true)
+
+pub close_row-requires : goal.close_row-requires
+close_row-requires c =
+    let a = c.args in
+    let d : Desk = desk_of a.spot.level a.spot.start a.spot.size a.rows.now a.bytes.now a.words.now a.text.now in
+    let s₀ = c.requires.reading in
+    let ok = c.requires.ready_2 in
+    let l = c.requires.at_in_bounds in
+    (array_open a.json.now a.spot.at a.n d s₀ l.0 c.if-byte-eq93.true, omega (arith, ok.low, ok.rows_long), ok.words_long, omega (arith, l.0, l.1))
+
+pub returns-then-byte-eq93 : goal.returns-then-byte-eq93
+returns-then-byte-eq93 c =
+    let a = c.args in
+    let d : Desk = desk_of a.spot.level a.spot.start a.spot.size a.rows.now a.bytes.now a.words.now a.text.now in
+    let ok = c.requires.ready_2 in
+    let l = c.requires.at_in_bounds in
+    shut_turn a.n a.spot.at a.spot.level a.spot.start a.spot.size a.json.now a.rows.now a.bytes.now a.words.now a.text.now ok _ _ _ _ _ c.close_row.ensures.written c.close_row.ensures.moved (λ (s : Reading a.json.now a.spot.at a.spot.level). array_end_going a.json.now a.spot.at a.n d s l.0 c.if-byte-eq93.true)
+
+pub close_row-requires-then-byte-eq125 : goal.close_row-requires-then-byte-eq125
+close_row-requires-then-byte-eq125 c =
+    let a = c.args in
+    let d : Desk = desk_of a.spot.level a.spot.start a.spot.size a.rows.now a.bytes.now a.words.now a.text.now in
+    let s₀ = c.requires.reading in
+    let ok = c.requires.ready_2 in
+    let l = c.requires.at_in_bounds in
+    (object_open a.json.now a.spot.at a.n d s₀ l.0 c.if-byte-eq125.true, omega (arith, ok.low, ok.rows_long), ok.words_long, omega (arith, l.0, l.1))
+
+pub returns-then-byte-eq125 : goal.returns-then-byte-eq125
+returns-then-byte-eq125 c =
+    let a = c.args in
+    let d : Desk = desk_of a.spot.level a.spot.start a.spot.size a.rows.now a.bytes.now a.words.now a.text.now in
+    let ok = c.requires.ready_2 in
+    let l = c.requires.at_in_bounds in
+    shut_turn a.n a.spot.at a.spot.level a.spot.start a.spot.size a.json.now a.rows.now a.bytes.now a.words.now a.text.now ok _ _ _ _ _ c.close_row-then-byte-eq125.ensures.written c.close_row-then-byte-eq125.ensures.moved (λ (s : Reading a.json.now a.spot.at a.spot.level). object_end_going a.json.now a.spot.at a.n d s l.0 c.if-byte-eq125.true)
+
+pub write_row-requires-then-byte-eq110 : goal.write_row-requires-then-byte-eq110
+write_row-requires-then-byte-eq110 c =
+    let a = c.args in
+    let ok = c.requires.ready_2 in
+    let l = c.requires.at_in_bounds in
+    (omega (arith, ok.low, ok.rows_long), ok.words_long, omega (arith, ok.rows_low a.spot.level, l.0, l.1))
+
+pub returns-then-byte-eq110 : goal.returns-then-byte-eq110
+returns-then-byte-eq110 c =
+    let a = c.args in
+    let d : Desk = desk_of a.spot.level a.spot.start a.spot.size a.rows.now a.bytes.now a.words.now a.text.now in
+    let ok = c.requires.ready_2 in
+    let l = c.requires.at_in_bounds in
+    row_turn a.n a.spot.at a.spot.level a.spot.start a.spot.size a.json.now a.rows.now a.bytes.now a.words.now a.text.now ok Null 0 0 (a.spot.at + 4) _ _ _ _ _ _ c.write_row-then-byte-eq110.ensures.counted c.write_row-then-byte-eq110.ensures.written c.write_row-then-byte-eq110.ensures.moved (omega arith) (λ (s : Reading a.json.now a.spot.at a.spot.level). null_going a.json.now a.spot.at a.n d s l.0 c.if-byte-eq110.true)
+
+pub write_row-requires-then-byte-eq116 : goal.write_row-requires-then-byte-eq116
+write_row-requires-then-byte-eq116 c =
+    let a = c.args in
+    let ok = c.requires.ready_2 in
+    let l = c.requires.at_in_bounds in
+    (omega (arith, ok.low, ok.rows_long), ok.words_long, omega (arith, ok.rows_low a.spot.level, l.0, l.1))
+
+pub returns-then-byte-eq116 : goal.returns-then-byte-eq116
+returns-then-byte-eq116 c =
+    let a = c.args in
+    let d : Desk = desk_of a.spot.level a.spot.start a.spot.size a.rows.now a.bytes.now a.words.now a.text.now in
+    let ok = c.requires.ready_2 in
+    let l = c.requires.at_in_bounds in
+    row_turn a.n a.spot.at a.spot.level a.spot.start a.spot.size a.json.now a.rows.now a.bytes.now a.words.now a.text.now ok True 0 0 (a.spot.at + 4) _ _ _ _ _ _ c.write_row-then-byte-eq116.ensures.counted c.write_row-then-byte-eq116.ensures.written c.write_row-then-byte-eq116.ensures.moved (omega arith) (λ (s : Reading a.json.now a.spot.at a.spot.level). true_going a.json.now a.spot.at a.n d s l.0 c.if-byte-eq116.true)
+
+pub write_row-requires-2 : goal.write_row-requires-2
+write_row-requires-2 c =
+    let a = c.args in
+    let ok = c.requires.ready_2 in
+    let l = c.requires.at_in_bounds in
+    (omega (arith, ok.low, ok.rows_long), ok.words_long, omega (arith, ok.rows_low a.spot.level, l.0, l.1))
+
+pub returns : goal.returns
+returns c =
+    let a = c.args in
+    let d : Desk = desk_of a.spot.level a.spot.start a.spot.size a.rows.now a.bytes.now a.words.now a.text.now in
+    let ok = c.requires.ready_2 in
+    let l = c.requires.at_in_bounds in
+    row_turn a.n a.spot.at a.spot.level a.spot.start a.spot.size a.json.now a.rows.now a.bytes.now a.words.now a.text.now ok False 0 0 (a.spot.at + 5) _ _ _ _ _ _ c.write_row-2.ensures.counted c.write_row-2.ensures.written c.write_row-2.ensures.moved (omega arith) (λ (s : Reading a.json.now a.spot.at a.spot.level). false_going a.json.now a.spot.at a.n d s l.0 (false_there a.n a.spot.at a.spot.level a.spot.start a.spot.size a.json.now a.rows.now a.bytes.now a.words.now a.text.now ok s l.0 (omega arith) c.if-byte-eq91.false c.if-byte-eq123.false c.if-byte-eq93.false c.if-byte-eq125.false c.if-byte-eq110.false c.if-byte-eq116.false))
