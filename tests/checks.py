@@ -3,7 +3,9 @@
 
 All else is fixed cases at both sides of each limit, random and damaged sheets, bundles that are bad as a whole, and
 good sheets to be judged. Fails also where these do not meet what they are for. Says how often each answer came up and
-what was not tried; ends with 'N passed, M failed'. COUNT and SEED may be given."""
+what was not tried; ends with 'N passed, M failed'. COUNT and SEED may be given.
+
+The program is the one that `rt ci` left; where there is none, `rt run` builds it."""
 import os
 import subprocess
 import sys
@@ -15,12 +17,18 @@ import machine
 import second
 import sheets
 
-BENCH = os.path.join(os.path.dirname(os.path.abspath(__file__)), '..', 'target', 'bin', 'bench')
+CRATE = os.path.join(os.path.dirname(os.path.abspath(__file__)), '..', 'crates', 'bench')
+BENCH = os.path.join(CRATE, 'out', 'bench')
 
 SAMPLE_2 = 'invalid\npairs 3 marked 0\n1 1 held\n2 2 failed\n0 0 failed\n'
 
 # What the program does not print, so that no run of it can be compared.
 NOT_PRINTED = 'marks below the root, refusals 10 and 11, what stands behind the areas: the program does not print them'
+
+
+def build():
+    with open(os.path.join(CRATE, 'stdin'), 'rb') as sample:
+        subprocess.run(['rt', 'run'], cwd=CRATE, stdin=sample, stdout=subprocess.DEVNULL, check=True)
 
 
 def program(bundle):
@@ -112,6 +120,8 @@ def check_bundles(results, seed, count):
 
 def main(count=4_000, seed=1):
     results = Results()
+    if not os.path.exists(BENCH):
+        build()
     check_samples(results)
     larger = check_sheets(results, seed, count)
     check_judged(results, seed, count)

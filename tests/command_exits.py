@@ -12,21 +12,24 @@ from command_runs import EXAMPLES
 INVALID = 'r.json: invalid: is 1, must be null (#/type)\n'
 PROVES = 'amphorust: proves and builds the judge first, once, by %s: 3 crates, some minutes\n'
 
-# A prover that takes its time: the crates that it says to be proved, each after a while, and then the archive.
+# A prover that takes its time: the crates that it says to be done, each after a while, the first proved before, and one
+# that the library does not stand on, which fails; then the archive.
 SLOW_PROVER = '''#!/bin/sh
-test -d "$TMPDIR" || exit 8
-case "$*" in
-"check laws judge")
-    echo "rt: laws proved (unchanged since it was last proved)"
+case "${PWD##*/} $*" in
+"clone all check --jobs "[1-9]*)
+    echo "== laws"
     sleep 1.2
+    echo "== judge"
     echo "fn judge::judge: proved"
-    echo "rt: judge proved (50 s)"
+    echo "crate judge: modules loaded=0 checked=9"
+    echo "== bench"
+    exit 1
     ;;
-"staticlib hub")
-    echo "rt: judge proved (unchanged since it was last proved)"
+"hub lib")
+    echo "crate judge: modules loaded=9 checked=0"
     sleep 1.2
-    mkdir -p target/staticlib
-    cp %s target/staticlib
+    mkdir -p out
+    cp %s out
     ;;
 *) exit 9 ;;
 esac
@@ -132,8 +135,8 @@ class Exits:
                                     'not there: put the bin folder of the Rattle kit on the PATH\n', 2))
         judges.write_program(rt, '#!/bin/sh\necho "refused: $*"\nexit 1\n')
         everywhere = '%s:%s' % (tools, os.environ['PATH'])
-        self.equal('rt fails', run(everywhere), ('', PROVES % rt + 'target/lib/libamphorust.so: not built: rt check '
-                                                 'ended with 1: refused: check laws judge\n', 2))
+        self.equal('rt fails', run(everywhere), ('', PROVES % rt + 'target/lib/libamphorust.so: not built: rt lib '
+                                                 'ended with 1: refused: lib\n', 2))
         judges.write_program(rt, SLOW_PROVER % judges.ARCHIVE)
         out, err, status = run(everywhere)
         self.equal('built', (out, err[:err.index('built in')], status), (

@@ -29,7 +29,8 @@ def fresh_clone(folder, crates):
         shutil.copytree(os.path.join(ROOT, name), os.path.join(folder, name),
                         ignore=shutil.ignore_patterns('__pycache__'))
     with open(os.path.join(folder, 'crates.txt'), 'w') as lines:
-        lines.write('# the crates\n' + ''.join('%s: %s\n' % pair for pair in zip(crates, [''] + crates)))
+        *below, top = ['%s: %s\n' % pair for pair in zip(crates, [''] + crates)]
+        lines.write('# the crates\n' + ''.join(below) + top.replace(':', ' staticlib:'))
     for crate in crates:
         write_program(os.path.join(folder, 'crates', crate, 'src', 'lib.rt'), 'a source\n' * 100)
     return os.path.join(folder, 'amphorust')

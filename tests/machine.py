@@ -1,7 +1,7 @@
 """How a test builds and runs programs for x86-64, for which the kit compiles.
 
-On x86-64 by the machine's own compiler and as they are. On another machine by Debian's cross compiler, and under the
-emulator that the kit has there, with the cross compiler's C library."""
+On x86-64 by the machine's own compiler and as they are. On another machine by Debian's cross compiler, and under
+Debian's emulator, with the cross compiler's C library."""
 import os
 import shutil
 
@@ -24,5 +24,4 @@ def call(program, *arguments):
     """The words that run a program."""
     if not EMULATED:
         return [program, *arguments]
-    emulator = os.path.join(kit(), 'on', os.uname().machine, 'toolchain', 'bin', 'qemu-x86_64')
-    return [emulator, '-L', C_LIBRARY, program, *arguments]
+    return ['qemu-x86_64', '-L', C_LIBRARY, program, *arguments]

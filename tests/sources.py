@@ -45,7 +45,8 @@ def with_cells():
     reached = {}
     for line in read(os.path.join(ROOT, 'crates.txt')).splitlines():        # lowest first
         if ':' in line:
-            crate, below = line.split(':')
+            kind, below = line.split(':')                                   # of a static library 'NAME staticlib'
+            crate = kind.split()[0]
             reached[crate] = {crate}.union(*(reached.get(other, ()) for other in below.split()))
     return sorted(crate for crate in reached if crate in reached['judge'] or 'judge' in reached[crate])
 

@@ -2,7 +2,8 @@
 cannot load it, as it is for x86-64, a worker that an emulator runs.
 
 In a clone both stand in target/lib, and `rt`, the kit's command, proves and builds; installed they stand in lib/ of the
-prefix, and nothing is built.
+prefix, and nothing is built. The archive is kept in target/staticlib: of what stands in a crate's out/, `rt ci` clears
+all but what later checks begin with.
 """
 import fcntl
 import os
@@ -12,7 +13,6 @@ import shutil
 import subprocess
 import time
 
-from tools import scratch
 from tools.fault import CannotJudge
 
 ROOT = os.path.dirname(os.path.dirname(os.path.abspath(__file__)))
@@ -25,7 +25,10 @@ ARCHIVE = os.path.join(ROOT, 'target', 'staticlib', 'libhub.a')
 MACHINE = os.uname().machine
 LOADS = MACHINE == 'x86_64'             # whether this machine can load the library
 CRATE = 'hub'
-PROVED = re.compile(r'rt: (\w+) proved \((.*)\)\s*')
+MADE = os.path.join(ROOT, 'crates', CRATE, 'out', 'libhub.a')
+DONE = re.compile(r'== (\w+)\s*')
+CHECKED = re.compile(r'crate (\w+): modules loaded=\d+ checked=(\d+)\s*')
+A_CHECK = 3 << 30                       # the memory that is kept free for each check
 
 # All that the header asks of a compiler's own headers, which the kit's compiler does not have.
 HEADERS = {'stddef.h': 'typedef __SIZE_TYPE__ size_t;\n',
@@ -100,8 +103,8 @@ def crates():
     needs = {}
     with open(os.path.join(ROOT, 'crates.txt'), encoding='utf-8') as lines:
         for line in lines:
-            name, _, rest = line.partition('#')[0].partition(':')
-            needs[name.strip()] = rest.split()
+            kind, _, rest = line.partition('#')[0].partition(':')
+            needs[kind.partition(' ')[0].strip()] = rest.split()
     found = []
 
     def visit(name):
@@ -137,33 +140,44 @@ def date(made, made_from):
 
 
 def prove(rt, at_once):
-    """Has all that the library stands on proved, as many crates at a time as there are processors, and then the library
-    itself, which is proved as it is built; tells how far it is."""
+    """Has all crates proved, as many at a time as there are processors and memory for, and then the library built over
+    that. `rt lib` proves itself what is not proved yet, and has the last word: a crate that the library does not stand
+    on may fail."""
     progress = Progress(crates())
-    run(rt, ['check', *crates()[:-1]], progress, at_once)
-    run(rt, ['staticlib', CRATE], progress, at_once)
-    if not os.path.exists(ARCHIVE):
-        raise CannotJudge('not built: rt staticlib %s wrote no %s' % (CRATE, named(ARCHIVE)), file=named(LIBRARY))
+    run(rt, ['all', 'check', '--jobs', str(at_a_time())], ROOT, progress, at_once)
+    status, printed = run(rt, ['lib'], os.path.join(ROOT, 'crates', CRATE), progress, at_once)
+    if status != 0:
+        raise CannotJudge('not built: rt lib ended with %d: %s' % (status, ' / '.join(printed)), file=named(LIBRARY))
+    if not os.path.exists(MADE):
+        raise CannotJudge('not built: rt lib wrote no %s' % named(MADE), file=named(LIBRARY))
+    os.makedirs(os.path.dirname(ARCHIVE), exist_ok=True)
+    shutil.copyfile(MADE, ARCHIVE + '.new')
+    os.replace(ARCHIVE + '.new', ARCHIVE)
 
 
-def run(rt, words, progress, at_once):
-    """Runs the prover; of what it prints only the end is told, if it fails."""
-    printed, told = [], None
+def at_a_time():
+    """How many crates are proved at a time."""
+    with open('/proc/meminfo') as lines:
+        free = 1024 * int(re.search(r'^MemAvailable: *(\d+) kB', lines.read(), re.M)[1])
+    return max(1, min(len(os.sched_getaffinity(0)), free // A_CHECK))
+
+
+def run(rt, words, folder, progress, at_once):
+    """Runs the prover; gives its exit status, and of what it printed the end."""
+    printed = []
     try:
-        running = subprocess.Popen([rt, *words], cwd=ROOT, env=dict(os.environ, TMPDIR=scratch.folder()),
-                                   stdin=subprocess.DEVNULL, stdout=subprocess.PIPE, stderr=subprocess.STDOUT)
+        running = subprocess.Popen([rt, *words], cwd=folder, stdin=subprocess.DEVNULL, stdout=subprocess.PIPE,
+                                   stderr=subprocess.STDOUT)
     except OSError as fault:
         raise CannotJudge('does not run: %s' % fault.strerror.lower(), file=rt)
     for line in lines_in(running.stdout):
         if line is not None:
             printed = (printed + [line])[-3:]
             progress.takes(line)
-        elif progress.done != told:
-            told = progress.done
+        elif progress.at != progress.told:
+            progress.told = progress.at
             at_once(progress.words())
-    if running.wait() != 0:
-        raise CannotJudge('not built: rt %s ended with %d: %s' % (words[0], running.returncode, ' / '.join(printed)),
-                          file=named(LIBRARY))
+    return running.wait(), printed
 
 
 def lines_in(pipe):
@@ -186,27 +200,31 @@ class Progress:
     def __init__(self, names):
         self.sizes = {name: sum(map(os.path.getsize, sources([name]))) for name in names}
         self.left, self.size_proved, self.start = set(names), 0, time.monotonic()
+        self.last = self.start          # when the last crate was done
+        self.told = 0
 
     @property
-    def done(self):
-        return len(self.sizes) - len(self.left)
+    def at(self):
+        """The number of the crate that is under way, and of the last one where all are done."""
+        return min(len(self.sizes) - len(self.left) + 1, len(self.sizes))
 
     def takes(self, line):
-        """Takes in a line that says that a crate is proved; of one that was before it tells nothing of the time."""
-        found = PROVED.fullmatch(line)
-        if not found or found[1] not in self.left:
-            return
-        self.left.remove(found[1])
-        if found[2].endswith(' s'):
-            self.size_proved += self.sizes[found[1]]
-        elif not self.size_proved:
-            self.start = time.monotonic()
+        """Takes in a line: that a crate is done, or what was checked of it, nothing if it was proved before, and then it
+        tells nothing of the time."""
+        found, checked = DONE.fullmatch(line), CHECKED.fullmatch(line)
+        if found and found[1] in self.left:
+            self.left.remove(found[1])
+            if not self.size_proved:
+                self.start = self.last
+            self.last = time.monotonic()
+        elif checked and checked[1] in self.sizes and int(checked[2]):
+            self.size_proved += self.sizes[checked[1]]
 
     def words(self):
         left = sum(self.sizes[name] for name in self.left)
         spent = time.monotonic() - self.start
         about = ', about %s left' % duration(spent * left / self.size_proved) if self.size_proved else ''
-        return 'crate %d of %d%s' % (min(self.done + 1, len(self.sizes)), len(self.sizes), about)
+        return 'crate %d of %d%s' % (self.at, len(self.sizes), about)
 
 
 def duration(seconds):
@@ -222,7 +240,7 @@ def kit_of(rt):
 
 
 def toolchain(kit, *path):
-    return os.path.join(kit, 'on', MACHINE, 'toolchain', *path)
+    return os.path.join(kit, 'toolchain', *path)
 
 
 def link(kit):
@@ -257,12 +275,14 @@ def made(path, *words):
 
 
 def worker_call():
-    """The words that run the worker: by the kit's emulator and its C library."""
-    rt = shutil.which('rt')
+    """The words that run the worker: by the machine's emulator and the kit's C library."""
+    rt, emulator = shutil.which('rt'), shutil.which('qemu-x86_64')
     kit = kit_of(rt) if rt or os.environ.get('RATTLE_HOME') else None
     if kit is None:
-        raise CannotJudge('is for x86-64, and this machine is %s: rt, whose emulator runs it here, is not there: put '
+        raise CannotJudge('is for x86-64, and this machine is %s: rt, whose C library it runs with, is not there: put '
                           'the bin folder of the Rattle kit on the PATH' % MACHINE, file=named(WORKER))
+    if emulator is None:
+        raise CannotJudge('is for x86-64, and this machine is %s: the emulator qemu-x86_64 is not there' % MACHINE,
+                          file=named(WORKER))
     libraries = toolchain(kit, 'lib')
-    return [toolchain(kit, 'bin', 'qemu-x86_64'), os.path.join(libraries, 'ld-linux-x86-64.so.2'), '--library-path',
-            libraries, WORKER]
+    return [emulator, os.path.join(libraries, 'ld-linux-x86-64.so.2'), '--library-path', libraries, WORKER]

@@ -7,73 +7,64 @@ ghost use Rattle.bundle.specs.declared.Reply.TheVariants.{Judged};
 ghost use Rattle.bundle.specs.Printed.{Readable};
 
 use bundle::{AREA, Judgement, Line, Reply};
-use libc::{STDIN_FILENO, STDOUT_FILENO};
 use parts::BUNDLE_MAX;
 use sheet::refusal::Refusal;
+use std::io;
+use std::io::{BufWriter, Read, Write};
 
 // One byte more than a bundle may have tells one that is too long.
-fn main() {
-    let mut space = [0u8; BUNDLE_MAX + 1];
-    let got = io::read_full(STDIN_FILENO, &mut space);
-    answer(&space[..got]);
+fn main(rt: HostRuntime) -> io::Result<()> {
+    let mut bundle = Vec::new(rt.alloc());
+    rt.reader()
+        .take(BUNDLE_MAX as u64 + 1)
+        .read_to_end(&mut bundle)?;
+    let mut out = BufWriter::new(rt.alloc(), io::writer(&rt))?;
+    answer(&bundle, &mut out)?;
+    out.flush()
 }
 
-fn answer(bundle: &[u8]) {
+fn answer<W: Write>(bundle: &[u8], out: &mut W) -> io::Result<()> {
     let mut cells = [0u8; AREA];
     let mut list = [0u32; AREA];
     match bundle::reply_to(bundle, &mut cells, &mut list) {
-        Reply::BadBundle => say(b"bad bundle\n"),
-        Reply::Refused(refusal, place) => say_refused(refusal, place),
-        Reply::TooLarge => say(b"too large\n"),
-        Reply::Judged(judgement) => say_judged(judgement, &cells, &list),
+        Reply::BadBundle => writeln!(out, "bad bundle"),
+        Reply::Refused(refusal, place) => say_refused(refusal, place, out),
+        Reply::TooLarge => writeln!(out, "too large"),
+        Reply::Judged(judgement) => say_judged(judgement, &cells, &list, out),
     }
 }
 
-fn say(text: &[u8]) {
-    io::write_all(STDOUT_FILENO, text);
-}
-
-// Writes the bytes, then the number.
-fn say_number(before: &[u8], number: u64) {
-    io::write_all(STDOUT_FILENO, before);
-    io::print_decimal(STDOUT_FILENO, number);
-}
-
-fn say_refused(refusal: Refusal, place: u32) {
-    say_number(b"refused ", refusal.number() as u64);
-    say_number(b" ", place as u64);
-    say(b"\n");
+fn say_refused<W: Write>(refusal: Refusal, place: u32, out: &mut W) -> io::Result<()> {
+    let number = refusal.number();
+    writeln!(out, "refused {number} {place}")
 }
 
 // Writes the verdict, how many pairs were settled and how many children of the root are marked, and
 // then each settled pair.
-fn say_judged<'a>(judgement: Judgement, cells: &'a [u8], list: &'a [u32])
+fn say_judged<'a, W: Write>(
+    judgement: Judgement,
+    cells: &'a [u8],
+    list: &'a [u32],
+    out: &mut W,
+) -> io::Result<()>
     requires { Readable (Judged judgement) cells.now list.now }
 {
     let schemas = judgement.schemas;
     let pairs = judgement.pairs;
-    if judgement.valid {
-        say(b"valid\n");
-    } else {
-        say(b"invalid\n");
+    let marked = judgement.marked;
+    let verdict = if judgement.valid { "valid" } else { "invalid" };
+    writeln!(out, "{verdict}")?;
+    writeln!(out, "pairs {pairs} marked {marked}")?;
+    for i in 0..pairs {
+        say_line(bundle::line_at(cells, list, schemas, i), out)?;
     }
-    say_number(b"pairs ", pairs as u64);
-    say_number(b" marked ", judgement.marked as u64);
-    say(b"\n");
-    let mut i = 0;
-    while i < pairs {
-        say_line(bundle::line_at(cells, list, schemas, i));
-        i += 1;
-    }
+    Ok(())
 }
 
 // Writes a pair's row, its schema, and whether it held.
-fn say_line(line: Line) {
-    io::print_decimal(STDOUT_FILENO, line.row as u64);
-    say_number(b" ", line.schema as u64);
-    if line.held {
-        say(b" held\n");
-    } else {
-        say(b" failed\n");
-    }
+fn say_line<W: Write>(line: Line, out: &mut W) -> io::Result<()> {
+    let row = line.row;
+    let schema = line.schema;
+    let held = if line.held { "held" } else { "failed" };
+    writeln!(out, "{row} {schema} {held}")
 }
