@@ -6,6 +6,7 @@ use lib.ListN.{length-set}
 use Rattle.rulesheet.proofs.Trailers.{facts}
 use Rattle.unguarded.proofs.Steps.{schema_count}
 use Rattle.unguarded.proofs.Passes.{begin, quiet_on, clause_raised, clause_kept, pass_done}
+use Rattle.chains.proofs.pass.Goals.{then-most-long, else-most-long}
 use Rattle.chains.proofs.pass.Goals as goal
 
 pub overflow_sub-last_schema : goal.overflow_sub-last_schema
@@ -46,7 +47,7 @@ loop-k-smaller c =
 
 pub loop-k-preserved : goal.loop-k-preserved
 loop-k-preserved c =
-    (quiet_on c.args.words.now (⊎_elim (λ w. rw (w.2, w.3, c.wide-at.ensures) (clause_raised c.args.words.now c.args.form c.requires.laid c.taker-s.result.0 c.loop-k.invariant.0 (omega arith) c.taker-s.ensures (rw c.wide-at.ensures at c.clause_length-long.ensures.0) c.clause_length-long.ensures.1)) (λ w. rw (w.1, w.2) (clause_kept c.args.words.now c.args.form c.requires.laid c.taker-s.result.0 c.loop-k.invariant.0 (omega arith) c.taker-s.ensures (rw c.wide-at.ensures at c.clause_length-long.ensures.0) c.clause_length-long.ensures.1 (rw c.wide-at.ensures at w.0.left))) c.if-most-long.branch) c.last_step-k.ensures, ⊎_elim (λ w. rw w.2 (simp length-set c.loop-k.invariant.1)) (λ w. rw w.1 c.loop-k.invariant.1) c.if-most-long.branch, c.late-1.given ∙ c.loop-k.invariant.2)
+    (quiet_on c.args.words.now (elim c.if-most-long.branch [ then-most-long w ↦ rw (w.table-is, w.again-is, c.wide-at.ensures) (clause_raised c.args.words.now c.args.form c.requires.laid c.taker-s.result.0 c.loop-k.invariant.0 (omega arith) c.taker-s.ensures (rw c.wide-at.ensures at c.clause_length-long.ensures.0) c.clause_length-long.ensures.1) | else-most-long w ↦ rw (w.table-is, w.again-is) (clause_kept c.args.words.now c.args.form c.requires.laid c.taker-s.result.0 c.loop-k.invariant.0 (omega arith) c.taker-s.ensures (rw c.wide-at.ensures at c.clause_length-long.ensures.0) c.clause_length-long.ensures.1 (rw c.wide-at.ensures at w.if-most-long.false)) ]) c.last_step-k.ensures, elim c.if-most-long.branch [ then-most-long w ↦ rw w.table-is (simp length-set c.loop-k.invariant.1) | else-most-long w ↦ rw w.table-is c.loop-k.invariant.1 ], c.late-1.given ∙ c.loop-k.invariant.2)
 
 pub shape_of-table : goal.shape_of-table
 shape_of-table c =

@@ -10,6 +10,7 @@ use Rattle.rulesheet.specs.Faults.{is_list, list_start, entry_fault}
 use Rattle.rulesheet.proofs.Trailers.{facts, form_c, form_e}
 use Rattle.rulesheet.proofs.Taking.{after_list, after_other, entries_asked, entry_untaken}
 use Rattle.rulesheet.proofs.Walking.{fields_read, told, Walked, walk_begins, walk_past, list_inside, walk_ends, walk_on}
+use Rattle.ruleentries.proofs.first_bad_entry.Goals.{then-is_list+else-bad-end, else-is_list}
 use Rattle.ruleentries.proofs.first_bad_entry.Goals as goal
 
 pub loop-k-init : goal.loop-k-init
@@ -55,18 +56,19 @@ loop-k-preserved c =
     let k = c.loop-k.k in
     let same = fields_read ws k clause.ensures c.shape_of-shape.ensures in
     let both : (c.if-is_list.x ≡ list_start ws (k + 1)) × Walked ws (entry_fault ws) (k + 1) =
-    ⊎_elim
-    (λ w.
-    let list = told is_list same c.is_list.ensures w.0.taken in (
-      w.4 ∙ sym (after_list ws k list ∙ ap (λ (x : ClauseRow). x.first + x.count) (sym clause.ensures)),
-      walk_on ws c.args.form c.requires.0 (omega arith) clause.result clause.ensures list (entry_fault ws) c.loop-k.invariant.2 w.2.result
-          (entries_asked ws c.args.form c.requires.0 k w.2.result clause.result c.shape_of-shape.result.fields (omega arith) list clause.ensures same w.2.ensures)
-          w.3.left,
-    ))
-    (λ w.
-    let other = told is_list same c.is_list.ensures w.0.left in
-    (w.1 ∙ c.loop-k.invariant.1 ∙ sym (after_other ws k other), walk_past ws (entry_fault ws) c.loop-k.invariant.2 other))
-    c.if-is_list.branch
+    elim c.if-is_list.branch [
+      then-is_list+else-bad-end w ↦
+        let list = told is_list same c.is_list.ensures w.if-is_list.true in
+        let bad = w.first_bad_in-bad in (
+          w.x-is ∙ sym (after_list ws k list ∙ ap (λ (x : ClauseRow). x.first + x.count) (sym clause.ensures)),
+          walk_on ws c.args.form c.requires.0 (omega arith) clause.result clause.ensures list (entry_fault ws) c.loop-k.invariant.2 bad.result
+              (entries_asked ws c.args.form c.requires.0 k bad.result clause.result c.shape_of-shape.result.fields (omega arith) list clause.ensures same bad.ensures)
+              w.if-bad-end.false,
+        )
+    | else-is_list w ↦
+        let other = told is_list same c.is_list.ensures w.if-is_list.false in
+        (w.x-is ∙ c.loop-k.invariant.1 ∙ sym (after_other ws k other), walk_past ws (entry_fault ws) c.loop-k.invariant.2 other)
+    ]
     in
     (omega arith, both.0, both.1)
 

@@ -8,6 +8,7 @@ use Rattle.rulesheet.specs.Faults.{is_list, list_start, not_utf8}
 use Rattle.rulesheet.proofs.Trailers.{facts, form_c, form_e}
 use Rattle.rulesheet.proofs.Walking.{fields_read, told, Walked, walk_begins, walk_past, list_inside, walk_ends, walk_on}
 use Rattle.rulesheet.proofs.Repeating.{all_taken}
+use Rattle.ruletexts.proofs.first_by.Goals.{then-is_list+else-bad-clause, else-is_list}
 use Rattle.ruletexts.proofs.first_by.Goals as goal
 
 pub loop-k-init : goal.loop-k-init
@@ -33,10 +34,12 @@ overflow_add-k c = omega (arith, (facts c.args.words.now c.args.form c.requires.
 
 pub loop-k-preserved : goal.loop-k-preserved
 loop-k-preserved c = let next : Walked c.args.words.now (not_utf8 c.args.words.now c.args.text.now) (c.loop-k.k + 1) =
-    ⊎_elim
-    (λ w. walk_on c.args.words.now c.args.form c.requires.0.clauses_laid (omega arith) c.clause_at-clause.result c.clause_at-clause.ensures (told is_list (fields_read c.args.words.now c.loop-k.k c.clause_at-clause.ensures c.shape_of-shape.ensures) c.is_list.ensures w.0.taken) (not_utf8 c.args.words.now c.args.text.now) c.loop-k.invariant.1 w.1.result w.1.ensures w.3.left)
-    (λ w. walk_past c.args.words.now (not_utf8 c.args.words.now c.args.text.now) c.loop-k.invariant.1 (told is_list (fields_read c.args.words.now c.loop-k.k c.clause_at-clause.ensures c.shape_of-shape.ensures) c.is_list.ensures w.left))
-    c.if-is_list.branch
+    elim c.if-is_list.branch [
+      then-is_list+else-bad-clause w ↦
+        walk_on c.args.words.now c.args.form c.requires.0.clauses_laid (omega arith) c.clause_at-clause.result c.clause_at-clause.ensures (told is_list (fields_read c.args.words.now c.loop-k.k c.clause_at-clause.ensures c.shape_of-shape.ensures) c.is_list.ensures w.if-is_list.true) (not_utf8 c.args.words.now c.args.text.now) c.loop-k.invariant.1 w.first_in-bad.result w.first_in-bad.ensures w.if-bad-clause.false
+    | else-is_list w ↦
+        walk_past c.args.words.now (not_utf8 c.args.words.now c.args.text.now) c.loop-k.invariant.1 (told is_list (fields_read c.args.words.now c.loop-k.k c.clause_at-clause.ensures c.shape_of-shape.ensures) c.is_list.ensures w.if-is_list.false)
+    ]
     in
     (omega arith, next)
 

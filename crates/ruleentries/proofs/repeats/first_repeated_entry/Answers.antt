@@ -9,6 +9,7 @@ use Rattle.rulesheet.proofs.Trailers.{facts, form_c, form_e}
 use Rattle.rulesheet.proofs.Walking.{fields_read, told, Walked, walk_begins, list_inside, walk_ends, walk_on}
 use Rattle.rulesheet.proofs.Repeating.{all_taken}
 use Rattle.ruleentries.proofs.Naming.{named_list, unnamed_on}
+use Rattle.ruleentries.proofs.repeats.first_repeated_entry.Goals.{then-is_named+else-again-clause, else-is_named}
 use Rattle.ruleentries.proofs.repeats.first_repeated_entry.Goals as goal
 
 pub loop-k-init : goal.loop-k-init
@@ -53,12 +54,14 @@ loop-k-preserved c =
     let ws = c.args.words.now in
     let test = repeated ws c.args.text.now in
     let next : Walked ws test (c.loop-k.k + 1) =
-    ⊎_elim
-    (λ w.
-    let list = named_list (fields_at ws c.loop-k.k) (told is_named (fields_read ws c.loop-k.k clause.ensures c.shape_of-shape.ensures) c.is_named.ensures w.0.taken) in
-    walk_on ws c.args.form c.requires.0.clauses_laid (omega arith) clause.result clause.ensures list test c.loop-k.invariant.1 w.1.result w.1.ensures w.3.left)
-    (λ w. unnamed_on ws c.args.text.now c.args.form c.requires.0 c.loop-k.k (omega arith) (told is_named (fields_read ws c.loop-k.k clause.ensures c.shape_of-shape.ensures) c.is_named.ensures w.left) c.loop-k.invariant.1)
-    c.if-is_named.branch
+    elim c.if-is_named.branch [
+      then-is_named+else-again-clause w ↦
+        let list = named_list (fields_at ws c.loop-k.k) (told is_named (fields_read ws c.loop-k.k clause.ensures c.shape_of-shape.ensures) c.is_named.ensures w.if-is_named.true) in
+        let again = w.first_repeated_in-again in
+        walk_on ws c.args.form c.requires.0.clauses_laid (omega arith) clause.result clause.ensures list test c.loop-k.invariant.1 again.result again.ensures w.if-again-clause.false
+    | else-is_named w ↦
+        unnamed_on ws c.args.text.now c.args.form c.requires.0 c.loop-k.k (omega arith) (told is_named (fields_read ws c.loop-k.k clause.ensures c.shape_of-shape.ensures) c.is_named.ensures w.if-is_named.false) c.loop-k.invariant.1
+    ]
     in
     (omega arith, next)
 
