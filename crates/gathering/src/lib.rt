@@ -8,7 +8,7 @@ ghost use Rattle.naming.specs.Gathering.{text_more, escape_more, escaped};
 ghost use Rattle.gathering.specs.Held.{Small, Sound, Does, OnText, Within, Gathers};
 
 use putting::short_of;
-use watching::strings::high;
+use watching::escaping::high;
 
 mod holding;
 mod units;

@@ -5,7 +5,7 @@ ghost use Rattle.naming.specs.Gathering.{digit_of, low_ahead};
 ghost use Rattle.gathering.specs.Held.{unit_from};
 
 use figures::byte_at;
-use watching::strings::{hex_worth, low};
+use watching::escaping::{hex_worth, low};
 
 // The number with a hexadecimal digit more.
 pub(crate) fn digit_more(unit: u32, byte: u8) -> u32

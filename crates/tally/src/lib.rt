@@ -9,7 +9,7 @@ ghost use Rattle.tally.specs.Tallying.{add_at, unit_size, tally_of, counting};
 ghost use Rattle.tally.specs.Bounds.{UpTo, most};
 
 use escapes::size_of;
-use watching::strings::{hex_worth, high, low};
+use watching::escaping::{hex_worth, high, low};
 
 // The digits of the escape under way, and whether a high surrogate's escape stands directly before.
 #[derive(Clone, Copy)]

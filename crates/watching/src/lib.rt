@@ -7,14 +7,14 @@ ghost use Rattle.grammar.specs.Codes.{place_at};
 ghost use Rattle.survey.specs.Watching.{moved};
 ghost use Rattle.survey.specs.Bounds.{Sound};
 
+pub mod escaping;
 pub mod numbers;
-pub mod strings;
 mod values;
 
+use crate::escaping::{backslash, hex_digit, hex_last, no_escapes, surrogate_parts, with_escapes};
 use crate::numbers::{
     in_exponent, part_digit, part_or_end, power_digit, power_or_end, whole_digit, whole_or_end,
 };
-use crate::strings::{backslash, hex_digit, hex_last, no_escapes, surrogate_parts, with_escapes};
 use crate::values::value_starts;
 use survey::Watch;
 

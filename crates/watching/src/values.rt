@@ -4,7 +4,7 @@ ghost use Rattle.sheet.specs.Record.{rows_max};
 ghost use Rattle.figure.specs.Figure.{no_figure};
 ghost use Rattle.survey.specs.Watching.{found, numeric, is_digit, first_figure, counted, begun, opened};
 
-use crate::strings::no_escapes;
+use crate::escaping::no_escapes;
 use figure::{Figure, whole_more};
 use survey::Watch;
 

@@ -46,7 +46,8 @@ returns-then-byte-le57 c =
     let s₀ = c.requires.reading in
     let ok = c.requires.ready_2 in
     let l = c.requires.at_in_bounds in
-    row_turn a.n a.spot.at a.spot.level a.spot.start a.spot.size a.json.now a.rows.now a.bytes.now a.words.now a.text.now ok Number c.read_number-f.result.word c.read_number-f.result.scale c.read_number-f.result.to _ _ _ _ _ _ c.write_row.ensures.counted c.write_row.ensures.written c.write_row.ensures.moved (number_forward a.n a.json.now a.spot.at d s₀ l.0 (omega arith) (omega arith) _ _ _ c.read_number-f.ensures) (λ (s : Reading a.json.now a.spot.at a.spot.level). number_going a.n a.json.now a.spot.at d s l.0 (omega arith) (omega arith) _ _ _ c.read_number-f.ensures)
+    let both = row_turn a.n a.spot.at a.spot.level a.spot.start a.spot.size a.json.now a.rows.now a.bytes.now a.words.now a.text.now ok Number c.read_number-f.result.word c.read_number-f.result.scale c.read_number-f.result.to _ _ _ _ _ _ c.write_row.ensures.counted c.write_row.ensures.written c.write_row.ensures.moved (number_forward a.n a.json.now a.spot.at d s₀ l.0 (omega arith) (omega arith) _ _ _ c.read_number-f.ensures) (λ (s : Reading a.json.now a.spot.at a.spot.level). number_going a.n a.json.now a.spot.at d s l.0 (omega arith) (omega arith) _ _ _ c.read_number-f.ensures) in
+    record { going = both.0; ready = both.1 }
 
 pub open_row-requires : goal.open_row-requires
 open_row-requires c =
@@ -64,7 +65,8 @@ returns-then-byte-eq91 c =
     let s₀ = c.requires.reading in
     let ok = c.requires.ready_2 in
     let l = c.requires.at_in_bounds in
-    open_turn a.n a.spot.at a.spot.level a.spot.start a.spot.size a.json.now a.rows.now a.bytes.now a.words.now a.text.now ok Array _ _ _ _ _ _ c.open_row.ensures.counted c.open_row.ensures.written c.open_row.ensures.moved (array_room a.json.now a.spot.at a.n d s₀ l.0 c.if-byte-eq91.true) (λ (s : Reading a.json.now a.spot.at a.spot.level). array_going a.json.now a.spot.at a.n d s l.0 c.if-byte-eq91.true)
+    let both = open_turn a.n a.spot.at a.spot.level a.spot.start a.spot.size a.json.now a.rows.now a.bytes.now a.words.now a.text.now ok Array _ _ _ _ _ _ c.open_row.ensures.counted c.open_row.ensures.written c.open_row.ensures.moved (array_room a.json.now a.spot.at a.n d s₀ l.0 c.if-byte-eq91.true) (λ (s : Reading a.json.now a.spot.at a.spot.level). array_going a.json.now a.spot.at a.n d s l.0 c.if-byte-eq91.true) in
+    record { going = both.0; ready = both.1 }
 
 pub open_row-requires-then-byte-eq123 : goal.open_row-requires-then-byte-eq123
 open_row-requires-then-byte-eq123 c =
@@ -82,7 +84,8 @@ returns-then-byte-eq123 c =
     let s₀ = c.requires.reading in
     let ok = c.requires.ready_2 in
     let l = c.requires.at_in_bounds in
-    open_turn a.n a.spot.at a.spot.level a.spot.start a.spot.size a.json.now a.rows.now a.bytes.now a.words.now a.text.now ok Object _ _ _ _ _ _ c.open_row-then-byte-eq123.ensures.counted c.open_row-then-byte-eq123.ensures.written c.open_row-then-byte-eq123.ensures.moved (object_room a.json.now a.spot.at a.n d s₀ l.0 c.if-byte-eq123.true) (λ (s : Reading a.json.now a.spot.at a.spot.level). object_going a.json.now a.spot.at a.n d s l.0 c.if-byte-eq123.true)
+    let both = open_turn a.n a.spot.at a.spot.level a.spot.start a.spot.size a.json.now a.rows.now a.bytes.now a.words.now a.text.now ok Object _ _ _ _ _ _ c.open_row-then-byte-eq123.ensures.counted c.open_row-then-byte-eq123.ensures.written c.open_row-then-byte-eq123.ensures.moved (object_room a.json.now a.spot.at a.n d s₀ l.0 c.if-byte-eq123.true) (λ (s : Reading a.json.now a.spot.at a.spot.level). object_going a.json.now a.spot.at a.n d s l.0 c.if-byte-eq123.true) in
+    record { going = both.0; ready = both.1 }
 
 pub close_row-requires : goal.close_row-requires
 close_row-requires c =
@@ -99,7 +102,8 @@ returns-then-byte-eq93 c =
     let d : Desk = desk_of a.spot.level a.spot.start a.spot.size a.rows.now a.bytes.now a.words.now a.text.now in
     let ok = c.requires.ready_2 in
     let l = c.requires.at_in_bounds in
-    shut_turn a.n a.spot.at a.spot.level a.spot.start a.spot.size a.json.now a.rows.now a.bytes.now a.words.now a.text.now ok _ _ _ _ _ c.close_row.ensures.written c.close_row.ensures.moved (λ (s : Reading a.json.now a.spot.at a.spot.level). array_end_going a.json.now a.spot.at a.n d s l.0 c.if-byte-eq93.true)
+    let both = shut_turn a.n a.spot.at a.spot.level a.spot.start a.spot.size a.json.now a.rows.now a.bytes.now a.words.now a.text.now ok _ _ _ _ _ c.close_row.ensures.written c.close_row.ensures.moved (λ (s : Reading a.json.now a.spot.at a.spot.level). array_end_going a.json.now a.spot.at a.n d s l.0 c.if-byte-eq93.true) in
+    record { going = both.0; ready = both.1 }
 
 pub close_row-requires-then-byte-eq125 : goal.close_row-requires-then-byte-eq125
 close_row-requires-then-byte-eq125 c =
@@ -116,7 +120,8 @@ returns-then-byte-eq125 c =
     let d : Desk = desk_of a.spot.level a.spot.start a.spot.size a.rows.now a.bytes.now a.words.now a.text.now in
     let ok = c.requires.ready_2 in
     let l = c.requires.at_in_bounds in
-    shut_turn a.n a.spot.at a.spot.level a.spot.start a.spot.size a.json.now a.rows.now a.bytes.now a.words.now a.text.now ok _ _ _ _ _ c.close_row-then-byte-eq125.ensures.written c.close_row-then-byte-eq125.ensures.moved (λ (s : Reading a.json.now a.spot.at a.spot.level). object_end_going a.json.now a.spot.at a.n d s l.0 c.if-byte-eq125.true)
+    let both = shut_turn a.n a.spot.at a.spot.level a.spot.start a.spot.size a.json.now a.rows.now a.bytes.now a.words.now a.text.now ok _ _ _ _ _ c.close_row-then-byte-eq125.ensures.written c.close_row-then-byte-eq125.ensures.moved (λ (s : Reading a.json.now a.spot.at a.spot.level). object_end_going a.json.now a.spot.at a.n d s l.0 c.if-byte-eq125.true) in
+    record { going = both.0; ready = both.1 }
 
 pub write_row-requires-then-byte-eq110 : goal.write_row-requires-then-byte-eq110
 write_row-requires-then-byte-eq110 c =
@@ -131,7 +136,8 @@ returns-then-byte-eq110 c =
     let d : Desk = desk_of a.spot.level a.spot.start a.spot.size a.rows.now a.bytes.now a.words.now a.text.now in
     let ok = c.requires.ready_2 in
     let l = c.requires.at_in_bounds in
-    row_turn a.n a.spot.at a.spot.level a.spot.start a.spot.size a.json.now a.rows.now a.bytes.now a.words.now a.text.now ok Null 0 0 (a.spot.at + 4) _ _ _ _ _ _ c.write_row-then-byte-eq110.ensures.counted c.write_row-then-byte-eq110.ensures.written c.write_row-then-byte-eq110.ensures.moved (omega arith) (λ (s : Reading a.json.now a.spot.at a.spot.level). null_going a.json.now a.spot.at a.n d s l.0 c.if-byte-eq110.true)
+    let both = row_turn a.n a.spot.at a.spot.level a.spot.start a.spot.size a.json.now a.rows.now a.bytes.now a.words.now a.text.now ok Null 0 0 (a.spot.at + 4) _ _ _ _ _ _ c.write_row-then-byte-eq110.ensures.counted c.write_row-then-byte-eq110.ensures.written c.write_row-then-byte-eq110.ensures.moved (omega arith) (λ (s : Reading a.json.now a.spot.at a.spot.level). null_going a.json.now a.spot.at a.n d s l.0 c.if-byte-eq110.true) in
+    record { going = both.0; ready = both.1 }
 
 pub write_row-requires-then-byte-eq116 : goal.write_row-requires-then-byte-eq116
 write_row-requires-then-byte-eq116 c =
@@ -146,7 +152,8 @@ returns-then-byte-eq116 c =
     let d : Desk = desk_of a.spot.level a.spot.start a.spot.size a.rows.now a.bytes.now a.words.now a.text.now in
     let ok = c.requires.ready_2 in
     let l = c.requires.at_in_bounds in
-    row_turn a.n a.spot.at a.spot.level a.spot.start a.spot.size a.json.now a.rows.now a.bytes.now a.words.now a.text.now ok True 0 0 (a.spot.at + 4) _ _ _ _ _ _ c.write_row-then-byte-eq116.ensures.counted c.write_row-then-byte-eq116.ensures.written c.write_row-then-byte-eq116.ensures.moved (omega arith) (λ (s : Reading a.json.now a.spot.at a.spot.level). true_going a.json.now a.spot.at a.n d s l.0 c.if-byte-eq116.true)
+    let both = row_turn a.n a.spot.at a.spot.level a.spot.start a.spot.size a.json.now a.rows.now a.bytes.now a.words.now a.text.now ok True 0 0 (a.spot.at + 4) _ _ _ _ _ _ c.write_row-then-byte-eq116.ensures.counted c.write_row-then-byte-eq116.ensures.written c.write_row-then-byte-eq116.ensures.moved (omega arith) (λ (s : Reading a.json.now a.spot.at a.spot.level). true_going a.json.now a.spot.at a.n d s l.0 c.if-byte-eq116.true) in
+    record { going = both.0; ready = both.1 }
 
 pub write_row-requires-2 : goal.write_row-requires-2
 write_row-requires-2 c =
@@ -161,4 +168,5 @@ returns c =
     let d : Desk = desk_of a.spot.level a.spot.start a.spot.size a.rows.now a.bytes.now a.words.now a.text.now in
     let ok = c.requires.ready_2 in
     let l = c.requires.at_in_bounds in
-    row_turn a.n a.spot.at a.spot.level a.spot.start a.spot.size a.json.now a.rows.now a.bytes.now a.words.now a.text.now ok False 0 0 (a.spot.at + 5) _ _ _ _ _ _ c.write_row-2.ensures.counted c.write_row-2.ensures.written c.write_row-2.ensures.moved (omega arith) (λ (s : Reading a.json.now a.spot.at a.spot.level). false_going a.json.now a.spot.at a.n d s l.0 (false_there a.n a.spot.at a.spot.level a.spot.start a.spot.size a.json.now a.rows.now a.bytes.now a.words.now a.text.now ok s l.0 (omega arith) c.if-byte-eq91.false c.if-byte-eq123.false c.if-byte-eq93.false c.if-byte-eq125.false c.if-byte-eq110.false c.if-byte-eq116.false))
+    let both = row_turn a.n a.spot.at a.spot.level a.spot.start a.spot.size a.json.now a.rows.now a.bytes.now a.words.now a.text.now ok False 0 0 (a.spot.at + 5) _ _ _ _ _ _ c.write_row-2.ensures.counted c.write_row-2.ensures.written c.write_row-2.ensures.moved (omega arith) (λ (s : Reading a.json.now a.spot.at a.spot.level). false_going a.json.now a.spot.at a.n d s l.0 (false_there a.n a.spot.at a.spot.level a.spot.start a.spot.size a.json.now a.rows.now a.bytes.now a.words.now a.text.now ok s l.0 (omega arith) c.if-byte-eq91.false c.if-byte-eq123.false c.if-byte-eq93.false c.if-byte-eq125.false c.if-byte-eq110.false c.if-byte-eq116.false)) in
+    record { going = both.0; ready = both.1 }

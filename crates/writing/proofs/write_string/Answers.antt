@@ -127,13 +127,13 @@ returns-then-byte_at-eq58 c =
     let r = c.copy_string-end.result in
     let c₀ = c.copy_string-end.ensures (string_at a.n json i d c.requires.reading l.0 l.2) in
     let b : get_or json (r.to + blanks_of (drop r.to json)) 0 ≡ 0x3A = rw (← c.skip-behind.ensures) (sym c.byte_at.ensures ∙ c.if-byte_at-eq58.true) in
-    rw c.skip-behind.ensures (
-      (λ (s : Reading json i k). name_going a.n json i d s l.0 l.2 r.to r.at _ c.copy_string-end.ensures b),
-      (
+    rw c.skip-behind.ensures (record {
+      going = (λ (s : Reading json i k). name_going a.n json i d s l.0 l.2 r.to r.at _ c.copy_string-end.ensures b);
+      ready = (
         ready_bytes a.n i k rows bytes words ok (r.to + blanks_of (drop r.to json) + 1) (get_or bytes k 0 + (r.at - get_or bytes k 0)) (omega (arith, ok.bytes_low k, c₀.size_is, c₀.no_longer)) (omega (arith, c₀.forward)),
         omega (arith, c₀.forward),
-      ),
-    )
+      );
+    })
 
 pub take_row-requires : goal.take_row-requires
 take_row-requires c =
@@ -162,10 +162,10 @@ returns c =
     let b : get_or json (r.to + blanks_of (drop r.to json)) 0 ≡ 0x3A → ⊥ = rw (← c.skip-behind.ensures) (λ (z : get_or json c.skip-behind.result 0 ≡ 0x3A). c.if-byte_at-eq58.false (c.byte_at.ensures ∙ z)) in
     let size = r.at - get_or bytes k 0 in
     let six : List ℕ = 4 ∷ get_or bytes k 0 ∷ size ∷ owner_at k rows ∷ a.spot.start ∷ a.spot.size ∷ [] in
-    rw (c.take_row.ensures.counted, c.take_row.ensures.written) (
-      (λ (s : Reading json i k). string_going a.n json i d s l.0 l.2 r.to r.at _ c.copy_string-end.ensures b),
-      (
+    rw (c.take_row.ensures.counted, c.take_row.ensures.written) (record {
+      going = (λ (s : Reading json i k). string_going a.n json i d s l.0 l.2 r.to r.at _ c.copy_string-end.ensures b);
+      ready = (
         ready_bytes a.n r.to k (set rows k (get_or rows k 0 + 1)) bytes _ (ready_row a.n i k rows bytes words ok r.to (get_or rows k 0) six (omega (arith, c₀.forward))) r.to (get_or bytes k 0 + size) (omega (arith, ok.bytes_low k, c₀.size_is, c₀.no_longer)) (omega arith),
         omega (arith, c₀.forward),
-      ),
-    )
+      );
+    })

@@ -1,7 +1,7 @@
--- `watching::strings::hex_worth` meets its contract. Assumes nothing.
+-- `watching::escaping::hex_worth` meets its contract. Assumes nothing.
 use native.Mathlib.Omega.{arith}
 use Rattle.escapes.proofs.Escaped.{at_digit, at_capital, at_small}
-use Rattle.watching.proofs.strings.hex_worth.Goals as goal
+use Rattle.watching.proofs.escaping.hex_worth.Goals as goal
 
 pub returns-then-byte-lt48 : goal.returns-then-byte-lt48
 returns-then-byte-lt48 c =

@@ -1,7 +1,7 @@
--- `watching::strings::surrogate_parts` meets its contract. Assumes nothing.
+-- `watching::escaping::surrogate_parts` meets its contract. Assumes nothing.
 use mathlib.Core.Path.{sym, ◌∙◌}
 use Rattle.survey.proofs.Branches.{parted_none, parted_some}
-use Rattle.watching.proofs.strings.surrogate_parts.Goals as goal
+use Rattle.watching.proofs.escaping.surrogate_parts.Goals as goal
 
 pub returns-then-e-eq0 : goal.returns-then-e-eq0
 returns-then-e-eq0 c =

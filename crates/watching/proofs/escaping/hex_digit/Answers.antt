@@ -1,8 +1,8 @@
--- `watching::strings::hex_digit` meets its contract. Assumes nothing.
+-- `watching::escaping::hex_digit` meets its contract. Assumes nothing.
 use mathlib.Core.Path.{ap, ◌∙◌}
 use Prim.Native.Nat.{ℕ}
 use Rattle.survey.specs.Watching.{with_escapes}
-use Rattle.watching.proofs.strings.hex_digit.Goals as goal
+use Rattle.watching.proofs.escaping.hex_digit.Goals as goal
 
 pub returns : goal.returns
 returns c =

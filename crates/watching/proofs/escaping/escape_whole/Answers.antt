@@ -1,8 +1,8 @@
--- `watching::strings::escape_whole` meets its contract. Assumes nothing.
+-- `watching::escaping::escape_whole` meets its contract. Assumes nothing.
 use mathlib.Core.Path.{◌≡◌, sym, ◌∙◌}
 use native.Mathlib.Omega.{arith}
 use Rattle.survey.proofs.Branches.{low_lone, low_paired, other_parts, high_waits, plain_code}
-use Rattle.watching.proofs.strings.escape_whole.Goals as goal
+use Rattle.watching.proofs.escaping.escape_whole.Goals as goal
 
 pub returns-then-e-eq0 : goal.returns-then-e-eq0
 returns-then-e-eq0 c =

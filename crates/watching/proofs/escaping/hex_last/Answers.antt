@@ -1,8 +1,8 @@
--- `watching::strings::hex_last` meets its contract. Assumes nothing.
+-- `watching::escaping::hex_last` meets its contract. Assumes nothing.
 use mathlib.Core.Path.{ap, ◌∙◌}
 use Prim.Native.Nat.{ℕ}
 use Rattle.survey.specs.Watching.{coded}
-use Rattle.watching.proofs.strings.hex_last.Goals as goal
+use Rattle.watching.proofs.escaping.hex_last.Goals as goal
 
 pub returns : goal.returns
 returns c =
