@@ -21,7 +21,7 @@ use Rattle.unguarded.specs.Graph.{Path, here, step, Reached, OnLoop, Chain, some
 use Rattle.unguarded.proofs.Lists.{any_in, any_out}
 
 module _ (next : ℕ → List ℕ) where
-  join : {s t u j k : ℕ} → Path next t j s → Path next u (suc k) t → Reached next s u
+  join : {t u s j k : ℕ} → Path next t j s → Path next u (suc k) t → Reached next s u
   join {k = k} here q = (k, q)
   join (step i p) q = let r = join p q in (suc r.0, step i r.1)
 
