@@ -235,7 +235,7 @@ module _ (D : Doc) (R : Ruleset) (w : Way) where
     has_root = settles depth root [] (deep D R n m fit root)
 
     -- the place of a pair in an ordered list has those that it applies before it
-    placed : {l : List Pair} {p : Pair} → In p l → (before after : List Pair) × (l ≡ before ++ p ∷ after)
+    placed : {p : Pair} {l : List Pair} → In p l → (before after : List Pair) × (l ≡ before ++ p ∷ after)
     placed (at_head {x = x} {xs = xs} e) = ([], xs, rw e)
     placed (in_Tail {x = x} i) = let r = placed i in (x ∷ r.0, r.1, ap (λ y. x ∷ y) r.2)
 
