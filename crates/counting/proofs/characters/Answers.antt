@@ -39,6 +39,6 @@ overflow_cast-result c = omega (arith, c.loop-at.invariant.fewer)
 
 pub returns : goal.returns
 returns c = let e = done c.loop-at.invariant (omega arith) in record {
-      counted = e;
-      meant = λ u. e ∙ count_is u;
-    }
+  counted = e;
+  meant = λ u. e ∙ count_is u;
+}

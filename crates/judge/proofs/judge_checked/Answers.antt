@@ -6,9 +6,9 @@ use Rattle.judge.proofs.judge_checked.Goals as goal
 
 pub judge_in_areas-requires : goal.judge_in_areas-requires
 judge_in_areas-requires c = record {
-      text_value = c.requires.text_value;
-      rule_text_value = sym c.requires.checked_value ∙ ap outcome_of c.in-Accepted.is;
-    }
+  text_value = c.requires.text_value;
+  rule_text_value = sym c.requires.checked_value ∙ ap outcome_of c.in-Accepted.is;
+}
 
 pub returns-in-Refused : goal.returns-in-Refused
 returns-in-Refused c =

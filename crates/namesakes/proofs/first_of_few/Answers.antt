@@ -44,8 +44,8 @@ loop-i-preserved c =
     let sign = rw c.name_at-name.ensures at c.sign-sign.ensures.0 in (
       further inv.0 (omega arith)
           (elim c.if-seen-sign.branch [
-            then-seen-sign+else-name-gt-LONG+else-first_same-i w ↦ repeats_is _ _ ∙ le-ltb _ _ (rw w.first_same.ensures at w.if-first_same-i.false)
-          | else-seen-sign w ↦ repeats_not _ _ (unseen inv.1 sign w.if-seen-sign.false)
+            | then-seen-sign+else-name-gt-LONG+else-first_same-i w ↦ repeats_is _ _ ∙ le-ltb _ _ (rw w.first_same.ensures at w.if-first_same-i.false)
+            | else-seen-sign w ↦ repeats_not _ _ (unseen inv.1 sign w.if-seen-sign.false)
           ]),
       marked_more inv.1 sign c.sign-sign.ensures.1,
       inv.2,

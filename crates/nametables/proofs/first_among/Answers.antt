@@ -12,9 +12,9 @@ loop-i-init c =
 
 pub spot_of-spot-requires : goal.spot_of-spot-requires
 spot_of-spot-requires c = let inv = c.loop-i.invariant in record {
-      lying = (inv.2, omega arith);
-      standing = inv.1;
-    }
+  lying = (inv.2, omega arith);
+  standing = inv.1;
+}
 
 pub returns-then-spot : goal.returns-then-spot
 returns-then-spot c =

@@ -5,7 +5,7 @@ use Rattle.nametables.proofs.first_of_more.Goals as goal
 
 pub first_among-requires : goal.first_among-requires
 first_among-requires c = record {
-      lying = c.requires.0;
-      room = clear_room 4096 1024 _ (lit< tt) (lit≤ tt) (lit≤ tt) c.requires.1;
-      by_index = clear 4096;
-    }
+  lying = c.requires.0;
+  room = clear_room 4096 1024 _ (lit< tt) (lit≤ tt) (lit≤ tt) c.requires.1;
+  by_index = clear 4096;
+}

@@ -33,9 +33,9 @@ plain_of-clause-requires c =
 
 pub plainly-requires : goal.plainly-requires
 plainly-requires c = record {
-      record_read = (c.requires.record_read.0, c.requires.record_read.1);
-      plain = limit_plain c.requires.rules_read.0 c.plain_of-clause.ensures.tested;
-    }
+  record_read = (c.requires.record_read.0, c.requires.record_read.1);
+  plain = limit_plain c.requires.rules_read.0 c.plain_of-clause.ensures.tested;
+}
 
 pub returns-then-not-plainly : goal.returns-then-not-plainly
 returns-then-not-plainly c = record { within = c.loop-i.invariant.0; passed = c.loop-i.invariant.1 }

@@ -6,9 +6,9 @@ use Rattle.reading.proofs.read_with.Goals as goal
 
 pub refusal_of-refusal-requires : goal.refusal_of-refusal-requires
 refusal_of-refusal-requires c = record {
-      json_len_bound = c.requires;
-      blank = record { values_blank = refl; texts_blank = refl; objects_blank = refl };
-    }
+  json_len_bound = c.requires;
+  blank = record { values_blank = refl; texts_blank = refl; objects_blank = refl };
+}
 
 pub returns-then-refusal-ne0 : goal.returns-then-refusal-ne0
 returns-then-refusal-ne0 c =
@@ -16,9 +16,9 @@ returns-then-refusal-ne0 c =
 
 pub write-requires : goal.write-requires
 write-requires c = record {
-      countable = told_fine c.args.json.now c.args.words.now c.args.text.now c.requires.0 c.refusal_of-refusal.ensures c.if-refusal-ne0.false;
-      json_len_bound = c.requires.0;
-    }
+  countable = told_fine c.args.json.now c.args.words.now c.args.text.now c.requires.0 c.refusal_of-refusal.ensures c.if-refusal-ne0.false;
+  json_len_bound = c.requires.0;
+}
 
 pub returns : goal.returns
 returns c =

@@ -35,9 +35,9 @@ plain_of-clause-requires c =
 
 pub rows_pass-left-requires : goal.rows_pass-left-requires
 rows_pass-left-requires c = record {
-      record_read = (c.requires.record_read.0, omega (arith, c.requires.record_read.1, c.loop-i.invariant.1.within));
-      plain = limit_plain c.requires.rules_read.0 c.plain_of-clause.ensures.tested;
-    }
+  record_read = (c.requires.record_read.0, omega (arith, c.requires.record_read.1, c.loop-i.invariant.1.within));
+  plain = limit_plain c.requires.rules_read.0 c.plain_of-clause.ensures.tested;
+}
 
 pub loop-i-preserved : goal.loop-i-preserved
 loop-i-preserved c =

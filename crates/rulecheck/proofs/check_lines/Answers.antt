@@ -52,6 +52,6 @@ returns-then-again-e c = sym (at_name c.args.words.now c.args.text.now c.require
 
 pub check_rest-requires : goal.check_rest-requires
 check_rest-requires c = record {
-      trailer_fine = (c.requires, record { rules_laid = (rules_laid c.args.words.now c.args.form (trailer_formed c.args.words.now c.args.text.now c.args.form c.requires) (clauses_laid c.args.words.now c.args.form (trailer_formed c.args.words.now c.args.text.now c.args.form c.requires) (schemas_laid c.args.words.now c.args.form (trailer_formed c.args.words.now c.args.text.now c.args.form c.requires) (omega (arith, c.first_bad_schema-schema.ensures, form_m c.args.words.now c.args.form (trailer_formed c.args.words.now c.args.text.now c.args.form c.requires)))) (omega (arith, c.first_bad_clause-clause.ensures, form_c c.args.words.now c.args.form (trailer_formed c.args.words.now c.args.text.now c.args.form c.requires)))) (omega (arith, c.first_bad_entry-entry.ensures, form_e c.args.words.now c.args.form (trailer_formed c.args.words.now c.args.text.now c.args.form c.requires)))); names_differ = λ (x : ℕ) (h : x < c.args.form.e). nowhere (repeated c.args.words.now c.args.text.now) (entries_word c.args.words.now) (omega (arith, c.first_repeated_entry-again.ensures, form_e c.args.words.now c.args.form (trailer_formed c.args.words.now c.args.text.now c.args.form c.requires))) x (omega (arith, form_e c.args.words.now c.args.form (trailer_formed c.args.words.now c.args.text.now c.args.form c.requires))) });
-      words_bound = λ t. absurd (false≢true t);
-    }
+  trailer_fine = (c.requires, record { rules_laid = (rules_laid c.args.words.now c.args.form (trailer_formed c.args.words.now c.args.text.now c.args.form c.requires) (clauses_laid c.args.words.now c.args.form (trailer_formed c.args.words.now c.args.text.now c.args.form c.requires) (schemas_laid c.args.words.now c.args.form (trailer_formed c.args.words.now c.args.text.now c.args.form c.requires) (omega (arith, c.first_bad_schema-schema.ensures, form_m c.args.words.now c.args.form (trailer_formed c.args.words.now c.args.text.now c.args.form c.requires)))) (omega (arith, c.first_bad_clause-clause.ensures, form_c c.args.words.now c.args.form (trailer_formed c.args.words.now c.args.text.now c.args.form c.requires)))) (omega (arith, c.first_bad_entry-entry.ensures, form_e c.args.words.now c.args.form (trailer_formed c.args.words.now c.args.text.now c.args.form c.requires)))); names_differ = λ (x : ℕ) (h : x < c.args.form.e). nowhere (repeated c.args.words.now c.args.text.now) (entries_word c.args.words.now) (omega (arith, c.first_repeated_entry-again.ensures, form_e c.args.words.now c.args.form (trailer_formed c.args.words.now c.args.text.now c.args.form c.requires))) x (omega (arith, form_e c.args.words.now c.args.form (trailer_formed c.args.words.now c.args.text.now c.args.form c.requires))) });
+  words_bound = λ t. absurd (false≢true t);
+}

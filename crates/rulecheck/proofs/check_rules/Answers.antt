@@ -21,9 +21,9 @@ told-order-requires c = (record { trailer = words_in_order c.args.words.now c.ar
 
 pub check_rest-requires : goal.check_rest-requires
 check_rest-requires c = record {
-      trailer_fine = ((record { good = (sym c.trailer_ok.ensures ∙ not-false _ c.if-not-trailer_ok.false-raw); same_form = c.of-form.ensures }), c.told-order.ensures.laid c.if-order.true);
-      words_bound = λ t. absurd (false≢true t);
-    }
+  trailer_fine = ((record { good = (sym c.trailer_ok.ensures ∙ not-false _ c.if-not-trailer_ok.false-raw); same_form = c.of-form.ensures }), c.told-order.ensures.laid c.if-order.true);
+  words_bound = λ t. absurd (false≢true t);
+}
 
 pub is_ascii-requires : goal.is_ascii-requires
 is_ascii-requires c =
@@ -38,9 +38,9 @@ returns-then-is_ascii c =
 
 pub check_rest-requires-then-order : goal.check_rest-requires-then-order
 check_rest-requires-then-order c = record {
-      trailer_fine = ((record { good = (sym c.trailer_ok.ensures ∙ not-false _ c.if-not-trailer_ok.false-raw); same_form = c.of-form.ensures }), c.told-order.ensures.laid c.if-order.true);
-      words_bound = λ t. c.told-order.ensures.short (not-false _ c.if-not-order.false);
-    }
+  trailer_fine = ((record { good = (sym c.trailer_ok.ensures ∙ not-false _ c.if-not-trailer_ok.false-raw); same_form = c.of-form.ensures }), c.told-order.ensures.laid c.if-order.true);
+  words_bound = λ t. c.told-order.ensures.short (not-false _ c.if-not-order.false);
+}
 
 pub check_lines-requires : goal.check_lines-requires
 check_lines-requires c = (record { good = (sym c.trailer_ok.ensures ∙ not-false _ c.if-not-trailer_ok.false-raw); same_form = c.of-form.ensures })

@@ -57,17 +57,17 @@ loop-k-preserved c =
     let same = fields_read ws k clause.ensures c.shape_of-shape.ensures in
     let both : (c.if-is_list.x ≡ list_start ws (k + 1)) × Walked ws (entry_fault ws) (k + 1) =
     elim c.if-is_list.branch [
-      then-is_list+else-bad-end w ↦
-        let list = told is_list same c.is_list.ensures w.if-is_list.true in
-        let bad = w.first_bad_in-bad in (
-          w.x-is ∙ sym (after_list ws k list ∙ ap (λ (x : ClauseRow). x.first + x.count) (sym clause.ensures)),
-          walk_on ws c.args.form c.requires.0 (omega arith) clause.result clause.ensures list (entry_fault ws) c.loop-k.invariant.2 bad.result
-              (entries_asked ws c.args.form c.requires.0 k bad.result clause.result c.shape_of-shape.result.fields (omega arith) list clause.ensures same bad.ensures)
-              w.if-bad-end.false,
-        )
-    | else-is_list w ↦
-        let other = told is_list same c.is_list.ensures w.if-is_list.false in
-        (w.x-is ∙ c.loop-k.invariant.1 ∙ sym (after_other ws k other), walk_past ws (entry_fault ws) c.loop-k.invariant.2 other)
+      | then-is_list+else-bad-end w ↦
+          let list = told is_list same c.is_list.ensures w.if-is_list.true in
+          let bad = w.first_bad_in-bad in (
+            w.x-is ∙ sym (after_list ws k list ∙ ap (λ (x : ClauseRow). x.first + x.count) (sym clause.ensures)),
+            walk_on ws c.args.form c.requires.0 (omega arith) clause.result clause.ensures list (entry_fault ws) c.loop-k.invariant.2 bad.result
+                (entries_asked ws c.args.form c.requires.0 k bad.result clause.result c.shape_of-shape.result.fields (omega arith) list clause.ensures same bad.ensures)
+                w.if-bad-end.false,
+          )
+      | else-is_list w ↦
+          let other = told is_list same c.is_list.ensures w.if-is_list.false in
+          (w.x-is ∙ c.loop-k.invariant.1 ∙ sym (after_other ws k other), walk_past ws (entry_fault ws) c.loop-k.invariant.2 other)
     ]
     in
     (omega arith, both.0, both.1)

@@ -19,9 +19,9 @@ clause_at-clause-requires c = (c.requires.0.clauses_laid.schemas_laid.formed, om
 
 pub first_in-bad-requires : goal.first_in-bad-requires
 first_in-bad-requires c = record {
-      rules_laid = (c.requires.0, c.requires.1, c.requires.2);
-      k_lt_c = (omega arith, (told is_list (fields_read c.args.words.now c.loop-k.k c.clause_at-clause.ensures c.shape_of-shape.ensures) c.is_list.ensures c.if-is_list.true));
-    }
+  rules_laid = (c.requires.0, c.requires.1, c.requires.2);
+  k_lt_c = (omega arith, (told is_list (fields_read c.args.words.now c.loop-k.k c.clause_at-clause.ensures c.shape_of-shape.ensures) c.is_list.ensures c.if-is_list.true));
+}
 
 pub overflow_add-clause : goal.overflow_add-clause
 overflow_add-clause c = let inside = list_inside c.args.words.now c.args.form c.requires.0.clauses_laid (omega arith) c.clause_at-clause.result c.clause_at-clause.ensures (told is_list (fields_read c.args.words.now c.loop-k.k c.clause_at-clause.ensures c.shape_of-shape.ensures) c.is_list.ensures c.if-is_list.true) in omega (arith, form_e c.args.words.now c.args.form c.requires.0.clauses_laid.schemas_laid.formed, (facts c.args.words.now c.args.form c.requires.0.clauses_laid.schemas_laid.formed).few_entries)
@@ -35,10 +35,10 @@ overflow_add-k c = omega (arith, (facts c.args.words.now c.args.form c.requires.
 pub loop-k-preserved : goal.loop-k-preserved
 loop-k-preserved c = let next : Walked c.args.words.now (not_utf8 c.args.words.now c.args.text.now) (c.loop-k.k + 1) =
     elim c.if-is_list.branch [
-      then-is_list+else-bad-clause w ↦
-        walk_on c.args.words.now c.args.form c.requires.0.clauses_laid (omega arith) c.clause_at-clause.result c.clause_at-clause.ensures (told is_list (fields_read c.args.words.now c.loop-k.k c.clause_at-clause.ensures c.shape_of-shape.ensures) c.is_list.ensures w.if-is_list.true) (not_utf8 c.args.words.now c.args.text.now) c.loop-k.invariant.1 w.first_in-bad.result w.first_in-bad.ensures w.if-bad-clause.false
-    | else-is_list w ↦
-        walk_past c.args.words.now (not_utf8 c.args.words.now c.args.text.now) c.loop-k.invariant.1 (told is_list (fields_read c.args.words.now c.loop-k.k c.clause_at-clause.ensures c.shape_of-shape.ensures) c.is_list.ensures w.if-is_list.false)
+      | then-is_list+else-bad-clause w ↦
+          walk_on c.args.words.now c.args.form c.requires.0.clauses_laid (omega arith) c.clause_at-clause.result c.clause_at-clause.ensures (told is_list (fields_read c.args.words.now c.loop-k.k c.clause_at-clause.ensures c.shape_of-shape.ensures) c.is_list.ensures w.if-is_list.true) (not_utf8 c.args.words.now c.args.text.now) c.loop-k.invariant.1 w.first_in-bad.result w.first_in-bad.ensures w.if-bad-clause.false
+      | else-is_list w ↦
+          walk_past c.args.words.now (not_utf8 c.args.words.now c.args.text.now) c.loop-k.invariant.1 (told is_list (fields_read c.args.words.now c.loop-k.k c.clause_at-clause.ensures c.shape_of-shape.ensures) c.is_list.ensures w.if-is_list.false)
     ]
     in
     (omega arith, next)

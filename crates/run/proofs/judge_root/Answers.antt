@@ -9,14 +9,14 @@ clauses_of-many-requires c =
 
 pub plain-passed-requires : goal.plain-passed-requires
 plain-passed-requires c = record {
-      reads = (reads_by c.requires.lent c.requires.ready.inside, c.clauses_of-many.ensures);
-      unsettled = c.requires.unsettled;
-    }
+  reads = (reads_by c.requires.lent c.requires.ready.inside, c.clauses_of-many.ensures);
+  unsettled = c.requires.unsettled;
+}
 
 pub judge_pair-requires : goal.judge_pair-requires
 judge_pair-requires c = record {
-      lent = c.requires.lent;
-      ready = c.requires.ready;
-      unsettled = c.requires.unsettled;
-      passes_first = passes_many c.clauses_of-many.ensures c.plain-passed.ensures;
-    }
+  lent = c.requires.lent;
+  ready = c.requires.ready;
+  unsettled = c.requires.unsettled;
+  passes_first = passes_many c.clauses_of-many.ensures c.plain-passed.ensures;
+}

@@ -37,9 +37,9 @@ slice_bounds-run_exact-end-4 c =
 
 pub run_exact-requires : goal.run_exact-requires
 run_exact-requires c = record {
-      sheets = c.requires.sheets;
-      exact = part_exact (size_is c.requires.sheets c.wide.ensures c.wide-2.ensures) c.list_room.ensures c.requires.roomy;
-    }
+  sheets = c.requires.sheets;
+  exact = part_exact (size_is c.requires.sheets c.wide.ensures c.wide-2.ensures) c.list_room.ensures c.requires.roomy;
+}
 
 pub returns : goal.returns
 returns c =

@@ -9,10 +9,10 @@ use Rattle.run.proofs.run_exact.Goals as goal
 
 pub judge_root-count-requires : goal.judge_root-count-requires
 judge_root-count-requires c = record {
-      lent = lends (way_by c.args.cut) c.requires.sheets c.forms_of-forms.ensures;
-      ready = rw (way_lent_lem (way_by c.args.cut) c.forms_of-forms.ensures) (root_ready (cleared_fresh c.requires.exact c.clear.ensures));
-      unsettled = root_unsettled (cleared_fresh c.requires.exact c.clear.ensures);
-    }
+  lent = lends (way_by c.args.cut) c.requires.sheets c.forms_of-forms.ensures;
+  ready = rw (way_lent_lem (way_by c.args.cut) c.forms_of-forms.ensures) (root_ready (cleared_fresh c.requires.exact c.clear.ensures));
+  unsettled = root_unsettled (cleared_fresh c.requires.exact c.clear.ensures);
+}
 
 pub verdict_of-ok-requires : goal.verdict_of-ok-requires
 verdict_of-ok-requires c =

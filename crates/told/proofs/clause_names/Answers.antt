@@ -14,9 +14,9 @@ use Rattle.told.proofs.clause_names.Goals as goal
 
 pub named_in-requires : goal.named_in-requires
 named_in-requires c = record {
-      record_read = (c.requires.record_read.0, c.requires.record_read.1);
-      rules_read = (c.requires.rules_read.0, list_read c.requires.rules_read.1 c.requires.rules_read.0 _ c.in-Properties.is Members _ refl);
-    }
+  record_read = (c.requires.record_read.0, c.requires.record_read.1);
+  rules_read = (c.requires.rules_read.0, list_read c.requires.rules_read.1 c.requires.rules_read.0 _ c.in-Properties.is Members _ refl);
+}
 
 pub returns-in-Properties : goal.returns-in-Properties
 unfolding names_of

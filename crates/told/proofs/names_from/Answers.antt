@@ -23,9 +23,9 @@ has_names-requires c = tt
 
 pub returns-then-has_names : goal.returns-then-has_names
 returns-then-has_names c = record {
-      by_index = λ us. ap (concat_map names_of) (before_part _ _ _ c.requires us c.loop-k.k (omega arith)) ∙ c.loop-k.invariant.1 us;
-      upper_bound = omega arith;
-    }
+  by_index = λ us. ap (concat_map names_of) (before_part _ _ _ c.requires us c.loop-k.k (omega arith)) ∙ c.loop-k.invariant.1 us;
+  upper_bound = omega arith;
+}
 
 pub loop-k-preserved : goal.loop-k-preserved
 loop-k-preserved c =
@@ -33,6 +33,6 @@ loop-k-preserved c =
 
 pub returns : goal.returns
 returns c = record {
-      by_index = λ us. ap (concat_map names_of) (before_part _ _ _ c.requires us c.loop-k.k (omega arith)) ∙ c.loop-k.invariant.1 us;
-      upper_bound = omega arith;
-    }
+  by_index = λ us. ap (concat_map names_of) (before_part _ _ _ c.requires us c.loop-k.k (omega arith)) ∙ c.loop-k.invariant.1 us;
+  upper_bound = omega arith;
+}

@@ -6,9 +6,9 @@ use Rattle.told.proofs.names_told.Goals as goal
 
 pub returns-then-only_names : goal.returns-then-only_names
 returns-then-only_names c = record {
-      by_index = λ us f. absurd (f refl);
-      by_index_2 = λ us e. c.only_names.ensures c.if-only_names.true us;
-    }
+  by_index = λ us f. absurd (f refl);
+  by_index_2 = λ us e. c.only_names.ensures c.if-only_names.true us;
+}
 
 pub returns : goal.returns
 returns c =

@@ -37,6 +37,6 @@ loop-k-preserved c =
 
 pub returns : goal.returns
 returns c = record {
-      by_index = λ us. c.loop-k.invariant.2 us ∙ ap (λ (cs : List Clause). length (concat_map prefix_of cs)) (before_is _ _ _ c.requires us c.loop-k.k (omega arith));
-      upper_bound = omega (arith, clauses_few _ _ _ c.requires);
-    }
+  by_index = λ us. c.loop-k.invariant.2 us ∙ ap (λ (cs : List Clause). length (concat_map prefix_of cs)) (before_is _ _ _ c.requires us c.loop-k.k (omega arith));
+  upper_bound = omega (arith, clauses_few _ _ _ c.requires);
+}

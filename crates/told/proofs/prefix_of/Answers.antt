@@ -19,6 +19,6 @@ returns-in-PrefixItems c =
 
 pub returns-in_default : goal.returns-in_default
 returns-in_default c = record {
-      by_index = λ rs us. sym (ap length (prefix_none rs us c.args.clause c.in_default.in_default-own.keys2));
-      upper_bound = λ form b. omega arith;
-    }
+  by_index = λ rs us. sym (ap length (prefix_none rs us c.args.clause c.in_default.in_default-own.keys2));
+  upper_bound = λ form b. omega arith;
+}

@@ -21,9 +21,9 @@ telling_of-clause-requires c =
 
 pub clause_names-requires : goal.clause_names-requires
 clause_names-requires c = record {
-      record_read = (c.requires.record_read.0, c.requires.record_read.1);
-      rules_read = (c.requires.rules_read.0, c.telling_of-clause.ensures.tested);
-    }
+  record_read = (c.requires.record_read.0, c.requires.record_read.1);
+  rules_read = (c.requires.rules_read.0, c.telling_of-clause.ensures.tested);
+}
 
 pub returns-then-clause_names : goal.returns-then-clause_names
 returns-then-clause_names c =

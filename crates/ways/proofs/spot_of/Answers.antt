@@ -39,10 +39,10 @@ loop-name-init c =
 
 pub child-c-requires : goal.child-c-requires
 child-c-requires c = let inv = c.loop-name.invariant in record {
-      lying = inv.2;
-      standing = inv.3;
-      reached = inv.0.reached;
-    }
+  lying = inv.2;
+  standing = inv.3;
+  reached = inv.0.reached;
+}
 
 pub returns-then-c-eq0 : goal.returns-then-c-eq0
 returns-then-c-eq0 c =

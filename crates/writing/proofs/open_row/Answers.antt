@@ -9,7 +9,7 @@ write_row-requires c = let p = c.requires in (omega (arith, p.0), p.1, p.2)
 
 pub returns : goal.returns
 returns c = record {
-      counted = c.write_row.ensures.counted;
-      written = c.write_row.ensures.written;
-      moved = (refl, refl, refl, refl);
-    }
+  counted = c.write_row.ensures.counted;
+  written = c.write_row.ensures.written;
+  moved = (refl, refl, refl, refl);
+}

@@ -5,7 +5,7 @@ use Rattle.writing.proofs.write_row.Goals as goal
 
 pub returns : goal.returns
 returns c = record {
-      counted = c.take_row.ensures.counted;
-      written = c.take_row.ensures.written;
-      moved = (refl, refl, refl, refl);
-    }
+  counted = c.take_row.ensures.counted;
+  written = c.take_row.ensures.written;
+  moved = (refl, refl, refl, refl);
+}

@@ -22,9 +22,9 @@ typed-requires c = (c.number_in.ensures []).plain
 
 pub enum_holds-requires : goal.enum_holds-requires
 enum_holds-requires c = record {
-      record_read = (c.requires.record_read.0, c.requires.record_read.1);
-      rules_read = (c.requires.rules_read.0, list_read c.requires.rules_read.1 c.requires.rules_read.0 _ c.in-Enum.is Values _ refl);
-    }
+  record_read = (c.requires.record_read.0, c.requires.record_read.1);
+  rules_read = (c.requires.rules_read.0, list_read c.requires.rules_read.1 c.requires.rules_read.0 _ c.in-Enum.is Values _ refl);
+}
 
 pub number_in-requires-in-Minimum : goal.number_in-requires-in-Minimum
 number_in-requires-in-Minimum c =
@@ -68,9 +68,9 @@ multiple_of-requires c =
 
 pub required-requires : goal.required-requires
 required-requires c = record {
-      record_read = (c.requires.record_read.0, c.requires.record_read.1);
-      rules_read = (c.requires.rules_read.0, list_read c.requires.rules_read.1 c.requires.rules_read.0 _ c.in-Required.is Names _ refl);
-    }
+  record_read = (c.requires.record_read.0, c.requires.record_read.1);
+  rules_read = (c.requires.rules_read.0, list_read c.requires.rules_read.1 c.requires.rules_read.0 _ c.in-Required.is Names _ refl);
+}
 
 pub returns-in-Never : goal.returns-in-Never
 unfolding passes

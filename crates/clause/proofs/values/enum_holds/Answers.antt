@@ -22,9 +22,9 @@ entry_of-entry-requires c = (c.requires.rules_read.0.laid.clauses_laid.schemas_l
 
 pub equals_entry-requires : goal.equals_entry-requires
 equals_entry-requires c = record {
-      record_read = (c.requires.record_read.0, c.requires.record_read.1);
-      value = rw (c.entry_of-entry.ensures, c.requires.rules_read.0.text_length) (c.requires.rules_read.1.listed _ (omega arith));
-    }
+  record_read = (c.requires.record_read.0, c.requires.record_read.1);
+  value = rw (c.entry_of-entry.ensures, c.requires.rules_read.0.text_length) (c.requires.rules_read.1.listed _ (omega arith));
+}
 
 pub returns-then-equals_entry : goal.returns-then-equals_entry
 returns-then-equals_entry c =

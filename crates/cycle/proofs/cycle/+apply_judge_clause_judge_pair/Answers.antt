@@ -29,9 +29,9 @@ apply-clauses_of-many-requires t c =
 
 pub apply-plain-passed-requires : goal.apply-plain-passed-requires
 apply-plain-passed-requires t c = record {
-      reads = (reads_by c.requires.lent c.requires.ready.inside, c.clauses_of-many.ensures);
-      unsettled = (unsettled_by _ _ _ (rw (schemas_lent c.requires.lent) at c.verdict_of.ensures) c.if-verdict_of-ne0.false);
-    }
+  reads = (reads_by c.requires.lent c.requires.ready.inside, c.clauses_of-many.ensures);
+  unsettled = (unsettled_by _ _ _ (rw (schemas_lent c.requires.lent) at c.verdict_of.ensures) c.if-verdict_of-ne0.false);
+}
 
 pub apply-settle-requires : goal.apply-settle-requires
 apply-settle-requires t c =

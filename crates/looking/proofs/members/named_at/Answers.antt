@@ -16,9 +16,9 @@ overflow_add-children c =
 
 pub has_name-requires : goal.has_name-requires
 has_name-requires c = record {
-      record_read = (c.requires.record_read.0, (child_inside c.args.«record».now c.args.text.now c.args.form c.requires.record_read.0.laid c.args.row.0 c.children_of-children.result.first c.children_of-children.result.count c.args.at c.requires.record_read.1 (c.children_of-children.ensures.first_is c.args.text.now) (c.children_of-children.ensures.count_is c.args.text.now) (omega arith)).0);
-      name_value = c.requires.name_value;
-    }
+  record_read = (c.requires.record_read.0, (child_inside c.args.«record».now c.args.text.now c.args.form c.requires.record_read.0.laid c.args.row.0 c.children_of-children.result.first c.children_of-children.result.count c.args.at c.requires.record_read.1 (c.children_of-children.ensures.first_is c.args.text.now) (c.children_of-children.ensures.count_is c.args.text.now) (omega arith)).0);
+  name_value = c.requires.name_value;
+}
 
 pub returns-then-at-children : goal.returns-then-at-children
 returns-then-at-children c =

@@ -55,12 +55,12 @@ loop-k-preserved c =
     let test = repeated ws c.args.text.now in
     let next : Walked ws test (c.loop-k.k + 1) =
     elim c.if-is_named.branch [
-      then-is_named+else-again-clause w ↦
-        let list = named_list (fields_at ws c.loop-k.k) (told is_named (fields_read ws c.loop-k.k clause.ensures c.shape_of-shape.ensures) c.is_named.ensures w.if-is_named.true) in
-        let again = w.first_repeated_in-again in
-        walk_on ws c.args.form c.requires.0.clauses_laid (omega arith) clause.result clause.ensures list test c.loop-k.invariant.1 again.result again.ensures w.if-again-clause.false
-    | else-is_named w ↦
-        unnamed_on ws c.args.text.now c.args.form c.requires.0 c.loop-k.k (omega arith) (told is_named (fields_read ws c.loop-k.k clause.ensures c.shape_of-shape.ensures) c.is_named.ensures w.if-is_named.false) c.loop-k.invariant.1
+      | then-is_named+else-again-clause w ↦
+          let list = named_list (fields_at ws c.loop-k.k) (told is_named (fields_read ws c.loop-k.k clause.ensures c.shape_of-shape.ensures) c.is_named.ensures w.if-is_named.true) in
+          let again = w.first_repeated_in-again in
+          walk_on ws c.args.form c.requires.0.clauses_laid (omega arith) clause.result clause.ensures list test c.loop-k.invariant.1 again.result again.ensures w.if-again-clause.false
+      | else-is_named w ↦
+          unnamed_on ws c.args.text.now c.args.form c.requires.0 c.loop-k.k (omega arith) (told is_named (fields_read ws c.loop-k.k clause.ensures c.shape_of-shape.ensures) c.is_named.ensures w.if-is_named.false) c.loop-k.invariant.1
     ]
     in
     (omega arith, next)

@@ -14,9 +14,9 @@ members_in-many-requires c =
 
 pub fresh_turn-requires : goal.fresh_turn-requires
 fresh_turn-requires c = record {
-      laid = (c.requires.record_read.0.laid, c.requires.record_read.1, λ ts. omega (arith, c.members_in-many.ensures ts, members_some ((doc_of c.args.«record».now ts).value c.args.p.row.0)));
-      m_in_bounds = (c.requires.record_read.2, c.requires.rules_read.1);
-    }
+  laid = (c.requires.record_read.0.laid, c.requires.record_read.1, λ ts. omega (arith, c.members_in-many.ensures ts, members_some ((doc_of c.args.«record».now ts).value c.args.p.row.0)));
+  m_in_bounds = (c.requires.record_read.2, c.requires.rules_read.1);
+}
 
 pub returns-then-from-eq-BY_MARKS : goal.returns-then-from-eq-BY_MARKS
 returns-then-from-eq-BY_MARKS c =
@@ -25,10 +25,10 @@ returns-then-from-eq-BY_MARKS c =
 
 pub other_turn-requires : goal.other_turn-requires
 other_turn-requires c = record {
-      record_read = (c.requires.record_read.0, c.requires.record_read.1);
-      rules_read = c.requires.rules_read;
-      names_from = c.requires.names_from c.if-from-eq-BY_MARKS.false;
-    }
+  record_read = (c.requires.record_read.0, c.requires.record_read.1);
+  rules_read = c.requires.rules_read;
+  names_from = c.requires.names_from c.if-from-eq-BY_MARKS.false;
+}
 
 pub returns : goal.returns
 returns c =

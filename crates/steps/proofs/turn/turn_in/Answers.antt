@@ -34,21 +34,21 @@ branch_turn-requires c =
 
 pub depended_turn-requires : goal.depended_turn-requires
 depended_turn-requires c = record {
-      record_read = (c.requires.turn_asked.record_read, c.requires.turn_asked.row_in);
-      rules_read = (c.requires.turn_asked.rules_read, list_read c.requires.clause_read.tested c.requires.turn_asked.rules_read (DependentSchemas c.in-DependentSchemas.es) c.in-DependentSchemas.is Members c.in-DependentSchemas.es refl);
-    }
+  record_read = (c.requires.turn_asked.record_read, c.requires.turn_asked.row_in);
+  rules_read = (c.requires.turn_asked.rules_read, list_read c.requires.clause_read.tested c.requires.turn_asked.rules_read (DependentSchemas c.in-DependentSchemas.es) c.in-DependentSchemas.is Members c.in-DependentSchemas.es refl);
+}
 
 pub counted_turn-requires : goal.counted_turn-requires
 counted_turn-requires c = record {
-      laid = (c.requires.turn_asked.record_read.laid, c.requires.turn_asked.row_in);
-      rules_formed = (c.requires.turn_asked.rules_read.laid.clauses_laid.schemas_laid.formed, (list_read c.requires.clause_read.tested c.requires.turn_asked.rules_read (Contains c.in-Contains.es) c.in-Contains.is Counted c.in-Contains.es refl).within, sizes c.requires.clause_read.tested c.requires.turn_asked.rules_read (Contains c.in-Contains.es) c.in-Contains.is);
-    }
+  laid = (c.requires.turn_asked.record_read.laid, c.requires.turn_asked.row_in);
+  rules_formed = (c.requires.turn_asked.rules_read.laid.clauses_laid.schemas_laid.formed, (list_read c.requires.clause_read.tested c.requires.turn_asked.rules_read (Contains c.in-Contains.es) c.in-Contains.is Counted c.in-Contains.es refl).within, sizes c.requires.clause_read.tested c.requires.turn_asked.rules_read (Contains c.in-Contains.es) c.in-Contains.is);
+}
 
 pub named_turn-requires : goal.named_turn-requires
 named_turn-requires c = record {
-      record_read = (c.requires.turn_asked.record_read, c.requires.turn_asked.row_in);
-      rules_read = (c.requires.turn_asked.rules_read, list_read c.requires.clause_read.tested c.requires.turn_asked.rules_read (Properties c.in-Properties.es) c.in-Properties.is Members c.in-Properties.es refl);
-    }
+  record_read = (c.requires.turn_asked.record_read, c.requires.turn_asked.row_in);
+  rules_read = (c.requires.turn_asked.rules_read, list_read c.requires.clause_read.tested c.requires.turn_asked.rules_read (Properties c.in-Properties.es) c.in-Properties.is Members c.in-Properties.es refl);
+}
 
 pub additional_turn-requires : goal.additional_turn-requires
 additional_turn-requires c =
@@ -63,9 +63,9 @@ additional_turn-requires c =
 
 pub placed_turn-requires : goal.placed_turn-requires
 placed_turn-requires c = record {
-      laid = (c.requires.turn_asked.record_read.laid, c.requires.turn_asked.row_in);
-      rules_formed = (c.requires.turn_asked.rules_read.laid.clauses_laid.schemas_laid.formed, (list_read c.requires.clause_read.tested c.requires.turn_asked.rules_read (PrefixItems c.in-PrefixItems.es) c.in-PrefixItems.is Schemas c.in-PrefixItems.es refl).within);
-    }
+  laid = (c.requires.turn_asked.record_read.laid, c.requires.turn_asked.row_in);
+  rules_formed = (c.requires.turn_asked.rules_read.laid.clauses_laid.schemas_laid.formed, (list_read c.requires.clause_read.tested c.requires.turn_asked.rules_read (PrefixItems c.in-PrefixItems.es) c.in-PrefixItems.is Schemas c.in-PrefixItems.es refl).within);
+}
 
 pub rest_turn-requires : goal.rest_turn-requires
 rest_turn-requires c =
@@ -77,9 +77,9 @@ members_in-many-requires c =
 
 pub fresh_turn-requires : goal.fresh_turn-requires
 fresh_turn-requires c = record {
-      laid = (c.requires.turn_asked.record_read.laid, c.requires.turn_asked.row_in, λ ts. omega (arith, c.members_in-many.ensures ts, members_some ((doc_of c.args.«record».now ts).value c.args.p.row.0)));
-      m_in_bounds = (c.requires.turn_asked.room, c.requires.turn_asked.rule_in);
-    }
+  laid = (c.requires.turn_asked.record_read.laid, c.requires.turn_asked.row_in, λ ts. omega (arith, c.members_in-many.ensures ts, members_some ((doc_of c.args.«record».now ts).value c.args.p.row.0)));
+  m_in_bounds = (c.requires.turn_asked.room, c.requires.turn_asked.rule_in);
+}
 
 pub elements_in-many-requires : goal.elements_in-many-requires
 elements_in-many-requires c =
@@ -87,9 +87,9 @@ elements_in-many-requires c =
 
 pub fresh_turn-requires-in-UnevaluatedItems : goal.fresh_turn-requires-in-UnevaluatedItems
 fresh_turn-requires-in-UnevaluatedItems c = record {
-      laid = (c.requires.turn_asked.record_read.laid, c.requires.turn_asked.row_in, λ ts. omega (arith, c.elements_in-many.ensures ts, elements_some ((doc_of c.args.«record».now ts).value c.args.p.row.0)));
-      m_in_bounds = (c.requires.turn_asked.room, c.requires.turn_asked.rule_in);
-    }
+  laid = (c.requires.turn_asked.record_read.laid, c.requires.turn_asked.row_in, λ ts. omega (arith, c.elements_in-many.ensures ts, elements_some ((doc_of c.args.«record».now ts).value c.args.p.row.0)));
+  m_in_bounds = (c.requires.turn_asked.room, c.requires.turn_asked.rule_in);
+}
 
 pub returns-in-AllOf : goal.returns-in-AllOf
 returns-in-AllOf c =
