@@ -11,6 +11,6 @@ pub returns : goal.returns
 returns c =
     let asked = c.requires in
     let read = words_read asked.0.0 asked.0.1 asked.0.2 asked.1 c.applied_by-clause.ensures in
-    c.after_in.ensures c.args.rules.now c.args.rule-text.now
+    c.after_in.ensures c.args.rules.now c.args.rule_text.now
     ∙ ap (λ x. after_miss x c.args.step) read.means
-    ∙ applied_after (clause_in c.args.rules.now c.args.rule-text.now c.args.s.0 c.args.i) c.args.step
+    ∙ applied_after (clause_in c.args.rules.now c.args.rule_text.now c.args.s.0 c.args.i) c.args.step

@@ -14,7 +14,7 @@ use Rattle.finish.proofs.finish_in.Goals as goal
 
 pub entry_of-entry-requires : goal.entry_of-entry-requires
 entry_of-entry-requires c =
-    let few = (subst (λ x. R.Sized (R.held x)) c.in-Contains.is (c.requires.rules_laid.1.sized c.requires.rules_laid.0.clauses_laid)) in (c.requires.rules_laid.0.clauses_laid.schemas_laid.formed, (subst (λ x. R.Bounded c.args.rule-form (R.held x)) c.in-Contains.is (c.requires.rules_laid.1.bounded c.requires.rules_laid.0.clauses_laid)), omega (arith, few))
+    let few = (subst (λ x. R.Sized (R.held x)) c.in-Contains.is (c.requires.rules_laid.1.sized c.requires.rules_laid.0.clauses_laid)) in (c.requires.rules_laid.0.clauses_laid.schemas_laid.formed, (subst (λ x. R.Bounded c.args.rule_form (R.held x)) c.in-Contains.is (c.requires.rules_laid.1.bounded c.requires.rules_laid.0.clauses_laid)), omega (arith, few))
 
 pub enough-requires : goal.enough-requires
 enough-requires c =

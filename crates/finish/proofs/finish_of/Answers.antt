@@ -23,6 +23,6 @@ returns c =
     let p = pair_is c.args.p in
     λ ts.
     let doc = doc_of c.args.«record».now ts in
-    c.finish_in.ensures ts c.args.rule-text.now p refl
+    c.finish_in.ensures ts c.args.rule_text.now p refl
     ∙ ap (λ x. ends_by doc p x c.args.tally) read.means
-    ∙ spared_ends doc p (clause_in c.args.rules.now c.args.rule-text.now c.args.p.rule.0 c.args.i) c.args.tally
+    ∙ spared_ends doc p (clause_in c.args.rules.now c.args.rule_text.now c.args.p.rule.0 c.args.i) c.args.tally

@@ -11,39 +11,39 @@ use borrow.Author.Rules.{rules}
 use Rattle.judge.proofs.judge_in_areas.Goals as goal
 
 pub overflow_mul-n : goal.overflow_mul-n
-overflow_mul-n c = omega (arith, size_small c.args.«record».now c.args.text.now c.args.rules.now c.args.rule-text.now c.args.n c.args.m c.requires.text_value c.requires.rule_text_value)
+overflow_mul-n c = omega (arith, size_small c.args.«record».now c.args.text.now c.args.rules.now c.args.rule_text.now c.args.n c.args.m c.requires.text_value c.requires.rule_text_value)
 
 pub overflow_mul-result : goal.overflow_mul-result
-overflow_mul-result c = omega (arith, size_small c.args.«record».now c.args.text.now c.args.rules.now c.args.rule-text.now c.args.n c.args.m c.requires.text_value c.requires.rule_text_value)
+overflow_mul-result c = omega (arith, size_small c.args.«record».now c.args.text.now c.args.rules.now c.args.rule_text.now c.args.n c.args.m c.requires.text_value c.requires.rule_text_value)
 
 pub returns-then-cells-size : goal.returns-then-cells-size
 returns-then-cells-size c =
-    sym (cells_short (way_by c.args.cut) c.args.«record».now c.args.text.now c.args.rules.now c.args.rule-text.now c.args.cells.now c.args.list.now c.args.n c.requires.text_value c.args.m c.requires.rule_text_value (lt_by c.if-cells-size.true c.wide-size.ensures))
+    sym (cells_short (way_by c.args.cut) c.args.«record».now c.args.text.now c.args.rules.now c.args.rule_text.now c.args.cells.now c.args.list.now c.args.n c.requires.text_value c.args.m c.requires.rule_text_value (lt_by c.if-cells-size.true c.wide-size.ensures))
 
 pub overflow_mul-result-then-list-list_room : goal.overflow_mul-result-then-list-list_room
-overflow_mul-result-then-list-list_room c = omega (arith, size_small c.args.«record».now c.args.text.now c.args.rules.now c.args.rule-text.now c.args.n c.args.m c.requires.text_value c.requires.rule_text_value)
+overflow_mul-result-then-list-list_room c = omega (arith, size_small c.args.«record».now c.args.text.now c.args.rules.now c.args.rule_text.now c.args.n c.args.m c.requires.text_value c.requires.rule_text_value)
 
 pub returns-then-list-list_room : goal.returns-then-list-list_room
 returns-then-list-list_room c =
     let w = way_by c.args.cut in
-    sym (list_short w c.args.«record».now c.args.text.now c.args.rules.now c.args.rule-text.now c.args.cells.now c.args.list.now c.args.n c.requires.text_value c.args.m c.requires.rule_text_value (le_by c.wide-size.ensures c.if-cells-size.false) (lt_by c.if-list-list_room.true (c.list_room.ensures ∙ ap (list_room w) c.wide-size.ensures)))
+    sym (list_short w c.args.«record».now c.args.text.now c.args.rules.now c.args.rule_text.now c.args.cells.now c.args.list.now c.args.n c.requires.text_value c.args.m c.requires.rule_text_value (le_by c.wide-size.ensures c.if-cells-size.false) (lt_by c.if-list-list_room.true (c.list_room.ensures ∙ ap (list_room w) c.wide-size.ensures)))
 
 pub of-form-requires : goal.of-form-requires
-of-form-requires c = record_trailer c.args.«record».now c.args.text.now c.args.rules.now c.args.rule-text.now c.args.n c.args.m c.requires.text_value c.requires.rule_text_value
+of-form-requires c = record_trailer c.args.«record».now c.args.text.now c.args.rules.now c.args.rule_text.now c.args.n c.args.m c.requires.text_value c.requires.rule_text_value
 
 pub of-rule_form-requires : goal.of-rule_form-requires
-of-rule_form-requires c = rules_trailer c.args.«record».now c.args.text.now c.args.rules.now c.args.rule-text.now c.args.n c.args.m c.requires.text_value c.requires.rule_text_value
+of-rule_form-requires c = rules_trailer c.args.«record».now c.args.text.now c.args.rules.now c.args.rule_text.now c.args.n c.args.m c.requires.text_value c.requires.rule_text_value
 
 pub run-v-requires : goal.run-v-requires
 run-v-requires c = record {
-  sheets = sheets_read c.args.«record».now c.args.text.now c.args.rules.now c.args.rule-text.now c.args.n c.args.m c.requires.text_value c.requires.rule_text_value c.of-form.ensures c.of-rule_form.ensures;
-  roomy = call_roomy c.args.«record».now c.args.text.now c.args.rules.now c.args.rule-text.now c.args.n c.args.m c.requires.text_value c.requires.rule_text_value (way_by c.args.cut) c.wide-size.ensures c.list_room.ensures c.if-cells-size.false c.if-list-list_room.false;
+  sheets = sheets_read c.args.«record».now c.args.text.now c.args.rules.now c.args.rule_text.now c.args.n c.args.m c.requires.text_value c.requires.rule_text_value c.of-form.ensures c.of-rule_form.ensures;
+  roomy = call_roomy c.args.«record».now c.args.text.now c.args.rules.now c.args.rule_text.now c.args.n c.args.m c.requires.text_value c.requires.rule_text_value (way_by c.args.cut) c.wide-size.ensures c.list_room.ensures c.if-cells-size.false c.if-list-list_room.false;
 }
 
 pub returns-then-v : goal.returns-then-v
 returns-then-v c =
-    call_valid c.args.«record».now c.args.text.now c.args.rules.now c.args.rule-text.now c.args.n c.args.m c.requires.text_value c.requires.rule_text_value (way_by c.args.cut) c.args.cells.now c.args.list.now c.wide-size.ensures c.list_room.ensures c.if-cells-size.false c.if-list-list_room.false c.run-v.result c.run-v.ensures c.if-v.true
+    call_valid c.args.«record».now c.args.text.now c.args.rules.now c.args.rule_text.now c.args.n c.args.m c.requires.text_value c.requires.rule_text_value (way_by c.args.cut) c.args.cells.now c.args.list.now c.wide-size.ensures c.list_room.ensures c.if-cells-size.false c.if-list-list_room.false c.run-v.result c.run-v.ensures c.if-v.true
 
 pub returns-else-v : goal.returns-else-v
 returns-else-v c =
-    call_invalid c.args.«record».now c.args.text.now c.args.rules.now c.args.rule-text.now c.args.n c.args.m c.requires.text_value c.requires.rule_text_value (way_by c.args.cut) c.args.cells.now c.args.list.now c.wide-size.ensures c.list_room.ensures c.if-cells-size.false c.if-list-list_room.false c.run-v.result c.run-v.ensures c.if-v.false
+    call_invalid c.args.«record».now c.args.text.now c.args.rules.now c.args.rule_text.now c.args.n c.args.m c.requires.text_value c.requires.rule_text_value (way_by c.args.cut) c.args.cells.now c.args.list.now c.wide-size.ensures c.list_room.ensures c.if-cells-size.false c.if-list-list_room.false c.run-v.result c.run-v.ensures c.if-v.false

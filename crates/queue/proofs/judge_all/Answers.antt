@@ -8,7 +8,7 @@ use Rattle.queue.proofs.judge_all.Goals as goal
 
 pub loop-i-init : goal.loop-i-init
 loop-i-init c =
-    (c.records_in-many.ensures, refl, refl, going_begun c.args.words.now c.args.bytes.now c.args.listing.now c.args.rules.now c.args.rule-text.now c.args.cells.now c.args.list.now c.args.answers.now (records_in c.args.listing.now))
+    (c.records_in-many.ensures, refl, refl, going_begun c.args.words.now c.args.bytes.now c.args.listing.now c.args.rules.now c.args.rule_text.now c.args.cells.now c.args.list.now c.args.answers.now (records_in c.args.listing.now))
 
 pub judge_listed-requires : goal.judge_listed-requires
 judge_listed-requires c = record {
@@ -22,8 +22,8 @@ bounds-answers-i c =
 
 pub loop-i-preserved : goal.loop-i-preserved
 loop-i-preserved c =
-    (c.loop-i.invariant.0, search rules, search rules, going_on c.args.words.now c.args.bytes.now c.args.listing.now c.args.rules.now c.args.rule-text.now c.args.cells.now c.args.list.now c.args.answers.now (records_in c.args.listing.now) c.loop-i.invariant.3 (omega (arith, c.loop-i.invariant.0)) (omega (arith, c.loop-i.invariant.0, c.loop-i.invariant.3.long, c.requires.tested.answers_enough)) c.judge_listed.ensures)
+    (c.loop-i.invariant.0, search rules, search rules, going_on c.args.words.now c.args.bytes.now c.args.listing.now c.args.rules.now c.args.rule_text.now c.args.cells.now c.args.list.now c.args.answers.now (records_in c.args.listing.now) c.loop-i.invariant.3 (omega (arith, c.loop-i.invariant.0)) (omega (arith, c.loop-i.invariant.0, c.loop-i.invariant.3.long, c.requires.tested.answers_enough)) c.judge_listed.ensures)
 
 pub returns : goal.returns
 returns c =
-    going_end c.args.words.now c.args.bytes.now c.args.listing.now c.args.rules.now c.args.rule-text.now c.args.cells.now c.args.list.now c.args.answers.now (records_in c.args.listing.now) c.loop-i.invariant.3 (omega (arith, c.loop-i.invariant.0)) refl
+    going_end c.args.words.now c.args.bytes.now c.args.listing.now c.args.rules.now c.args.rule_text.now c.args.cells.now c.args.list.now c.args.answers.now (records_in c.args.listing.now) c.loop-i.invariant.3 (omega (arith, c.loop-i.invariant.0)) refl

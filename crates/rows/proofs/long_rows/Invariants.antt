@@ -12,7 +12,7 @@ abbrev So : List ℕ → List ℕ → ℕ → ℕ → Type 0
 So ws ts least j = at_least length_of least (bytes? ((doc_of ws ts).value j)) ≡ true
 
 abbrev pub invariant-loop-k : goal.invariant-loop-k
-invariant-loop-k l = FirstRows l.row.0 l.n l.k (So «record» l.text l.least)
+invariant-loop-k l = FirstRows l.row.0 l.n l.k (So l.«record» l.text l.least)
 
 abbrev pub decreases-loop-k : goal.decreases-loop-k
 decreases-loop-k l = l.n - l.k

@@ -15,7 +15,7 @@ abbrev So : List ℕ → Decimal → ℕ → Type 0
 So ws limit j = (ts : List ℕ) → given (number? ((doc_of ws ts).value j)) (λ y. le_z y (value limit)) ≡ true
 
 abbrev pub invariant-loop-k : goal.invariant-loop-k
-invariant-loop-k l = FirstRows l.row.0 l.n l.k (So «record» l.limit)
+invariant-loop-k l = FirstRows l.row.0 l.n l.k (So l.«record» l.limit)
 
 abbrev pub decreases-loop-k : goal.decreases-loop-k
 decreases-loop-k l = l.n - l.k

@@ -19,7 +19,7 @@ schema_at-first-requires c =
 
 pub loop-i-init : goal.loop-i-init
 loop-i-init c =
-    let clauses = clause_in c.args.rules.now c.args.rule-text.now c.args.p.rule.0 in
+    let clauses = clause_in c.args.rules.now c.args.rule_text.now c.args.p.rule.0 in
     let d = doc_of c.args.«record».now c.args.text.now in
     (omega arith, rows_all (Passed d clauses 0) _ _ (λ (j : ℕ). below_none (λ (k : ℕ). Tries d j (clauses k) true)))
 
@@ -42,9 +42,9 @@ rows_pass-left-requires c = record {
 pub loop-i-preserved : goal.loop-i-preserved
 loop-i-preserved c =
     let rules = c.requires.rules_read in
-    let clauses = clause_in c.args.rules.now c.args.rule-text.now c.args.p.rule.0 in
+    let clauses = clause_in c.args.rules.now c.args.rule_text.now c.args.p.rule.0 in
     let d = doc_of c.args.«record».now c.args.text.now in
-    (omega arith, rows_both _ _ _ c.loop-i.invariant.1 c.rows_pass-left.ensures (λ (j : ℕ) told tries. below_more (λ (k : ℕ). Tries d j (clauses k) true) c.loop-i.i told (clause_told d j rules.0 rules.1 (ap (λ (row : SchemaRow). row.first) c.schema_at-first.ensures) (omega (arith, rules.2)) c.plain_of-clause.ensures (tries c.args.rules.now c.args.rule-text.now))))
+    (omega arith, rows_both _ _ _ c.loop-i.invariant.1 c.rows_pass-left.ensures (λ (j : ℕ) told tries. below_more (λ (k : ℕ). Tries d j (clauses k) true) c.loop-i.i told (clause_told d j rules.0 rules.1 (ap (λ (row : SchemaRow). row.first) c.schema_at-first.ensures) (omega (arith, rules.2)) c.plain_of-clause.ensures (tries c.args.rules.now c.args.rule_text.now))))
 
 pub returns : goal.returns
 returns c =

@@ -14,7 +14,7 @@ abbrev Passed : Doc → (ℕ → Clause) → ℕ → ℕ → Type 0
 Passed d clauses i j = (k : ℕ) → k < i → Tries d j (clauses k) true
 
 abbrev pub invariant-loop-i : goal.invariant-loop-i
-invariant-loop-i l = (l.i ≤ l.many) × FirstRows l.p.row.0 l.n l.left (Passed (doc_of «record» l.text) (clause_in l.rules l.rule_text l.p.rule.0) l.i)
+invariant-loop-i l = (l.i ≤ l.many) × FirstRows l.p.row.0 l.n l.left (Passed (doc_of l.«record» l.text) (clause_in l.rules l.rule_text l.p.rule.0) l.i)
 
 abbrev pub decreases-loop-i : goal.decreases-loop-i
 decreases-loop-i l = l.many - l.i

@@ -13,7 +13,7 @@ abbrev So : List ℕ → ℕ → ℕ → Type 0
 So ws most j = (ts : List ℕ) → length ts ≡ text_word ws → at_most length_of most (bytes? ((doc_of ws ts).value j)) ≡ true
 
 abbrev pub invariant-loop-k : goal.invariant-loop-k
-invariant-loop-k l = FirstRows l.row.0 l.n l.k (So «record» l.most)
+invariant-loop-k l = FirstRows l.row.0 l.n l.k (So l.«record» l.most)
 
 abbrev pub decreases-loop-k : goal.decreases-loop-k
 decreases-loop-k l = l.n - l.k

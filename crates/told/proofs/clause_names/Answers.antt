@@ -26,4 +26,4 @@ returns-in-Properties c =
 pub returns-in_default : goal.returns-in_default
 unfolding any
 returns-in_default c =
-    sym (ap (λ (names : List (List ℕ)). named_by (doc_of c.args.«record».now c.args.text.now) names c.args.row.0) (names_none c.args.rules.now c.args.rule-text.now c.args.clause c.in_default.in_default-own.keys2))
+    sym (ap (λ (names : List (List ℕ)). named_by (doc_of c.args.«record».now c.args.text.now) names c.args.row.0) (names_none c.args.rules.now c.args.rule_text.now c.args.clause c.in_default.in_default-own.keys2))

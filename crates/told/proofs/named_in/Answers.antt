@@ -29,11 +29,11 @@ same_part-requires c = record {
 
 pub returns-then-same_part : goal.returns-then-same_part
 returns-then-same_part c =
-    sym (entry_names (doc_of c.args.«record».now c.args.text.now) c.args.row.0 c.args.rules.now c.args.rule-text.now c.args.list c.args.hint (omega arith) (sym (compared c.name_of-own.ensures c.args.text.now _ _ (entry_same c.entry_name-name.ensures c.args.rule-text.now _ _ (omega arith) c.same_part.ensures)) ∙ c.if-same_part.true))
+    sym (entry_names (doc_of c.args.«record».now c.args.text.now) c.args.row.0 c.args.rules.now c.args.rule_text.now c.args.list c.args.hint (omega arith) (sym (compared c.name_of-own.ensures c.args.text.now _ _ (entry_same c.entry_name-name.ensures c.args.rule_text.now _ _ (omega arith) c.same_part.ensures)) ∙ c.if-same_part.true))
 
 pub loop-i-init : goal.loop-i-init
 loop-i-init c =
-    (omega arith, below_none (λ (k : ℕ). same_bytes (part c.args.text.now c.name_of-own.result) (entry_name c.args.rule-text.now (entry_at c.args.rules.now (c.args.list.first + k))) ≡ false))
+    (omega arith, below_none (λ (k : ℕ). same_bytes (part c.args.text.now c.name_of-own.result) (entry_name c.args.rule_text.now (entry_at c.args.rules.now (c.args.list.first + k))) ≡ false))
 
 pub entry_name-name-requires-in-loop-i : goal.entry_name-name-requires-in-loop-i
 entry_name-name-requires-in-loop-i c =
@@ -47,15 +47,15 @@ same_part-requires-in-loop-i c = record {
 
 pub returns-then-same_part-2 : goal.returns-then-same_part-2
 returns-then-same_part-2 c =
-    sym (entry_names (doc_of c.args.«record».now c.args.text.now) c.args.row.0 c.args.rules.now c.args.rule-text.now c.args.list c.loop-i.i (omega arith) (sym (compared c.name_of-own.ensures c.args.text.now _ _ (entry_same c.entry_name-name-in-loop-i.ensures c.args.rule-text.now _ _ (omega arith) c.same_part-in-loop-i.ensures)) ∙ c.if-same_part-2.true))
+    sym (entry_names (doc_of c.args.«record».now c.args.text.now) c.args.row.0 c.args.rules.now c.args.rule_text.now c.args.list c.loop-i.i (omega arith) (sym (compared c.name_of-own.ensures c.args.text.now _ _ (entry_same c.entry_name-name-in-loop-i.ensures c.args.rule_text.now _ _ (omega arith) c.same_part-in-loop-i.ensures)) ∙ c.if-same_part-2.true))
 
 pub overflow_add-i : goal.overflow_add-i
 overflow_add-i c = omega (arith, list_few c.requires.rules_read.0 c.requires.rules_read.1)
 
 pub loop-i-preserved : goal.loop-i-preserved
 loop-i-preserved c =
-    (omega arith, below_more (λ (k : ℕ). same_bytes (part c.args.text.now c.name_of-own.result) (entry_name c.args.rule-text.now (entry_at c.args.rules.now (c.args.list.first + k))) ≡ false) c.loop-i.i c.loop-i.invariant.1 (sym (entry_same c.entry_name-name-in-loop-i.ensures c.args.rule-text.now _ _ (omega arith) c.same_part-in-loop-i.ensures) ∙ c.if-same_part-2.false))
+    (omega arith, below_more (λ (k : ℕ). same_bytes (part c.args.text.now c.name_of-own.result) (entry_name c.args.rule_text.now (entry_at c.args.rules.now (c.args.list.first + k))) ≡ false) c.loop-i.i c.loop-i.invariant.1 (sym (entry_same c.entry_name-name-in-loop-i.ensures c.args.rule_text.now _ _ (omega arith) c.same_part-in-loop-i.ensures) ∙ c.if-same_part-2.false))
 
 pub returns : goal.returns
 returns c =
-    sym (none_names (doc_of c.args.«record».now c.args.text.now) c.args.row.0 c.args.rules.now c.args.rule-text.now c.args.list (λ (k : ℕ) (l : k < c.args.list.count). sym (compared c.name_of-own.ensures c.args.text.now _ _ refl) ∙ c.loop-i.invariant.1 k (omega arith)))
+    sym (none_names (doc_of c.args.«record».now c.args.text.now) c.args.row.0 c.args.rules.now c.args.rule_text.now c.args.list (λ (k : ℕ) (l : k < c.args.list.count). sym (compared c.name_of-own.ensures c.args.text.now _ _ refl) ∙ c.loop-i.invariant.1 k (omega arith)))

@@ -11,7 +11,7 @@ use Rattle.told.proofs.Earlier.{first_clauses}
 use Rattle.told.proofs.unnamed_in.Given as goal
 
 abbrev pub invariant-loop-k : goal.invariant-loop-k
-invariant-loop-k l = (l.k ≤ l.i) × (named_by (doc_of «record» l.text) (concat_map names_of (first_clauses l.rules l.rule_text l.first l.k)) l.row.0 ≡ false)
+invariant-loop-k l = (l.k ≤ l.i) × (named_by (doc_of l.«record» l.text) (concat_map names_of (first_clauses l.rules l.rule_text l.first l.k)) l.row.0 ≡ false)
 
 abbrev pub decreases-loop-k : goal.decreases-loop-k
 decreases-loop-k l = l.i - l.k

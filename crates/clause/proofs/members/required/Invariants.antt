@@ -10,7 +10,7 @@ use Rattle.clause.proofs.Requiring.{is_named}
 use Rattle.clause.proofs.members.required.Given as goal
 
 abbrev pub invariant-loop-i : goal.invariant-loop-i
-invariant-loop-i l = (l.i ≤ l.many) × ((k : ℕ) → k < l.i → is_named (doc_of «record» l.text) l.row.0 (entry_name l.rule_text (entry_at l.rules (l.list.first + k))) ≡ true)
+invariant-loop-i l = (l.i ≤ l.many) × ((k : ℕ) → k < l.i → is_named (doc_of l.«record» l.text) l.row.0 (entry_name l.rule_text (entry_at l.rules (l.list.first + k))) ≡ true)
 
 abbrev pub decreases-loop-i : goal.decreases-loop-i
 decreases-loop-i l = l.many - l.i

@@ -10,7 +10,7 @@ use Rattle.meaning.specs.Tests.{equal}
 use Rattle.clause.proofs.values.enum_holds.Given as goal
 
 abbrev pub invariant-loop-i : goal.invariant-loop-i
-invariant-loop-i l = (l.i ≤ l.many) × ((k : ℕ) → k < l.i → equal ((doc_of «record» l.text).value l.row.0) (entry_value l.rule_text (entry_at l.rules (l.list.first + k))) ≡ false)
+invariant-loop-i l = (l.i ≤ l.many) × ((k : ℕ) → k < l.i → equal ((doc_of l.«record» l.text).value l.row.0) (entry_value l.rule_text (entry_at l.rules (l.list.first + k))) ≡ false)
 
 abbrev pub decreases-loop-i : goal.decreases-loop-i
 decreases-loop-i l = l.many - l.i

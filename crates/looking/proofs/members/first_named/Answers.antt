@@ -25,11 +25,11 @@ has_name-requires c = record {
 
 pub returns-then-has_name : goal.returns-then-has_name
 returns-then-has_name c =
-    child_found (doc_of c.args.«record».now c.args.text.now) c.args.row.0 (part c.args.rule-text.now c.args.name) _ _ _ (c.children_of-children.ensures.first_is c.args.text.now) (c.children_of-children.ensures.count_is c.args.text.now) (here c.loop-i.invariant (omega arith) (sym c.has_name.ensures ∙ c.if-has_name.true))
+    child_found (doc_of c.args.«record».now c.args.text.now) c.args.row.0 (part c.args.rule_text.now c.args.name) _ _ _ (c.children_of-children.ensures.first_is c.args.text.now) (c.children_of-children.ensures.count_is c.args.text.now) (here c.loop-i.invariant (omega arith) (sym c.has_name.ensures ∙ c.if-has_name.true))
 
 pub loop-i-preserved : goal.loop-i-preserved
 loop-i-preserved c = further c.loop-i.invariant (omega arith) (sym c.has_name.ensures ∙ c.if-has_name.false)
 
 pub returns : goal.returns
 returns c =
-    child_found (doc_of c.args.«record».now c.args.text.now) c.args.row.0 (part c.args.rule-text.now c.args.name) _ _ _ (c.children_of-children.ensures.first_is c.args.text.now) (c.children_of-children.ensures.count_is c.args.text.now) (nowhere c.loop-i.invariant (omega arith))
+    child_found (doc_of c.args.«record».now c.args.text.now) c.args.row.0 (part c.args.rule_text.now c.args.name) _ _ _ (c.children_of-children.ensures.first_is c.args.text.now) (c.children_of-children.ensures.count_is c.args.text.now) (nowhere c.loop-i.invariant (omega arith))

@@ -7,7 +7,7 @@ use Rattle.meaning.specs.Rules.{called}
 use Rattle.looking.proofs.members.first_named.Given as goal
 
 abbrev pub invariant-loop-i : goal.invariant-loop-i
-invariant-loop-i l = Passing (λ k. called (doc_of «record» l.text) (part l.rule_text l.name) (l.first + k)) l.count l.i
+invariant-loop-i l = Passing (λ k. called (doc_of l.«record» l.text) (part l.rule_text l.name) (l.first + k)) l.count l.i
 
 abbrev pub decreases-loop-i : goal.decreases-loop-i
 decreases-loop-i l = l.count - l.i

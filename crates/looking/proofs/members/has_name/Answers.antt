@@ -13,4 +13,4 @@ same_part-requires c = record {
 }
 
 pub returns : goal.returns
-returns c = compared c.name_of.ensures c.args.text.now (part c.args.rule-text.now c.args.name) _ c.same_part.ensures
+returns c = compared c.name_of.ensures c.args.text.now (part c.args.rule_text.now c.args.name) _ c.same_part.ensures

@@ -24,7 +24,7 @@ pub returns-then-at-children : goal.returns-then-at-children
 returns-then-at-children c =
     let ts = c.args.text.now in
     let j = c.args.row.0 in
-    λ e. (omega (arith, c.children_of-children.ensures.count_is ts, c.if-at-children.true), alone (doc_of c.args.«record».now c.args.text.now) c.args.row.0 (part c.args.rule-text.now c.args.name) (λ k l. c.requires.record_read.0.differ j k l c.requires.record_read.1 c.requires.record_read.2) _ _ _ (c.children_of-children.ensures.first_is ts) (c.children_of-children.ensures.count_is ts) c.if-at-children.true (sym c.has_name.ensures ∙ e))
+    λ e. (omega (arith, c.children_of-children.ensures.count_is ts, c.if-at-children.true), alone (doc_of c.args.«record».now c.args.text.now) c.args.row.0 (part c.args.rule_text.now c.args.name) (λ k l. c.requires.record_read.0.differ j k l c.requires.record_read.1 c.requires.record_read.2) _ _ _ (c.children_of-children.ensures.first_is ts) (c.children_of-children.ensures.count_is ts) c.if-at-children.true (sym c.has_name.ensures ∙ e))
 
 pub returns : goal.returns
 returns c = λ e. absurd (never e)

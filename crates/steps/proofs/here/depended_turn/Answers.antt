@@ -18,7 +18,7 @@ members_in-members-requires c =
 
 pub returns-then-members-eq0 : goal.returns-then-members-eq0
 returns-then-members-eq0 c =
-    λ t p before κ same. depended_none t (doc_of c.args.«record».now c.args.text.now) p before κ c.args.rules.now c.args.rule-text.now c.args.list c.args.x _ (rw same (sym (c.members_in-members.ensures c.args.text.now) ∙ c.if-members-eq0.true)) c.ended.ensures
+    λ t p before κ same. depended_none t (doc_of c.args.«record».now c.args.text.now) p before κ c.args.rules.now c.args.rule_text.now c.args.list c.args.x _ (rw same (sym (c.members_in-members.ensures c.args.text.now) ∙ c.if-members-eq0.true)) c.ended.ensures
 
 pub loop-at-init : goal.loop-at-init
 loop-at-init c =
@@ -41,7 +41,7 @@ member_schema-requires c =
 
 pub returns-then-n-members : goal.returns-then-n-members
 returns-then-n-members c =
-    let inv = c.loop-at.invariant in let below = c.loop-at-test.true in let some : 0 < member_count ((doc_of c.args.«record».now c.args.text.now).value c.args.row.0) = omega (arith, c.members_in-members.ensures c.args.text.now, c.if-members-eq0.false) in λ t p before κ same. depended_turn t (doc_of c.args.«record».now c.args.text.now) p before κ c.args.rules.now c.args.rule-text.now c.args.list c.args.x (rw same some) c.loop-at.at c.child_named-n.result (part c.args.rule-text.now c.entry_name-name.result) (rw same c.child_named-n.ensures) (c.entry_name-name.ensures.member_is c.args.rule-text.now) c.args.row _ _ same (inv.1 t p before κ same) inv.0 below (omega (arith, list_few c.requires.rules_read.0 c.requires.rules_read.1)) (rw same (rw (← c.members_in-members.ensures c.args.text.now) c.if-n-members.true)) (c.member_schema.ensures c.args.rule-text.now) c.at_step.ensures
+    let inv = c.loop-at.invariant in let below = c.loop-at-test.true in let some : 0 < member_count ((doc_of c.args.«record».now c.args.text.now).value c.args.row.0) = omega (arith, c.members_in-members.ensures c.args.text.now, c.if-members-eq0.false) in λ t p before κ same. depended_turn t (doc_of c.args.«record».now c.args.text.now) p before κ c.args.rules.now c.args.rule_text.now c.args.list c.args.x (rw same some) c.loop-at.at c.child_named-n.result (part c.args.rule_text.now c.entry_name-name.result) (rw same c.child_named-n.ensures) (c.entry_name-name.ensures.member_is c.args.rule_text.now) c.args.row _ _ same (inv.1 t p before κ same) inv.0 below (omega (arith, list_few c.requires.rules_read.0 c.requires.rules_read.1)) (rw same (rw (← c.members_in-members.ensures c.args.text.now) c.if-n-members.true)) (c.member_schema.ensures c.args.rule_text.now) c.at_step.ensures
 
 pub overflow_add-at : goal.overflow_add-at
 overflow_add-at c =
@@ -49,8 +49,8 @@ overflow_add-at c =
 
 pub loop-at-preserved : goal.loop-at-preserved
 loop-at-preserved c =
-    let inv = c.loop-at.invariant in let some : 0 < member_count ((doc_of c.args.«record».now c.args.text.now).value c.args.row.0) = omega (arith, c.members_in-members.ensures c.args.text.now, c.if-members-eq0.false) in (omega arith, λ t p before κ same. depended_more t (doc_of c.args.«record».now c.args.text.now) p before κ c.args.rules.now c.args.rule-text.now c.args.list c.args.x (rw same some) c.loop-at.at c.child_named-n.result (part c.args.rule-text.now c.entry_name-name.result) (rw same c.child_named-n.ensures) (c.entry_name-name.ensures.member_is c.args.rule-text.now) (inv.1 t p before κ same) (rw same (rw (← c.members_in-members.ensures c.args.text.now) (omega (arith, c.if-n-members.false)))))
+    let inv = c.loop-at.invariant in let some : 0 < member_count ((doc_of c.args.«record».now c.args.text.now).value c.args.row.0) = omega (arith, c.members_in-members.ensures c.args.text.now, c.if-members-eq0.false) in (omega arith, λ t p before κ same. depended_more t (doc_of c.args.«record».now c.args.text.now) p before κ c.args.rules.now c.args.rule_text.now c.args.list c.args.x (rw same some) c.loop-at.at c.child_named-n.result (part c.args.rule_text.now c.entry_name-name.result) (rw same c.child_named-n.ensures) (c.entry_name-name.ensures.member_is c.args.rule_text.now) (inv.1 t p before κ same) (rw same (rw (← c.members_in-members.ensures c.args.text.now) (omega (arith, c.if-n-members.false)))))
 
 pub returns : goal.returns
 returns c =
-    let inv = c.loop-at.invariant in let past = c.loop-at-test.false in let some : 0 < member_count ((doc_of c.args.«record».now c.args.text.now).value c.args.row.0) = omega (arith, c.members_in-members.ensures c.args.text.now, c.if-members-eq0.false) in λ t p before κ same. depended_end t (doc_of c.args.«record».now c.args.text.now) p before κ c.args.rules.now c.args.rule-text.now c.args.list c.args.x (rw same some) c.loop-at.at _ (inv.1 t p before κ same) (omega arith) c.ended-2.ensures
+    let inv = c.loop-at.invariant in let past = c.loop-at-test.false in let some : 0 < member_count ((doc_of c.args.«record».now c.args.text.now).value c.args.row.0) = omega (arith, c.members_in-members.ensures c.args.text.now, c.if-members-eq0.false) in λ t p before κ same. depended_end t (doc_of c.args.«record».now c.args.text.now) p before κ c.args.rules.now c.args.rule_text.now c.args.list c.args.x (rw same some) c.loop-at.at _ (inv.1 t p before κ same) (omega arith) c.ended-2.ensures

@@ -14,7 +14,7 @@ abbrev pub invariant-loop-at : goal.invariant-loop-at
 invariant-loop-at l =
     (l.x ≤ l.at)
     × ((t : ℕ) (p : Pair) (before : List R.Clause) (κ : Marks) → p.row ≡ l.row.0
-    → Skipped (doc_of «record» l.text) p before (R.dependent_schemas (members_in l.rules l.rule_text l.list)) κ t l.x l.at)
+    → Skipped (doc_of l.«record» l.text) p before (R.dependent_schemas (members_in l.rules l.rule_text l.list)) κ t l.x l.at)
 
 abbrev pub decreases-loop-at : goal.decreases-loop-at
 decreases-loop-at l = l.many - l.at

@@ -21,7 +21,7 @@ fresh_turn-requires c = record {
 pub returns-then-from-eq-BY_MARKS : goal.returns-then-from-eq-BY_MARKS
 returns-then-from-eq-BY_MARKS c =
     let ts = c.args.text.now in
-    λ t. marked_turned c.args.rule.0 (c.requires.names_marked c.if-from-eq-BY_MARKS.true) (c.fresh_turn.ensures.by_index ts (c.members_in-many.ensures ts) t (before_in c.args.rules.now c.args.rule-text.now c.args.p.rule.0 c.args.i))
+    λ t. marked_turned c.args.rule.0 (c.requires.names_marked c.if-from-eq-BY_MARKS.true) (c.fresh_turn.ensures.by_index ts (c.members_in-many.ensures ts) t (before_in c.args.rules.now c.args.rule_text.now c.args.p.rule.0 c.args.i))
 
 pub other_turn-requires : goal.other_turn-requires
 other_turn-requires c = record {
@@ -32,4 +32,4 @@ other_turn-requires c = record {
 
 pub returns : goal.returns
 returns c =
-    λ t. c.other_turn.ensures (column c.args.rule-form.m c.args.cells.now c.args.p.rule.0) t
+    λ t. c.other_turn.ensures (column c.args.rule_form.m c.args.cells.now c.args.p.rule.0) t

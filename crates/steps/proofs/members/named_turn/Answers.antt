@@ -19,7 +19,7 @@ members_in-members-requires c = (c.requires.record_read.0.laid, c.requires.recor
 pub returns-then-members-eq0 : goal.returns-then-members-eq0
 returns-then-members-eq0 c =
     λ t p before κ same.
-    no_members t (doc_of c.args.«record».now c.args.text.now) p before κ c.args.rules.now c.args.rule-text.now c.args.list c.args.x _ (rw same (sym (c.members_in-members.ensures c.args.text.now) ∙ c.if-members-eq0.true)) c.ended.ensures
+    no_members t (doc_of c.args.«record».now c.args.text.now) p before κ c.args.rules.now c.args.rule_text.now c.args.list c.args.x _ (rw same (sym (c.members_in-members.ensures c.args.text.now) ∙ c.if-members-eq0.true)) c.ended.ensures
 
 pub children_of-first-requires : goal.children_of-first-requires
 children_of-first-requires c = (c.requires.record_read.0.laid.formed, c.requires.record_read.1)
@@ -48,7 +48,7 @@ pub returns-then-n-members : goal.returns-then-n-members
 returns-then-n-members c =
     let inv = c.loop-at.invariant in
     let below = c.loop-at-test.true in
-    let us = c.args.rule-text.now in
+    let us = c.args.rule_text.now in
     let some : 0 < member_count ((doc_of c.args.«record».now c.args.text.now).value c.args.row.0) = omega (arith, c.members_in-members.ensures c.args.text.now, c.if-members-eq0.false) in
     λ t p before κ same.
     named_turn t (doc_of c.args.«record».now c.args.text.now) p before κ c.args.rules.now us c.args.list c.args.x (rw same some) c.loop-at.at c.child_named-n.result (part us c.entry_name-name.result) (rw same c.child_named-n.ensures) (c.entry_name-name.ensures.member_is us) _ _ _ _ (rw same (c.children_of-first.ensures.first_is c.args.text.now)) (inv.1 t p before κ same) inv.0 below (omega (arith, list_few c.requires.rules_read.0 c.requires.rules_read.1)) (rw same (rw (← c.members_in-members.ensures c.args.text.now) c.if-n-members.true)) refl (c.member_schema.ensures us) c.at_step.ensures
@@ -59,7 +59,7 @@ overflow_add-at c = omega (arith, list_few c.requires.rules_read.0 c.requires.ru
 pub loop-at-preserved : goal.loop-at-preserved
 loop-at-preserved c =
     let inv = c.loop-at.invariant in
-    let us = c.args.rule-text.now in
+    let us = c.args.rule_text.now in
     let some : 0 < member_count ((doc_of c.args.«record».now c.args.text.now).value c.args.row.0) = omega (arith, c.members_in-members.ensures c.args.text.now, c.if-members-eq0.false) in (
       omega arith,
       λ t p before κ same.
@@ -72,4 +72,4 @@ returns c =
     let past = c.loop-at-test.false in
     let some : 0 < member_count ((doc_of c.args.«record».now c.args.text.now).value c.args.row.0) = omega (arith, c.members_in-members.ensures c.args.text.now, c.if-members-eq0.false) in
     λ t p before κ same.
-    named_end t (doc_of c.args.«record».now c.args.text.now) p before κ c.args.rules.now c.args.rule-text.now c.args.list c.args.x (rw same some) c.loop-at.at _ (inv.1 t p before κ same) (omega arith) c.ended-2.ensures
+    named_end t (doc_of c.args.«record».now c.args.text.now) p before κ c.args.rules.now c.args.rule_text.now c.args.list c.args.x (rw same some) c.loop-at.at _ (inv.1 t p before κ same) (omega arith) c.ended-2.ensures

@@ -35,7 +35,7 @@ unnamed_in-requires c =
     let told = c.requires.names_from in
     let at = ap (λ (row : SchemaRow). row.first) c.schema_at-start.ensures in
     let low = rules.2 in
-    let long = before_long c.args.p.rule.0 _ c.args.i (rules.0.laid, rules.1, at, omega arith) c.args.rule-text.now in record {
+    let long = before_long c.args.p.rule.0 _ c.args.i (rules.0.laid, rules.1, at, omega arith) c.args.rule_text.now in record {
       record_read = (c.requires.record_read.0, (child_inside c.args.«record».now c.args.text.now c.args.form c.requires.record_read.0.laid c.args.p.row.0 c.children_of-first.result.first c.children_of-first.result.count c.loop-at.at c.requires.record_read.1 (c.children_of-first.ensures.first_is c.args.text.now) (c.children_of-first.ensures.count_is c.args.text.now) (omega (arith, members_some ((doc_of c.args.«record».now c.args.text.now).value c.args.p.row.0), c.members_in-many.ensures c.args.text.now, c.children_of-first.ensures.count_is c.args.text.now, c.loop-at-test.true))).0);
       rules_read = (rules.0, rules.1, at, omega arith);
       from_le_i = (omega (arith, told.within, long), told.none);
@@ -46,14 +46,14 @@ returns-then-unnamed_in c =
     let inv = c.loop-at.invariant in
     let below = c.loop-at-test.true in
     λ κ t.
-    other_turn t (doc_of c.args.«record».now c.args.text.now) (pair_is c.args.p) (before_in c.args.rules.now c.args.rule-text.now c.args.p.rule.0 c.args.i) κ c.args.x c.loop-at.at _ c.args.rule.0 (c.children_of-first.ensures.first_is c.args.text.now) _ c.args.rule _ (inv.1 κ t) inv.0 (rw (← c.members_in-many.ensures c.args.text.now) below) (omega arith) refl refl (sym (c.unnamed_in.ensures (pair_is c.args.p)) ∙ c.if-unnamed_in.true) c.at_step.ensures
+    other_turn t (doc_of c.args.«record».now c.args.text.now) (pair_is c.args.p) (before_in c.args.rules.now c.args.rule_text.now c.args.p.rule.0 c.args.i) κ c.args.x c.loop-at.at _ c.args.rule.0 (c.children_of-first.ensures.first_is c.args.text.now) _ c.args.rule _ (inv.1 κ t) inv.0 (rw (← c.members_in-many.ensures c.args.text.now) below) (omega arith) refl refl (sym (c.unnamed_in.ensures (pair_is c.args.p)) ∙ c.if-unnamed_in.true) c.at_step.ensures
 
 pub loop-at-preserved : goal.loop-at-preserved
 loop-at-preserved c =
     let inv = c.loop-at.invariant in (
       omega arith,
       λ κ t.
-          other_more t (doc_of c.args.«record».now c.args.text.now) (pair_is c.args.p) (before_in c.args.rules.now c.args.rule-text.now c.args.p.rule.0 c.args.i) κ c.args.x c.loop-at.at _ c.args.rule.0 (c.children_of-first.ensures.first_is c.args.text.now) (inv.1 κ t) (sym (c.unnamed_in.ensures (pair_is c.args.p)) ∙ c.if-unnamed_in.false),
+          other_more t (doc_of c.args.«record».now c.args.text.now) (pair_is c.args.p) (before_in c.args.rules.now c.args.rule_text.now c.args.p.rule.0 c.args.i) κ c.args.x c.loop-at.at _ c.args.rule.0 (c.children_of-first.ensures.first_is c.args.text.now) (inv.1 κ t) (sym (c.unnamed_in.ensures (pair_is c.args.p)) ∙ c.if-unnamed_in.false),
     )
 
 pub returns : goal.returns
@@ -61,4 +61,4 @@ returns c =
     let inv = c.loop-at.invariant in
     let past = c.loop-at-test.false in
     λ κ t.
-    other_end t (doc_of c.args.«record».now c.args.text.now) (pair_is c.args.p) (before_in c.args.rules.now c.args.rule-text.now c.args.p.rule.0 c.args.i) κ c.args.x c.loop-at.at _ c.args.rule.0 (c.children_of-first.ensures.first_is c.args.text.now) _ (inv.1 κ t) (rw (← c.members_in-many.ensures c.args.text.now) (omega arith)) c.ended.ensures
+    other_end t (doc_of c.args.«record».now c.args.text.now) (pair_is c.args.p) (before_in c.args.rules.now c.args.rule_text.now c.args.p.rule.0 c.args.i) κ c.args.x c.loop-at.at _ c.args.rule.0 (c.children_of-first.ensures.first_is c.args.text.now) _ (inv.1 κ t) (rw (← c.members_in-many.ensures c.args.text.now) (omega arith)) c.ended.ensures

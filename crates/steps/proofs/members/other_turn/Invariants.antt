@@ -11,7 +11,7 @@ use Rattle.steps.proofs.members.other_turn.Given as goal
 
 abbrev pub invariant-loop-at : goal.invariant-loop-at
 invariant-loop-at l =
-    (l.x ≤ l.at) × ((κ : Marks) (t : ℕ) → Skipped (doc_of «record» l.text) (pair_is l.p) (before_in l.rules l.rule_text l.p.rule.0 l.i) (R.takes (R.additional_properties l.rule.0)) κ t l.x l.at)
+    (l.x ≤ l.at) × ((κ : Marks) (t : ℕ) → Skipped (doc_of l.«record» l.text) (pair_is l.p) (before_in l.rules l.rule_text l.p.rule.0 l.i) (R.takes (R.additional_properties l.rule.0)) κ t l.x l.at)
 
 abbrev pub decreases-loop-at : goal.decreases-loop-at
 decreases-loop-at l = l.many - l.at

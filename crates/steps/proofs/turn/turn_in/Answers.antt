@@ -53,8 +53,8 @@ named_turn-requires c = record {
 pub additional_turn-requires : goal.additional_turn-requires
 additional_turn-requires c =
     let asked = c.requires.turn_asked in
-    let started = started_as c.args.rules.now c.args.rule-text.now _ c.args.clause _ c.in-AdditionalProperties.is c.requires.clause_read.means asked.started in
-    let is = applied_child _ _ (sym (ap (clause_means c.args.rules.now c.args.rule-text.now) c.in-AdditionalProperties.is) ∙ c.requires.clause_read.means) in record {
+    let started = started_as c.args.rules.now c.args.rule_text.now _ c.args.clause _ c.in-AdditionalProperties.is c.requires.clause_read.means asked.started in
+    let is = applied_child _ _ (sym (ap (clause_means c.args.rules.now c.args.rule_text.now) c.in-AdditionalProperties.is) ∙ c.requires.clause_read.means) in record {
       record_read = (asked.record_read, asked.row_in, asked.room);
       rules_read = (asked.rules_read, asked.rule_in, asked.clause_inside);
       names_from = started.names_from _ refl;
@@ -93,60 +93,60 @@ fresh_turn-requires-in-UnevaluatedItems c = record {
 
 pub returns-in-AllOf : goal.returns-in-AllOf
 returns-in-AllOf c =
-    turned_as c.args.rules.now c.args.rule-text.now c.args.clause _ c.in-AllOf.is (c.listed_turn.ensures (doc_of c.args.«record».now c.args.text.now) all_of c.args.tally (pair_is c.args.p) (before_in c.args.rules.now c.args.rule-text.now c.args.p.rule.0 c.args.i) (column c.args.rule-form.m c.args.cells.now c.args.p.rule.0) refl)
+    turned_as c.args.rules.now c.args.rule_text.now c.args.clause _ c.in-AllOf.is (c.listed_turn.ensures (doc_of c.args.«record».now c.args.text.now) all_of c.args.tally (pair_is c.args.p) (before_in c.args.rules.now c.args.rule_text.now c.args.p.rule.0 c.args.i) (column c.args.rule_form.m c.args.cells.now c.args.p.rule.0) refl)
 
 pub returns-in-AnyOf : goal.returns-in-AnyOf
 returns-in-AnyOf c =
-    turned_as c.args.rules.now c.args.rule-text.now c.args.clause _ c.in-AnyOf.is (c.listed_turn-in-AnyOf.ensures (doc_of c.args.«record».now c.args.text.now) any_of c.args.tally (pair_is c.args.p) (before_in c.args.rules.now c.args.rule-text.now c.args.p.rule.0 c.args.i) (column c.args.rule-form.m c.args.cells.now c.args.p.rule.0) refl)
+    turned_as c.args.rules.now c.args.rule_text.now c.args.clause _ c.in-AnyOf.is (c.listed_turn-in-AnyOf.ensures (doc_of c.args.«record».now c.args.text.now) any_of c.args.tally (pair_is c.args.p) (before_in c.args.rules.now c.args.rule_text.now c.args.p.rule.0 c.args.i) (column c.args.rule_form.m c.args.cells.now c.args.p.rule.0) refl)
 
 pub returns-in-OneOf : goal.returns-in-OneOf
 returns-in-OneOf c =
-    turned_as c.args.rules.now c.args.rule-text.now c.args.clause _ c.in-OneOf.is (c.listed_turn-in-OneOf.ensures (doc_of c.args.«record».now c.args.text.now) one_of c.args.tally (pair_is c.args.p) (before_in c.args.rules.now c.args.rule-text.now c.args.p.rule.0 c.args.i) (column c.args.rule-form.m c.args.cells.now c.args.p.rule.0) refl)
+    turned_as c.args.rules.now c.args.rule_text.now c.args.clause _ c.in-OneOf.is (c.listed_turn-in-OneOf.ensures (doc_of c.args.«record».now c.args.text.now) one_of c.args.tally (pair_is c.args.p) (before_in c.args.rules.now c.args.rule_text.now c.args.p.rule.0 c.args.i) (column c.args.rule_form.m c.args.cells.now c.args.p.rule.0) refl)
 
 pub returns-in-Not : goal.returns-in-Not
 returns-in-Not c =
-    turned_as c.args.rules.now c.args.rule-text.now c.args.clause _ c.in-Not.is (c.single_turn.ensures (doc_of c.args.«record».now c.args.text.now) not_of c.args.tally (pair_is c.args.p) (before_in c.args.rules.now c.args.rule-text.now c.args.p.rule.0 c.args.i) (column c.args.rule-form.m c.args.cells.now c.args.p.rule.0) refl)
+    turned_as c.args.rules.now c.args.rule_text.now c.args.clause _ c.in-Not.is (c.single_turn.ensures (doc_of c.args.«record».now c.args.text.now) not_of c.args.tally (pair_is c.args.p) (before_in c.args.rules.now c.args.rule_text.now c.args.p.rule.0 c.args.i) (column c.args.rule_form.m c.args.cells.now c.args.p.rule.0) refl)
 
 pub returns-in-Ref : goal.returns-in-Ref
 returns-in-Ref c =
-    turned_as c.args.rules.now c.args.rule-text.now c.args.clause _ c.in-Ref.is (c.single_turn-in-Ref.ensures (doc_of c.args.«record».now c.args.text.now) ref c.args.tally (pair_is c.args.p) (before_in c.args.rules.now c.args.rule-text.now c.args.p.rule.0 c.args.i) (column c.args.rule-form.m c.args.cells.now c.args.p.rule.0) refl)
+    turned_as c.args.rules.now c.args.rule_text.now c.args.clause _ c.in-Ref.is (c.single_turn-in-Ref.ensures (doc_of c.args.«record».now c.args.text.now) ref c.args.tally (pair_is c.args.p) (before_in c.args.rules.now c.args.rule_text.now c.args.p.rule.0 c.args.i) (column c.args.rule_form.m c.args.cells.now c.args.p.rule.0) refl)
 
 pub returns-in-IfThenElse : goal.returns-in-IfThenElse
 returns-in-IfThenElse c =
-    turned_as c.args.rules.now c.args.rule-text.now c.args.clause _ c.in-IfThenElse.is (c.branch_turn.ensures (doc_of c.args.«record».now c.args.text.now) (pair_is c.args.p) (before_in c.args.rules.now c.args.rule-text.now c.args.p.rule.0 c.args.i) (column c.args.rule-form.m c.args.cells.now c.args.p.rule.0) refl)
+    turned_as c.args.rules.now c.args.rule_text.now c.args.clause _ c.in-IfThenElse.is (c.branch_turn.ensures (doc_of c.args.«record».now c.args.text.now) (pair_is c.args.p) (before_in c.args.rules.now c.args.rule_text.now c.args.p.rule.0 c.args.i) (column c.args.rule_form.m c.args.cells.now c.args.p.rule.0) refl)
 
 pub returns-in-DependentSchemas : goal.returns-in-DependentSchemas
 returns-in-DependentSchemas c =
-    turned_as c.args.rules.now c.args.rule-text.now c.args.clause _ c.in-DependentSchemas.is (c.depended_turn.ensures c.args.tally (pair_is c.args.p) (before_in c.args.rules.now c.args.rule-text.now c.args.p.rule.0 c.args.i) (column c.args.rule-form.m c.args.cells.now c.args.p.rule.0) refl)
+    turned_as c.args.rules.now c.args.rule_text.now c.args.clause _ c.in-DependentSchemas.is (c.depended_turn.ensures c.args.tally (pair_is c.args.p) (before_in c.args.rules.now c.args.rule_text.now c.args.p.rule.0 c.args.i) (column c.args.rule_form.m c.args.cells.now c.args.p.rule.0) refl)
 
 pub returns-in-Contains : goal.returns-in-Contains
 returns-in-Contains c =
-    turned_as c.args.rules.now c.args.rule-text.now c.args.clause _ c.in-Contains.is (c.counted_turn.ensures c.args.text.now _ _ c.args.tally (pair_is c.args.p) (before_in c.args.rules.now c.args.rule-text.now c.args.p.rule.0 c.args.i) (column c.args.rule-form.m c.args.cells.now c.args.p.rule.0) refl)
+    turned_as c.args.rules.now c.args.rule_text.now c.args.clause _ c.in-Contains.is (c.counted_turn.ensures c.args.text.now _ _ c.args.tally (pair_is c.args.p) (before_in c.args.rules.now c.args.rule_text.now c.args.p.rule.0 c.args.i) (column c.args.rule_form.m c.args.cells.now c.args.p.rule.0) refl)
 
 pub returns-in-Properties : goal.returns-in-Properties
 returns-in-Properties c =
-    turned_as c.args.rules.now c.args.rule-text.now c.args.clause _ c.in-Properties.is (c.named_turn.ensures c.args.tally (pair_is c.args.p) (before_in c.args.rules.now c.args.rule-text.now c.args.p.rule.0 c.args.i) (column c.args.rule-form.m c.args.cells.now c.args.p.rule.0) refl)
+    turned_as c.args.rules.now c.args.rule_text.now c.args.clause _ c.in-Properties.is (c.named_turn.ensures c.args.tally (pair_is c.args.p) (before_in c.args.rules.now c.args.rule_text.now c.args.p.rule.0 c.args.i) (column c.args.rule_form.m c.args.cells.now c.args.p.rule.0) refl)
 
 pub returns-in-AdditionalProperties : goal.returns-in-AdditionalProperties
 returns-in-AdditionalProperties c =
-    turned_as c.args.rules.now c.args.rule-text.now c.args.clause _ c.in-AdditionalProperties.is (c.additional_turn.ensures c.args.tally)
+    turned_as c.args.rules.now c.args.rule_text.now c.args.clause _ c.in-AdditionalProperties.is (c.additional_turn.ensures c.args.tally)
 
 pub returns-in-PrefixItems : goal.returns-in-PrefixItems
 returns-in-PrefixItems c =
-    turned_as c.args.rules.now c.args.rule-text.now c.args.clause _ c.in-PrefixItems.is (c.placed_turn.ensures c.args.text.now c.args.tally (pair_is c.args.p) (before_in c.args.rules.now c.args.rule-text.now c.args.p.rule.0 c.args.i) (column c.args.rule-form.m c.args.cells.now c.args.p.rule.0) refl)
+    turned_as c.args.rules.now c.args.rule_text.now c.args.clause _ c.in-PrefixItems.is (c.placed_turn.ensures c.args.text.now c.args.tally (pair_is c.args.p) (before_in c.args.rules.now c.args.rule_text.now c.args.p.rule.0 c.args.i) (column c.args.rule_form.m c.args.cells.now c.args.p.rule.0) refl)
 
 pub returns-in-Items : goal.returns-in-Items
 returns-in-Items c =
-    turned_as c.args.rules.now c.args.rule-text.now c.args.clause _ c.in-Items.is (c.rest_turn.ensures c.args.text.now (pair_is c.args.p) (before_in c.args.rules.now c.args.rule-text.now c.args.p.rule.0 c.args.i) (column c.args.rule-form.m c.args.cells.now c.args.p.rule.0) refl (started_as c.args.rules.now c.args.rule-text.now _ c.args.clause _ c.in-Items.is c.requires.clause_read.means c.requires.turn_asked.started) c.args.tally)
+    turned_as c.args.rules.now c.args.rule_text.now c.args.clause _ c.in-Items.is (c.rest_turn.ensures c.args.text.now (pair_is c.args.p) (before_in c.args.rules.now c.args.rule_text.now c.args.p.rule.0 c.args.i) (column c.args.rule_form.m c.args.cells.now c.args.p.rule.0) refl (started_as c.args.rules.now c.args.rule_text.now _ c.args.clause _ c.in-Items.is c.requires.clause_read.means c.requires.turn_asked.started) c.args.tally)
 
 pub returns-in-UnevaluatedProperties : goal.returns-in-UnevaluatedProperties
 returns-in-UnevaluatedProperties c =
-    turned_as c.args.rules.now c.args.rule-text.now c.args.clause _ c.in-UnevaluatedProperties.is (c.fresh_turn.ensures.by_index c.args.text.now (c.members_in-many.ensures c.args.text.now) c.args.tally (before_in c.args.rules.now c.args.rule-text.now c.args.p.rule.0 c.args.i))
+    turned_as c.args.rules.now c.args.rule_text.now c.args.clause _ c.in-UnevaluatedProperties.is (c.fresh_turn.ensures.by_index c.args.text.now (c.members_in-many.ensures c.args.text.now) c.args.tally (before_in c.args.rules.now c.args.rule_text.now c.args.p.rule.0 c.args.i))
 
 pub returns-in-UnevaluatedItems : goal.returns-in-UnevaluatedItems
 returns-in-UnevaluatedItems c =
-    turned_as c.args.rules.now c.args.rule-text.now c.args.clause _ c.in-UnevaluatedItems.is (c.fresh_turn-in-UnevaluatedItems.ensures.by_index_2 c.args.text.now (c.elements_in-many.ensures c.args.text.now) c.args.tally (before_in c.args.rules.now c.args.rule-text.now c.args.p.rule.0 c.args.i))
+    turned_as c.args.rules.now c.args.rule_text.now c.args.clause _ c.in-UnevaluatedItems.is (c.fresh_turn-in-UnevaluatedItems.ensures.by_index_2 c.args.text.now (c.elements_in-many.ensures c.args.text.now) c.args.tally (before_in c.args.rules.now c.args.rule_text.now c.args.p.rule.0 c.args.i))
 
 pub returns-in_default : goal.returns-in_default
 returns-in_default c =
-    let none = no_steps (doc_of c.args.«record».now c.args.text.now) (pair_is c.args.p) (before_in c.args.rules.now c.args.rule-text.now c.args.p.rule.0 c.args.i) c.args.rules.now c.args.rule-text.now c.args.clause c.in_default.in_default-own.keys15 in stops {y = c.args.x} c.ended.ensures (skipped_none (omega arith)) (omega arith)
+    let none = no_steps (doc_of c.args.«record».now c.args.text.now) (pair_is c.args.p) (before_in c.args.rules.now c.args.rule_text.now c.args.p.rule.0 c.args.i) c.args.rules.now c.args.rule_text.now c.args.clause c.in_default.in_default-own.keys15 in stops {y = c.args.x} c.ended.ensures (skipped_none (omega arith)) (omega arith)

@@ -16,4 +16,4 @@ pub returns : goal.returns
 returns c =
     let asked = c.requires in
     let read = words_read asked.rules_read asked.rule_in asked.clause_inside asked.row_is c.applied_by-clause.ensures in
-    applied_turned (clause_in c.args.rules.now c.args.rule-text.now c.args.p.rule.0 c.args.i) (rw (← read.means) c.turn_in.ensures)
+    applied_turned (clause_in c.args.rules.now c.args.rule_text.now c.args.p.rule.0 c.args.i) (rw (← read.means) c.turn_in.ensures)
