@@ -30,7 +30,10 @@ elem_range : (a n k : ℕ) → k < n → elem (a + k) (range a n) ≡ true
 unfolding elem range
 elem_range a zero k h = absurd (omega arith)
 elem_range a (suc n) zero h = let z : a + 0 ≡ a = omega arith in ap (λ (b : Bool). b || elem (a + 0) (range (suc a) n)) (eq-eqb (a + 0) a z)
-elem_range a (suc n) (suc k) h = let z : a + suc k ≡ suc a + k = omega arith in rw z (rw (elem_range (suc a) n k (omega arith)) (or-true (eqb (suc a + k) a)))
+elem_range a (suc n) (suc k) h =
+    let z : suc a + k ≡ a + suc k = omega arith in
+    let later : elem (a + suc k) (range (suc a) n) ≡ true = subst (λ (x : ℕ). elem x (range (suc a) n) ≡ true) z (elem_range (suc a) n k (omega arith)) in
+    rw later (or-true (eqb (a + suc k) a))
 
 -- those of a list that pass a test
 keep_one : (t : ℕ → Bool) (k x : ℕ) (l m : List ℕ) → elem k l ≡ (elem k m && t k) → elem k (cond (t x) (x ∷ l) l) ≡ ((eqb k x || elem k m) && t k)

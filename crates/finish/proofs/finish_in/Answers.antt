@@ -7,6 +7,7 @@ use Rattle.rulesheet.specs.Codes.{no_entry}
 use Rattle.rulesheet.specs.Sheet.{entry_at}
 use Rattle.rulesheet.proofs.Reaching.{made_at}
 use Rattle.meaning.specs.Rules.{contained}
+use borrow.Enum.Refused.{opened}
 use Rattle.finish.proofs.Ending.{Ends, any_ends, one_ends, not_ends, if_ends, contains_ends, all_ends}
 use Rattle.rulesheet.specs.Clauses as R
 use borrow.Author.Rules.{rules}
@@ -42,4 +43,4 @@ returns-in-Contains c =
 
 pub returns-in_default : goal.returns-in_default
 returns-in_default c =
-    λ ts us p same. all_ends (doc_of c.args.«record».now ts) p c.args.tally c.args.rules.now us c.args.clause c.in_default.in_default-own.keys6
+    λ ts us p same. all_ends (doc_of c.args.«record».now ts) p c.args.tally c.args.rules.now us c.args.clause (opened c.in_default.in_default-own.keys6)

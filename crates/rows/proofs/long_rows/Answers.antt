@@ -3,6 +3,7 @@ use Prim.Native.Nat.{◌-◌}
 use native.Mathlib.Omega.{arith}
 use borrow.Author.Tests.{not-false}
 use Rattle.rows.proofs.Firsts.{rows_none, rows_more}
+use Rattle.rows.proofs.long_rows.Invariants.{So}
 use Rattle.rows.proofs.long_rows.Goals as goal
 
 pub returns-then-least-gt-FEW : goal.returns-then-least-gt-FEW

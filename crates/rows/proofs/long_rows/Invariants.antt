@@ -8,7 +8,7 @@ use Rattle.meaning.specs.Tests.{bytes?, length_of, at_least}
 use Rattle.rows.specs.Firsts.{FirstRows}
 use Rattle.rows.proofs.long_rows.Given as goal
 
-abbrev So : List ℕ → List ℕ → ℕ → ℕ → Type 0
+abbrev pub So : List ℕ → List ℕ → ℕ → ℕ → Type 0
 So ws ts least j = at_least length_of least (bytes? ((doc_of ws ts).value j)) ≡ true
 
 abbrev pub invariant-loop-k : goal.invariant-loop-k

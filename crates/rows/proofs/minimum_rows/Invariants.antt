@@ -11,7 +11,7 @@ use Rattle.meaning.specs.Tests.{number?, given}
 use Rattle.rows.specs.Firsts.{FirstRows}
 use Rattle.rows.proofs.minimum_rows.Given as goal
 
-abbrev So : List ℕ → Decimal → ℕ → Type 0
+abbrev pub So : List ℕ → Decimal → ℕ → Type 0
 So ws limit j = (ts : List ℕ) → given (number? ((doc_of ws ts).value j)) (λ y. le_z (value limit) y) ≡ true
 
 abbrev pub invariant-loop-k : goal.invariant-loop-k

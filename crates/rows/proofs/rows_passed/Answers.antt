@@ -10,6 +10,7 @@ use Rattle.clause.specs.Read.{clause_in, Tries}
 use Rattle.clause.proofs.Reading.{clause_low, clause_small}
 use Rattle.clause.proofs.Telling.{clause_told, limit_plain}
 use Rattle.rows.proofs.Firsts.{rows_all, rows_so, rows_both}
+use Rattle.rows.proofs.rows_passed.Invariants.{Passed}
 use Rattle.rows.proofs.rows_passed.Goals as goal
 
 pub schema_at-first-requires : goal.schema_at-first-requires

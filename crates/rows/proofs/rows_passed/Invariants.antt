@@ -10,7 +10,7 @@ use Rattle.rows.specs.Firsts.{FirstRows}
 use Rattle.rows.proofs.rows_passed.Given as goal
 
 -- row j passes the first i clauses
-abbrev Passed : Doc → (ℕ → Clause) → ℕ → ℕ → Type 0
+abbrev pub Passed : Doc → (ℕ → Clause) → ℕ → ℕ → Type 0
 Passed d clauses i j = (k : ℕ) → k < i → Tries d j (clauses k) true
 
 abbrev pub invariant-loop-i : goal.invariant-loop-i

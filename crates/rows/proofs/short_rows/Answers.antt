@@ -2,6 +2,7 @@ use Prim.Native.Nat.{◌-◌}
 use native.Mathlib.Omega.{arith}
 use borrow.Author.Tests.{not-false}
 use Rattle.rows.proofs.Firsts.{rows_none, rows_more}
+use Rattle.rows.proofs.short_rows.Invariants.{So}
 use Rattle.rows.proofs.short_rows.Goals as goal
 
 pub loop-k-init : goal.loop-k-init

@@ -9,7 +9,7 @@ use Rattle.meaning.specs.Tests.{bytes?, length_of, at_most}
 use Rattle.rows.specs.Firsts.{FirstRows}
 use Rattle.rows.proofs.short_rows.Given as goal
 
-abbrev So : List ℕ → ℕ → ℕ → Type 0
+abbrev pub So : List ℕ → ℕ → ℕ → Type 0
 So ws most j = (ts : List ℕ) → length ts ≡ text_word ws → at_most length_of most (bytes? ((doc_of ws ts).value j)) ≡ true
 
 abbrev pub invariant-loop-k : goal.invariant-loop-k

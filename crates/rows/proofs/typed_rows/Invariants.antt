@@ -8,7 +8,7 @@ use Rattle.meaning.specs.Tests.{typed}
 use Rattle.rows.specs.Firsts.{FirstRows}
 use Rattle.rows.proofs.typed_rows.Given as goal
 
-abbrev So : List ℕ → ℕ → ℕ → Type 0
+abbrev pub So : List ℕ → ℕ → ℕ → Type 0
 So ws mask j = (ts : List ℕ) → typed mask ((doc_of ws ts).value j) ≡ true
 
 abbrev pub invariant-loop-k : goal.invariant-loop-k

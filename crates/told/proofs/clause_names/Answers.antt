@@ -7,6 +7,7 @@ use Rattle.rulesheet.specs.declared.code.Fields.TheVariants.{Members}
 use Rattle.meaning.specs.Lists.{any}
 use Rattle.meaning.specs.Rules.{names_of}
 use Rattle.clause.proofs.Asserting.{list_read}
+use borrow.Enum.Refused.{opened}
 use Rattle.told.specs.Read.{named_by}
 use Rattle.told.proofs.Earlier.{names_none}
 use borrow.Author.Rules.{rules}
@@ -26,4 +27,4 @@ returns-in-Properties c =
 pub returns-in_default : goal.returns-in_default
 unfolding any
 returns-in_default c =
-    sym (ap (λ (names : List (List ℕ)). named_by (doc_of c.args.«record».now c.args.text.now) names c.args.row.0) (names_none c.args.rules.now c.args.rule_text.now c.args.clause c.in_default.in_default-own.keys2))
+    sym (ap (λ (names : List (List ℕ)). named_by (doc_of c.args.«record».now c.args.text.now) names c.args.row.0) (names_none c.args.rules.now c.args.rule_text.now c.args.clause (opened c.in_default.in_default-own.keys2)))

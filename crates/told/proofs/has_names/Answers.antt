@@ -2,6 +2,7 @@
 use mathlib.Core.Path.{sym, ap}
 use Rattle.rulesheet.specs.declared.clause.Clause.{Clause}
 use Rattle.rulesheet.specs.Clauses.{clause_means}
+use borrow.Enum.Refused.{opened}
 use Rattle.told.specs.Read.{names_any}
 use Rattle.told.proofs.Earlier.{naming_none}
 use Rattle.told.proofs.has_names.Goals as goal
@@ -11,4 +12,4 @@ unfolding names_any
 returns-in-Properties c = λ rs us. sym (ap (λ (x : Clause). names_any (clause_means rs us x)) c.in-Properties.is)
 
 pub returns-in_default : goal.returns-in_default
-returns-in_default c = λ rs us. sym (naming_none rs us c.args.clause c.in_default.in_default-own.keys2)
+returns-in_default c = λ rs us. sym (naming_none rs us c.args.clause (opened c.in_default.in_default-own.keys2))

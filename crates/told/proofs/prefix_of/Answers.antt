@@ -6,19 +6,20 @@ use Rattle.rulesheet.specs.declared.clause.Clause.TheVariants.{PrefixItems}
 use Rattle.rulesheet.specs.Clauses.{held, Bounded}
 use Rattle.rulesheet.proofs.Items.{schemas_long}
 use Rattle.meaning.specs.Rules.{prefix_of}
+use borrow.Enum.Refused.{opened}
 use Rattle.told.proofs.Earlier.{prefix_none}
 use Rattle.told.proofs.prefix_of.Goals as goal
 
 pub returns-in-PrefixItems : goal.returns-in-PrefixItems
 unfolding prefix_of
 returns-in-PrefixItems c =
-    let read = c.clause-1.given in record {
-      by_index = λ rs us. rw read.1 (sym (schemas_long rs read.0.0));
-      upper_bound = λ form b. let l : Bounded form (held (PrefixItems read.0.0)) = rw read.1 at b in omega arith;
+    record {
+      by_index = λ rs us. rw c.in-PrefixItems.is (sym (schemas_long rs c.in-PrefixItems.schemas));
+      upper_bound = λ form b. let l : Bounded form (held (PrefixItems c.in-PrefixItems.schemas)) = rw c.in-PrefixItems.is at b in omega arith;
     }
 
 pub returns-in_default : goal.returns-in_default
 returns-in_default c = record {
-  by_index = λ rs us. sym (ap length (prefix_none rs us c.args.clause c.in_default.in_default-own.keys2));
+  by_index = λ rs us. sym (ap length (prefix_none rs us c.args.clause (opened c.in_default.in_default-own.keys2)));
   upper_bound = λ form b. omega arith;
 }

@@ -1,5 +1,6 @@
 -- `start_in` meets its contract, by the variant. Assumes nothing.
 use Rattle.clause.specs.Read.{before_in}
+use borrow.Enum.Refused.{opened}
 use Rattle.told.proofs.Earlier.{started_items, started_additional, started_other}
 use borrow.Author.Rules.{rules}
 use Rattle.told.proofs.start_in.Goals as goal
@@ -14,4 +15,4 @@ returns-in-AdditionalProperties c =
 
 pub returns-in_default : goal.returns-in_default
 returns-in_default c =
-    λ us. started_other c.args.rules.now us c.args.clause (before_in c.args.rules.now us c.args.s.0 c.args.i) _ c.in_default.in_default-own.keys3
+    λ us. started_other c.args.rules.now us c.args.clause (before_in c.args.rules.now us c.args.s.0 c.args.i) _ (opened c.in_default.in_default-own.keys3)

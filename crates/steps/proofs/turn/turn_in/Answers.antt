@@ -9,6 +9,7 @@ use Rattle.rulesheet.specs.Ruleset.{all_of, any_of, one_of, not_of, ref}
 use Rattle.areas.specs.Cells.{pair_is, column}
 use Rattle.clause.specs.Read.{before_in}
 use Rattle.clause.proofs.Asserting.{sizes, list_read}
+use borrow.Enum.Refused.{opened}
 use Rattle.steps.proofs.Reading.{no_steps}
 use Rattle.told.proofs.Earlier.{started_as}
 use Rattle.line.proofs.Counted.{members_some, elements_some}
@@ -149,4 +150,4 @@ returns-in-UnevaluatedItems c =
 
 pub returns-in_default : goal.returns-in_default
 returns-in_default c =
-    let none = no_steps (doc_of c.args.«record».now c.args.text.now) (pair_is c.args.p) (before_in c.args.rules.now c.args.rule_text.now c.args.p.rule.0 c.args.i) c.args.rules.now c.args.rule_text.now c.args.clause c.in_default.in_default-own.keys15 in stops {y = c.args.x} c.ended.ensures (skipped_none (omega arith)) (omega arith)
+    let none = no_steps (doc_of c.args.«record».now c.args.text.now) (pair_is c.args.p) (before_in c.args.rules.now c.args.rule_text.now c.args.p.rule.0 c.args.i) c.args.rules.now c.args.rule_text.now c.args.clause (opened c.in_default.in_default-own.keys15) in stops {y = c.args.x} c.ended.ensures (skipped_none (omega arith)) (omega arith)
