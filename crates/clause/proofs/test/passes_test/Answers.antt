@@ -5,7 +5,6 @@ use lib.ListN.{length}
 use Rattle.sheet.specs.Record.{doc_of}
 use Rattle.rulesheet.specs.declared.code.Fields.TheVariants.{Values, Names}
 use Rattle.meaning.specs.Rules.{passes}
-use borrow.Enum.Refused.{opened}
 use Rattle.clause.proofs.Asserting.{answered, no_test, bounds, list_read}
 use borrow.Author.Rules.{rules}
 use Rattle.clause.proofs.test.passes_test.Goals as goal
@@ -150,4 +149,4 @@ returns-in-Required c =
 
 pub returns-in_default : goal.returns-in_default
 returns-in_default c =
-    λ t e. absurd (no_test c.args.rules.now c.args.rule_text.now c.args.clause (opened c.in_default.in_default-own.keys16) t e)
+    λ t e. absurd (no_test c.args.rules.now c.args.rule_text.now c.args.clause c.in_default.in_default-own.keys16 t e)
