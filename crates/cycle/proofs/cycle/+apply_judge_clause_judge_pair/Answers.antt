@@ -3,15 +3,16 @@ use Prim.Native.Nat.{ℕ, ◌-◌}
 use native.Mathlib.Omega.{arith}
 use Rattle.areas.specs.Cells.{pair_is, cell_at}
 use Rattle.lent.proofs.Reading.{forms_fit, schemas_lent, formed_lent, clauses_many, reads_by, reads_clause, lt_by, clause_has}
-use Rattle.progress.proofs.Claused.{known, unsettled_by, cells_kept, list_kept, claused_more, claused_next, claused_shut}
+use Rattle.progress.proofs.Claused.{known, unsettled_by, cells_kept, list_kept, claused_more, claused_next, claused_shut, claused_end}
 use Rattle.progress.proofs.Turning.{cell_asks, standing_asks, standing_turn, standing_count, standing_cells, standing_list, turning_low, turning_ahead, turning_aim, turning_ready, turning_cell, turning_hands, turning_more, turning_end, falls_by}
-use Rattle.progress.proofs.Testing.{passes_many, told_open, claused_test, claused_first, applies_lent, applying_by, tries_by}
+use Rattle.progress.proofs.Testing.{passes_many, told_open, told_end, claused_test, claused_first, applies_lent, applying_by, tries_by}
 use mathlib.Core.Logic.{⊎_elim}
 use Rattle.lent.specs.Lent.{lent_case, clause_at}
-use Rattle.progress.proofs.Going.{going_ready, going_unsettled, going_writes}
+use Rattle.progress.proofs.Going.{going_open, going_ready, going_unsettled, going_writes}
 use Rattle.progress.proofs.Named.{claused_named}
 use borrow.Author.Tests.{not-true, not-false}
 use Rattle.progress.specs.Steps.{many}
+use Rattle.cycle.proofs.cycle.+apply_judge_clause_judge_pair.Goals.{judge_pair-then-applies, judge_pair-else-applies}
 use Rattle.cycle.proofs.cycle.+apply_judge_clause_judge_pair.Goals as goal
 
 pub apply-verdict_of-requires : goal.apply-verdict_of-requires
@@ -39,20 +40,20 @@ apply-settle-requires t c =
 
 pub apply-shape_of-cells-then-passed-many : goal.apply-shape_of-cells-then-passed-many
 apply-shape_of-cells-then-passed-many t c =
-    c.settle.auto.0
+    c.settle.auto.cells
 
 pub apply-shape_of-list-then-passed-many : goal.apply-shape_of-list-then-passed-many
 apply-shape_of-list-then-passed-many t c =
-    c.settle.auto.1.0
+    c.settle.auto.list
 
 pub apply-returns-then-passed-many : goal.apply-returns-then-passed-many
 apply-returns-then-passed-many t c =
     let R = c.requires.ready in
-    told-end R (unsettled_by _ _ _ (rw (schemas_lent c.requires.lent) at c.verdict_of.ensures) c.if-verdict_of-ne0.false) c.plain-passed.ensures (clauses_many c.requires.lent.sheets R.inside c.clauses_of-many.ensures) c.if-passed-many.true (ap (λ (k : ℕ). cell_at k (pair_is c.args.p)) (c.schemas_of.ensures ∙ schemas_lent c.requires.lent)) c.settle.ensures
+    told_end R (unsettled_by _ _ _ (rw (schemas_lent c.requires.lent) at c.verdict_of.ensures) c.if-verdict_of-ne0.false) c.plain-passed.ensures (clauses_many c.requires.lent.sheets R.inside c.clauses_of-many.ensures) c.if-passed-many.true (ap (λ (k : ℕ). cell_at k (pair_is c.args.p)) (c.schemas_of.ensures ∙ schemas_lent c.requires.lent)) c.settle.ensures
 
 pub apply-judge_pair-requires : goal.apply-judge_pair-requires
 apply-judge_pair-requires t c =
-    (omega (arith, c.requires.?lead), (c.requires.lent, (c.requires.ready, ((unsettled_by _ _ _ (rw (schemas_lent c.requires.lent) at c.verdict_of.ensures) c.if-verdict_of-ne0.false), passes_many c.clauses_of-many.ensures c.plain-passed.ensures))))
+    (omega arith, (c.requires.lent, (c.requires.ready, (unsettled_by _ _ _ (rw (schemas_lent c.requires.lent) at c.verdict_of.ensures) c.if-verdict_of-ne0.false, passes_many c.clauses_of-many.ensures c.plain-passed.ensures))))
 
 pub apply-shape_of-cells : goal.apply-shape_of-cells
 apply-shape_of-cells t c =
@@ -83,14 +84,14 @@ judge_pair-clause_row-row-requires t c =
 pub judge_pair-judge_clause-d-requires : goal.judge_pair-judge_clause-d-requires
 judge_pair-judge_clause-d-requires t c =
     let asked = c.requires in
-    let R = asked.1.1.0 in
+    let R = asked.ready in
     let L = c.loop-i.invariant R.done R.areas in
     let many = c.clauses_of-many.ensures in
     let row = c.clause_row-row.ensures in
     let low = lt_by c.loop-i-test.true many in
-    let applied = applying_by _ (sym (applies_lent asked.1.0 R.inside low row c.applies.ensures) ∙ c.if-applies.true) in
-    let named = claused_named L c.loop-i-test.true (clauses_many asked.1.0.sheets R.inside many) in
-    (omega (arith, asked.0), (asked.1.0, (going_ready L.claused.going, (going_unsettled L.claused.going, ((low, applied, named), row)))))
+    let applied = applying_by _ (sym (applies_lent asked.lent R.inside low row c.applies.ensures) ∙ c.if-applies.true) in
+    let named = claused_named L c.loop-i-test.true (clauses_many asked.lent.sheets R.inside many) in
+    (omega arith, (asked.lent, (going_ready L.claused.going, (going_unsettled L.claused.going, ((low, applied, named), row)))))
 
 pub judge_pair-holds-ok-requires : goal.judge_pair-holds-ok-requires
 judge_pair-holds-ok-requires t c =
@@ -117,10 +118,10 @@ judge_pair-loop-i-preserved t c =
     λ d A.
     let L = c.loop-i.invariant d A in
     claused_next
-    (⊎_elim
-    (λ w. rw (w.9, w.10, w.12) (claused_more L.claused (L.unstopped h) w.3.ensures w.11))
-    (λ w. rw (w.3, w.4, w.6) (claused_test L.claused (L.unstopped h) (tries_by T.doc c.args.p.row.0 (clause_at T (pair_is c.args.p) c.loop-i.i) (sym told ∙ w.0.left) w.2.ensures) w.5))
-    c.if-applies.branch)
+    (elim c.if-applies.branch [
+      judge_pair-then-applies w ↦ rw (w.cells-is, w.list-is, w.now-is) (claused_more L.claused (L.unstopped h) w.judge_clause-d.ensures w.ok-is)
+    | judge_pair-else-applies w ↦ rw (w.cells-is, w.list-is, w.now-is) (claused_test L.claused (L.unstopped h) (tries_by T.doc c.args.p.row.0 (clause_at T (pair_is c.args.p) c.loop-i.i) (sym told ∙ w.if-applies.false) w.holds-ok.ensures) w.ok-is)
+    ])
     h c.next_clause-i.ensures.value
 
 pub judge_pair-shut-requires : goal.judge_pair-shut-requires
@@ -133,22 +134,22 @@ judge_pair-shut-requires t c =
 pub judge_pair-settle-requires : goal.judge_pair-settle-requires
 judge_pair-settle-requires t c =
     let R = c.requires.ready in
-    going-open (claused_shut (c.loop-i.invariant R.done R.areas).claused c.shut.ensures) (ap (λ (k : ℕ). cell_at k (pair_is c.args.p)) (c.schemas_of.ensures ∙ schemas_lent c.requires.lent))
+    going_open (claused_shut (c.loop-i.invariant R.done R.areas).claused c.shut.ensures) (ap (λ (k : ℕ). cell_at k (pair_is c.args.p)) (c.schemas_of.ensures ∙ schemas_lent c.requires.lent))
 
 pub judge_pair-shape_of-cells : goal.judge_pair-shape_of-cells
 judge_pair-shape_of-cells t c =
     let R = c.requires.ready in
-    c.settle.auto.0 ∙ c.shut.ensures.len ∙ cells_kept R.areas (c.loop-i.invariant R.done R.areas).claused.going.areas
+    c.settle.auto.cells ∙ c.shut.ensures.len ∙ cells_kept R.areas (c.loop-i.invariant R.done R.areas).claused.going.areas
 
 pub judge_pair-shape_of-list : goal.judge_pair-shape_of-list
 judge_pair-shape_of-list t c =
     let R = c.requires.ready in
-    c.settle.auto.1.0 ∙ list_kept R.areas (c.loop-i.invariant R.done R.areas).claused.going.areas
+    c.settle.auto.list ∙ list_kept R.areas (c.loop-i.invariant R.done R.areas).claused.going.areas
 
 pub judge_pair-returns : goal.judge_pair-returns
 judge_pair-returns t c =
     let R = c.requires.ready in
-    claused-end (clauses_many c.requires.lent.sheets R.inside c.clauses_of-many.ensures) c.loop-i-test.false R c.requires.unsettled c.shut.ensures (ap (λ (k : ℕ). cell_at k (pair_is c.args.p)) (c.schemas_of.ensures ∙ schemas_lent c.requires.lent)) c.settle.ensures c.loop-i.invariant
+    claused_end (clauses_many c.requires.lent.sheets R.inside c.clauses_of-many.ensures) c.loop-i-test.false R c.requires.unsettled c.shut.ensures (ap (λ (k : ℕ). cell_at k (pair_is c.args.p)) (c.schemas_of.ensures ∙ schemas_lent c.requires.lent)) c.settle.ensures c.loop-i.invariant
 
 pub judge_clause-start-from-requires : goal.judge_clause-start-from-requires
 judge_clause-start-from-requires t c =
@@ -156,11 +157,11 @@ judge_clause-start-from-requires t c =
 
 pub judge_clause-in_line-x-requires : goal.judge_clause-in_line-x-requires
 judge_clause-in_line-x-requires t c =
-    let asked = c.requires.1 in record {
-      lent = asked.0;
-      ready = asked.1.0;
-      unsettled = (asked.1.1.0, asked.1.1.1.0.0);
-      row_value = (asked.1.1.1.1, c.start-from.ensures);
+    let asked = c.requires in record {
+      lent = asked.lent;
+      ready = asked.ready;
+      unsettled = (asked.unsettled, asked.i_bound.0);
+      row_value = (asked.row_value, c.start-from.ensures);
     }
 
 pub judge_clause-overflow_add-now : goal.judge_clause-overflow_add-now
@@ -174,9 +175,9 @@ judge_clause-loop-at-init t c =
 
 pub judge_clause-turn-at-requires : goal.judge_clause-turn-at-requires
 judge_clause-turn-at-requires t c =
-    let asked = c.requires.1 in record {
-      reads_clause = (reads_clause asked.0 asked.1.0.inside asked.1.1.1.0.0, asked.1.1.1.1);
-      turns = standing_asks (c.loop-at.invariant _ _ c.in_line-x.ensures asked.1.0.done asked.1.0.areas) asked.1.1.1.0.2 c.start-from.ensures;
+    let asked = c.requires in record {
+      reads_clause = (reads_clause asked.lent asked.ready.inside asked.i_bound.0, asked.row_value);
+      turns = standing_asks (c.loop-at.invariant _ _ c.in_line-x.ensures asked.ready.done asked.ready.areas) asked.i_bound.2 c.start-from.ensures;
     }
 
 pub judge_clause-finish-requires : goal.judge_clause-finish-requires
@@ -203,7 +204,7 @@ judge_clause-apply-now-requires t c =
     let W = standing_turn (c.loop-at.invariant _ _ c.in_line-x.ensures R.done R.areas) c.turn-at.ensures in
     let go = not-false _ c.if-not-at.false in
     let has = clause_has c.requires.lent.sheets R.inside c.requires.i_bound.0 in
-    (falls_by c.requires.?lead (turning_aim W go has), (c.requires.lent, turning_ready W go has))
+    (falls_by c.decreases (turning_aim W go has), (c.requires.lent, turning_ready W go has))
 
 pub judge_clause-verdict_of-held-requires : goal.judge_clause-verdict_of-held-requires
 judge_clause-verdict_of-held-requires t c =
