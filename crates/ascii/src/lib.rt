@@ -126,7 +126,7 @@ fn ascii_eights(text: &[u8], from: usize, end: usize) -> usize
 // The same, 32 bytes at a time while there are as many.
 pub fn ascii_run(text: &[u8], from: usize, end: usize) -> usize
     requires end_in_bounds { end ≤ length text.now }
-    requires from_bound { (from ≤ 0xFFFF_FFFF_FFFF) × (end ≤ 0xFFFF_FFFF_FFFF) }
+    requires places_bounded { (from ≤ 0xFFFF_FFFF_FFFF) × (end ≤ 0xFFFF_FFFF_FFFF) }
     ensures { AsciiTo text.now from end result }
 {
     let mut at = from;

@@ -30,8 +30,8 @@ fn add_mark(cells: &mut [u8], m: usize, row: RecordRow, s: RuleRow, from: RuleRo
 
 // To the marks of the rows in column s adds those in column `from`.
 pub fn add_marks(cells: &mut [u8], m: usize, kids: Children, s: RuleRow, from: RuleRow)
-    requires writes { Writes m kids.first kids.count s.0 from.0 cells.old }
-    requires count_bound { kids.first + kids.count < 4294967296 }
+    requires columns_in_cells { Writes m kids.first kids.count s.0 from.0 cells.old }
+    requires kids_end_fits { kids.first + kids.count < 4294967296 }
     ensures { Marked m kids.first kids.count s.0 (merged m cells.old s.0 from.0) cells.old cells.new }
 {
     let mut i = 0;
@@ -53,8 +53,8 @@ fn take_mark(cells: &mut [u8], m: usize, row: RecordRow, s: RuleRow)
 
 // Takes the marks of the rows in column s away.
 pub fn take_marks(cells: &mut [u8], m: usize, kids: Children, s: RuleRow)
-    requires writes { Writes m kids.first kids.count s.0 s.0 cells.old }
-    requires count_bound { kids.first + kids.count < 4294967296 }
+    requires columns_in_cells { Writes m kids.first kids.count s.0 s.0 cells.old }
+    requires kids_end_fits { kids.first + kids.count < 4294967296 }
     ensures { Marked m kids.first kids.count s.0 (λ k. false) cells.old cells.new }
 {
     let mut i = 0;
@@ -74,8 +74,8 @@ fn add(n: usize, so: bool) -> usize
 
 // How many of the rows are marked in column 0.
 pub fn marked_of(cells: &[u8], m: usize, kids: Children) -> usize
-    requires writes { Writes m kids.first kids.count 0 0 cells.now }
-    requires count_bound { kids.first + kids.count < 4294967296 }
+    requires columns_in_cells { Writes m kids.first kids.count 0 0 cells.now }
+    requires kids_end_fits { kids.first + kids.count < 4294967296 }
     ensures { result ≡ marked_by m cells.now kids.first kids.count }
 {
     let mut n = 0;

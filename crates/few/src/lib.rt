@@ -19,7 +19,7 @@ use sheet::record::RuleRow;
 // Clause k if it tells something to those after it.
 pub fn telling_of(words: &[u32], form: RuleForm, k: u32) -> Clause
     requires { RulesFormed words.now form × (k < form.c) }
-    ensures by_index { (ts : List ℕ) → clause_means words.now ts result ≡ telling (clause_of words.now ts k) }
+    ensures means_telling { (ts : List ℕ) → clause_means words.now ts result ≡ telling (clause_of words.now ts k) }
     ensures tested { Tested words.now form result }
 {
     let row = clause_at(words, form, k);
@@ -38,7 +38,7 @@ pub fn telling_of(words: &[u32], form: RuleForm, k: u32) -> Clause
 // Clause k if those before it tell it something.
 pub fn told_of(words: &[u32], form: RuleForm, k: u32) -> Clause
     requires { RulesFormed words.now form × (k < form.c) }
-    ensures by_index { (ts : List ℕ) → clause_means words.now ts result ≡ told (clause_of words.now ts k) }
+    ensures means_told { (ts : List ℕ) → clause_means words.now ts result ≡ told (clause_of words.now ts k) }
     ensures tested { Tested words.now form result }
 {
     let row = clause_at(words, form, k);

@@ -92,7 +92,7 @@ pub fn finish_of<'a>(
 ) -> bool
     requires laid { Laid «record».now form × (p.row.0 < form.rows) }
     requires rules_read { RulesRead rules.now rule_text.now rule_form × (p.rule.0 < rule_form.m) × (i < (schema_at rules.now p.rule.0).count) }
-    requires row_value { row ≡ words_in rules.now p.rule.0 i }
+    requires row_is_clause_words { row ≡ words_in rules.now p.rule.0 i }
     ensures { (ts : List ℕ) → result ≡ ends_by (doc_of «record».now ts) (pair_is p) (clause_in rules.now rule_text.now p.rule.0 i) tally }
 {
     let clause = sparing_by(row);
@@ -122,7 +122,7 @@ pub fn after_miss<'a>(
     step: u32,
 ) -> u32
     requires rules_read { RulesRead rules.now rule_text.now form × (s.0 < form.m) × (i < (schema_at rules.now s.0).count) × (step < 4294967295) }
-    requires row_value { row ≡ words_in rules.now s.0 i }
+    requires row_is_clause_words { row ≡ words_in rules.now s.0 i }
     ensures { result ≡ after_miss (clause_in rules.now rule_text.now s.0 i) step }
 {
     let clause = applied_by(row);

@@ -85,8 +85,8 @@ pub fn judge_checked<'a>(
     n: u32,
     checked: Checked,
 ) -> Answer
-    requires text_value { record_outcome «record».now text.now ≡ accepted n }
-    requires checked_value { outcome_of checked ≡ rules_outcome rules.now rule_text.now }
+    requires record_accepted { record_outcome «record».now text.now ≡ accepted n }
+    requires checked_is_rules_outcome { outcome_of checked ≡ rules_outcome rules.now rule_text.now }
     ensures { leaves (way_by cut) «record».now text.now rules.now rule_text.now cells.old list.old result cells.new list.new }
 {
     match checked {

@@ -127,8 +127,8 @@ pub fn goes_on(forms: &[usize; 9], ok: bool) -> bool
 // The clause after clause i of `many`, where those up to it hold or not; none if judging stops.
 pub fn next_clause(forms: &[usize; 9], many: u32, i: u32, ok: bool) -> u32
     requires { i < many }
-    ensures value { result ≡ cond (goes_on (way_lent forms.now) ok) (i + 1) many }
-    ensures lower_bound { (i < result) × (result ≤ many) }
+    ensures next_or_end { result ≡ cond (goes_on (way_lent forms.now) ok) (i + 1) many }
+    ensures onward_within_many { (i < result) × (result ≤ many) }
 {
     if goes_on(forms, ok) { i + 1 } else { many }
 }

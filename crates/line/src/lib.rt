@@ -96,8 +96,8 @@ fn line_in(record: &[u32], form: RecordForm, p: Pair, i: u32, from: u32, clause:
 // rows of the sheet.
 pub fn line_of(record: &[u32], form: RecordForm, p: Pair, i: u32, row: ClauseRow, from: u32) -> Line
     requires { Laid «record».now form × (p.row.0 < form.rows) }
-    ensures by_index { (ts rs us : List ℕ) (rule_form : RuleForm) → LineAsked rs us rule_form p i row from → LinedIn «record».now ts rs us p i (clause_in rs us p.rule.0 i) result }
-    ensures count_bound { result.first + result.count ≤ form.rows }
+    ensures lined_in { (ts rs us : List ℕ) (rule_form : RuleForm) → LineAsked rs us rule_form p i row from → LinedIn «record».now ts rs us p i (clause_in rs us p.rule.0 i) result }
+    ensures rows_inside { result.first + result.count ≤ form.rows }
 {
     let clause = applied_by(row);
     line_in(record, form, p, i, from, clause)

@@ -76,8 +76,8 @@ pub fn in_line<'a, 'b>(
 ) -> u32
     requires lent { Lent sheets.now texts.now forms.now }
     requires ready { Ready (lent_case sheets.now texts.now forms.now) (rank_of (lent_case sheets.now texts.now forms.now) (pair_is p)) (pair_is p) cells.old list.old count }
-    requires unsettled { Unsettled (lent_case sheets.now texts.now forms.now).m (pair_is p) cells.old × (i < (schema_at (lent sheets.now 1) p.rule.0).count) }
-    requires row_value { (row ≡ row_of sheets.now (pair_is p) i) × Started (before_of (lent_case sheets.now texts.now forms.now) (pair_is p) i) (clause_at (lent_case sheets.now texts.now forms.now) (pair_is p) i) from }
+    requires unsettled_at_clause { Unsettled (lent_case sheets.now texts.now forms.now).m (pair_is p) cells.old × (i < (schema_at (lent sheets.now 1) p.rule.0).count) }
+    requires row_read_and_started { (row ≡ row_of sheets.now (pair_is p) i) × Started (before_of (lent_case sheets.now texts.now forms.now) (pair_is p) i) (clause_at (lent_case sheets.now texts.now forms.now) (pair_is p) i) from }
     ensures { StandsAt (lent_case sheets.now texts.now forms.now) (pair_is p) i cells.old list.old count result cells.new list.new }
 {
     let at = line(sheets, texts, forms, p, i, row, from);

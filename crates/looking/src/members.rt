@@ -118,8 +118,8 @@ pub fn child_named<'a>(
     name: Range,
     hint: u32,
 ) -> u32
-    requires record_read { RecordRead «record».now text.now form × (row.0 < form.rows) × (is_object ((doc_of «record».now text.now).value row.0) ≡ true) }
-    requires name_value { fits (length rule_text.now) name ≡ true }
+    requires object_read { RecordRead «record».now text.now form × (row.0 < form.rows) × (is_object ((doc_of «record».now text.now).value row.0) ≡ true) }
+    requires name_fits { fits (length rule_text.now) name ≡ true }
     ensures { result ≡ child_named (doc_of «record».now text.now) row.0 (part rule_text.now name) }
 {
     if named_at(record, text, form, row, rule_text, name, hint) {
@@ -139,8 +139,8 @@ pub fn has_member<'a>(
     hint: u32,
     members: u32,
 ) -> bool
-    requires record_read { RecordRead «record».now text.now form × (row.0 < form.rows) × (is_object ((doc_of «record».now text.now).value row.0) ≡ true) }
-    requires name_value { (fits (length rule_text.now) name ≡ true) × (members ≡ child_count ((doc_of «record».now text.now).value row.0)) }
+    requires object_read { RecordRead «record».now text.now form × (row.0 < form.rows) × (is_object ((doc_of «record».now text.now).value row.0) ≡ true) }
+    requires name_fits_members_counted { (fits (length rule_text.now) name ≡ true) × (members ≡ child_count ((doc_of «record».now text.now).value row.0)) }
     ensures { result ≡ not (eqb (child_named (doc_of «record».now text.now) row.0 (part rule_text.now name)) members) }
 {
     if named_at(record, text, form, row, rule_text, name, hint) {

@@ -30,7 +30,7 @@ pub fn judge_listed<'a>(
     checked: Checked,
     i: usize,
 ) -> u64
-    requires inside { Inside (length words.now) (length bytes.now) listing.now i }
+    requires record_listed { Inside (length words.now) (length bytes.now) listing.now i }
     requires rules_checked { RulesChecked rules.now rule_text.now checked }
     ensures { Called whole (part words.now (words_at listing.now i)) (part bytes.now (text_at listing.now i)) rules.now rule_text.now cells.old list.old cells.new list.new result }
 {

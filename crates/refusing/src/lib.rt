@@ -104,7 +104,7 @@ pub fn refusal_of(
     words: &mut [u32],
     objects: &mut [u32],
 ) -> Refusal
-    requires json_len_bound { (length json.now ≤ 65_536) × Lent json.now names.old words.old }
+    requires short_and_lent { (length json.now ≤ 65_536) × Lent json.now names.old words.old }
     requires blank { Blank (areas values.old texts.old names.old words.old objects.old) }
     ensures { Told json.now result.number result.place values.new texts.new }
 {

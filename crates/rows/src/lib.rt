@@ -158,7 +158,7 @@ pub fn rows_passed<'a>(
 ) -> u32
     requires record_read { RecordRead «record».now text.now form × (p.row.0 + n ≤ form.rows) }
     requires rules_read { RulesRead rules.now rule_text.now rule_form × (p.rule.0 < rule_form.m) × (many ≡ (schema_at rules.now p.rule.0).count) }
-    requires by_index { (k : ℕ) → k < n → Unsettled rule_form.m (record { row = p.row.0 + k; rule = p.rule.0 }) cells.now }
+    requires rows_unsettled { (k : ℕ) → k < n → Unsettled rule_form.m (record { row = p.row.0 + k; rule = p.rule.0 }) cells.now }
     ensures { FirstRows p.row.0 n result (λ j. PassedFirst (doc_of «record».now text.now) j (clause_in rules.now rule_text.now p.rule.0) many many) }
 {
     let first = schema_at(rules, rule_form, p.rule).first;

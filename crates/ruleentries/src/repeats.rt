@@ -15,7 +15,7 @@ use sheet::record::wide;
 // they end.
 fn first_repeated_in(words: &[u32], text: &[u8], form: RuleForm, k: u32) -> u32
     requires rules_laid { RulesLaid words.now form × (length text.now ≡ text_word words.now) }
-    requires k_lt_c { (k < form.c) × (is_named (fields_at words.now k) ≡ true) }
+    requires clause_named { (k < form.c) × (is_named (fields_at words.now k) ≡ true) }
     ensures { result ≡ lowest_from (repeated words.now text.now) (clause_at words.now k).count (clause_at words.now k).first }
 {
     let clause = clause_at(words, form, k);

@@ -152,7 +152,7 @@ fn pass_schema(
     so_far: u32,
 ) -> Pass
     requires rules_formed { RulesFormed words.now form × (length text.now ≡ text_word words.now) × (end ≤ form.c) }
-    requires first_value { (first ≡ (schema_at words.now s.0).first) × (end ≡ first + (schema_at words.now s.0).count) × (from ≡ list_start words.now first) }
+    requires clauses_of_schema { (first ≡ (schema_at words.now s.0).first) × (end ≡ first + (schema_at words.now s.0).count) × (from ≡ list_start words.now first) }
     ensures { result.fine ≡ true → SchemaPassed words.now text.now s.0 so_far result }
 {
     let this = s.0;

@@ -64,7 +64,7 @@ fn decoded(code: u32, first: u32, count: u32) -> Clause
 // Clause k.
 pub fn clause_of(words: &[u32], form: RuleForm, k: u32) -> Clause
     requires { RulesFormed words.now form × (k < form.c) }
-    ensures by_index { (ts : List ℕ) → clause_means words.now ts result ≡ clause_of words.now ts k }
+    ensures means_clause { (ts : List ℕ) → clause_means words.now ts result ≡ clause_of words.now ts k }
     ensures tested { Tested words.now form result }
 {
     let row = clause_at(words, form, k);

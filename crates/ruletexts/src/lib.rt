@@ -66,7 +66,7 @@ fn text_range(fields: Fields, entry: EntryRow) -> Range
 // The lowest entry of clause k, which is a list, whose text is not UTF-8, or where they end.
 fn first_in(words: &[u32], text: &[u8], form: RuleForm, memo: &[u32], whole: bool, k: u32) -> u32
     requires rules_laid { RulesLaid words.now form × (length text.now ≡ text_word words.now) × Known text.now memo.now whole }
-    requires k_lt_c { (k < form.c) × (is_list (fields_at words.now k) ≡ true) }
+    requires clause_listed { (k < form.c) × (is_list (fields_at words.now k) ≡ true) }
     ensures { result ≡ lowest_from (not_utf8 words.now text.now) (clause_at words.now k).count (clause_at words.now k).first }
 {
     let clause = clause_at(words, form, k);

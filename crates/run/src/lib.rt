@@ -101,7 +101,7 @@ pub fn run<'a>(
     rule_form: RuleForm,
     cut: bool,
 ) -> Verdict
-    requires sheets { Sheets «record».now text.now rules.now rule_text.now form rule_form }
+    requires sheets_read { Sheets «record».now text.now rules.now rule_text.now form rule_form }
     requires roomy { Roomy (case_of (way_by cut) «record».now text.now rules.now rule_text.now) cells.old list.old }
     ensures { left_by result cells.new list.new ≡ judged_of (case_of (way_by cut) «record».now text.now rules.now rule_text.now) cells.old list.old }
 {

@@ -48,7 +48,7 @@ pub fn line<'a, 'b>(
     requires reads_clause { ReadsClause sheets.now texts.now forms.now (pair_is p) i × (row ≡ row_of sheets.now (pair_is p) i) }
     requires started { Started (before_of (lent_case sheets.now texts.now forms.now) (pair_is p) i) (clause_at (lent_case sheets.now texts.now forms.now) (pair_is p) i) from }
     ensures in_line { InLine (lent_case sheets.now texts.now forms.now).doc (pair_is p) (before_of (lent_case sheets.now texts.now forms.now) (pair_is p) i) (clause_at (lent_case sheets.now texts.now forms.now) (pair_is p) i) result.first result.count result.rule.0 }
-    ensures count_bound { result.first + result.count ≤ (lent_case sheets.now texts.now forms.now).n }
+    ensures rows_inside { result.first + result.count ≤ (lent_case sheets.now texts.now forms.now).n }
 {
     let form = record_form(forms);
     line_of(sheets[RECORD], form, p, i, row, from)

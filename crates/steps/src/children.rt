@@ -46,7 +46,7 @@ pub(crate) fn placed_turn(
     x: u32,
 ) -> Turn
     requires laid { Laid «record».now form × (row.0 < form.rows) }
-    requires rules_formed { RulesFormed rules.now rule_form × (list.first + list.count ≤ rule_form.e) }
+    requires list_inside { RulesFormed rules.now rule_form × (list.first + list.count ≤ rule_form.e) }
     ensures { (ts : List ℕ) → TurnedOn (doc_of «record».now ts) row.0 (R.takes (R.prefix_items (schemas_in rules.now list))) x result }
 {
     let many = lesser(elements_in(record, form, row), list.count);
@@ -88,7 +88,7 @@ pub(crate) fn counted_turn(
     x: u32,
 ) -> Turn
     requires laid { Laid «record».now form × (row.0 < form.rows) }
-    requires rules_formed { RulesFormed rules.now rule_form × (list.first + list.count ≤ rule_form.e) × (list.count ≡ 1) }
+    requires one_entry_inside { RulesFormed rules.now rule_form × (list.first + list.count ≤ rule_form.e) × (list.count ≡ 1) }
     ensures { (ts : List ℕ) (least most : ℕ) → TurnedOn (doc_of «record».now ts) row.0 (R.contains (entry_in rules.now list 0).first least most) x result }
 {
     let many = elements_in(record, form, row);
@@ -114,10 +114,10 @@ pub(crate) fn fresh_turn(
     many: u32,
     x: u32,
 ) -> Turn
-    requires laid { Laid «record».now form × (p.row.0 < form.rows) × ((ts : List ℕ) → many ≤ child_count ((doc_of «record».now ts).value p.row.0)) }
-    requires m_in_bounds { (form.rows * m ≤ length cells.now) × (p.rule.0 < m) }
-    ensures by_index { (ts : List ℕ) → many ≡ member_count ((doc_of «record».now ts).value p.row.0) → TurnedFresh «record».now ts p (R.takes (R.unevaluated_properties rule.0)) x m cells.now result }
-    ensures by_index_2 { (ts : List ℕ) → many ≡ element_count ((doc_of «record».now ts).value p.row.0) → TurnedFresh «record».now ts p (R.takes (R.unevaluated_items rule.0)) x m cells.now result }
+    requires laid_many_children { Laid «record».now form × (p.row.0 < form.rows) × ((ts : List ℕ) → many ≤ child_count ((doc_of «record».now ts).value p.row.0)) }
+    requires table_in_cells { (form.rows * m ≤ length cells.now) × (p.rule.0 < m) }
+    ensures fresh_members { (ts : List ℕ) → many ≡ member_count ((doc_of «record».now ts).value p.row.0) → TurnedFresh «record».now ts p (R.takes (R.unevaluated_properties rule.0)) x m cells.now result }
+    ensures fresh_elements { (ts : List ℕ) → many ≡ element_count ((doc_of «record».now ts).value p.row.0) → TurnedFresh «record».now ts p (R.takes (R.unevaluated_items rule.0)) x m cells.now result }
 {
     let first = children_of(record, form, p.row).first;
     let column = p.rule;

@@ -111,7 +111,7 @@ pub(crate) fn additional_turn<'a>(
     rule: RuleRow,
     x: u32,
 ) -> Turn
-    requires record_read { RecordRead «record».now text.now form × (p.row.0 < form.rows) × (form.rows * rule_form.m ≤ length cells.now) }
+    requires record_read_table_in_cells { RecordRead «record».now text.now form × (p.row.0 < form.rows) × (form.rows * rule_form.m ≤ length cells.now) }
     requires rules_read { RulesRead rules.now rule_text.now rule_form × (p.rule.0 < rule_form.m) × (i < (schema_at rules.now p.rule.0).count) }
     requires names_from { (from ≡ by_marks → ⊥) → NamesFrom (before_in rules.now rule_text.now p.rule.0 i) from }
     requires names_marked { from ≡ by_marks → NamesMarked (doc_of «record».now text.now) (pair_is p) (before_in rules.now rule_text.now p.rule.0 i) x (column rule_form.m cells.now p.rule.0) }

@@ -54,7 +54,7 @@ fn code_at(json: &[u8], i: usize) -> u32
 // One atom of a string, from place i of the text to place `at` of the area.
 fn atom(json: &[u8], i: usize, area: &mut [u8], at: usize, waits: u32) -> Spot
     requires inside { Inside json.now i waits }
-    requires i_nonzero { (get_or json.now i 0 ≢ 0x22) × (at < 1_000_000_000_000) }
+    requires not_at_quote { (get_or json.now i 0 ≢ 0x22) × (at < 1_000_000_000_000) }
     ensures onward { (s : Inside json.now i waits) → Onward json.now i waits at area.old s result.to result.waits result.at area.new }
     ensures further { i < result.to }
 {
@@ -95,8 +95,8 @@ fn atom(json: &[u8], i: usize, area: &mut [u8], at: usize, waits: u32) -> Spot
 // The string whose inside starts at place `start` of the text, decoded, from place `from` of the
 // area on.
 pub fn copy_string(json: &[u8], start: usize, area: &mut [u8], from: usize) -> Ended
-    requires inside { Inside json.now start 0 }
-    requires from_bound { (from < 100_000_000_000) × (length json.now < 100_000_000_000) }
+    requires string_goes_on { Inside json.now start 0 }
+    requires sizes_bounded { (from < 100_000_000_000) × (length json.now < 100_000_000_000) }
     ensures { (s : Inside json.now start 0) → Copied json.now start from area.old s result.to result.at area.new }
 {
     let mut i = start;

@@ -230,7 +230,7 @@ pub fn unnamed_in<'a>(
 ) -> bool
     requires record_read { RecordRead «record».now text.now form × (row.0 < form.rows) }
     requires rules_read { RulesRead rules.now rule_text.now rule_form × (s.0 < rule_form.m) × (first ≡ (schema_at rules.now s.0).first) × (i ≤ (schema_at rules.now s.0).count) }
-    requires from_le_i { (from ≤ i) × (concat_map names_of (take from (before_in rules.now rule_text.now s.0 i)) ≡ []) }
+    requires none_named_before_from { (from ≤ i) × (concat_map names_of (take from (before_in rules.now rule_text.now s.0 i)) ≡ []) }
     ensures { (p : Pair) → result ≡ unnamed (doc_of «record».now text.now) p (before_in rules.now rule_text.now s.0 i) row.0 }
 {
     let mut k = from;

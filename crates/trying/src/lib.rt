@@ -28,7 +28,7 @@ pub fn plain<'a, 'b>(
     p: Pair,
     many: u32,
 ) -> u32
-    requires reads { Reads sheets.now texts.now forms.now (pair_is p) × (many ≡ (schema_at (lent sheets.now 1) p.rule.0).count) }
+    requires reads_all_clauses { Reads sheets.now texts.now forms.now (pair_is p) × (many ≡ (schema_at (lent sheets.now 1) p.rule.0).count) }
     requires unsettled { Unsettled (lent_case sheets.now texts.now forms.now).m (pair_is p) cells.now }
     ensures { PassesFirst (lent_case sheets.now texts.now forms.now) (pair_is p) many result }
 {
@@ -79,8 +79,8 @@ pub fn plain_rows<'a, 'b>(
     q: Pair,
     n: u32,
 ) -> u32
-    requires lent { Lent sheets.now texts.now forms.now × (q.row.0 + n ≤ (lent_case sheets.now texts.now forms.now).n) × (q.rule.0 < (lent_case sheets.now texts.now forms.now).m) }
-    requires forms_in_bounds { ((lent_case sheets.now texts.now forms.now).n * (lent_case sheets.now texts.now forms.now).m ≤ length cells.now) × (length cells.now < 4294967296) }
+    requires lent_rows_inside { Lent sheets.now texts.now forms.now × (q.row.0 + n ≤ (lent_case sheets.now texts.now forms.now).n) × (q.rule.0 < (lent_case sheets.now texts.now forms.now).m) }
+    requires table_in_cells { ((lent_case sheets.now texts.now forms.now).n * (lent_case sheets.now texts.now forms.now).m ≤ length cells.now) × (length cells.now < 4294967296) }
     ensures { (result ≤ n) × RowsPass (lent_case sheets.now texts.now forms.now) (pair_is q) (schema_at (lent sheets.now 1) q.rule.0).count result cells.now }
 {
     let form = record_form(forms);

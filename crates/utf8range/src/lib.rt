@@ -63,8 +63,8 @@ pub fn inside(text: &[u8], at: usize) -> bool
 
 // Whether the range's bytes are UTF-8, where the whole text is: two bytes are read.
 pub fn range_is_utf8(text: &[u8], range: Range) -> bool
-    requires text_value { is_utf8 text.now ≡ true }
-    requires range_value { fits (length text.now) range ≡ true }
+    requires text_is_utf8 { is_utf8 text.now ≡ true }
+    requires range_fits { fits (length text.now) range ≡ true }
     ensures { result ≡ is_utf8 (part text.now range) }
 {
     if range.length == 0 {

@@ -261,7 +261,7 @@ pub fn write_sheet(
     text: &mut [u8],
 )
     requires writable { Writable json.now n size rows.old bytes.old words.old text.old }
-    requires json_len_bound { (length json.now ≤ 65_536) × (n < 65_536) × (size ≤ 65_536) }
+    requires sizes_bounded { (length json.now ≤ 65_536) × (n < 65_536) × (size ≤ 65_536) }
     ensures { (w : Writable json.now n size rows.old bytes.old words.old text.old) → Stands w.of words.old text.old words.new text.new }
 {
     let many = n as usize;

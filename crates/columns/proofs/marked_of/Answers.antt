@@ -9,10 +9,10 @@ pub loop-i-init : goal.loop-i-init
 loop-i-init c = (omega arith, counted_none _ _ _ _)
 
 pub overflow_add-row : goal.overflow_add-row
-overflow_add-row c = omega (arith, c.requires.count_bound)
+overflow_add-row c = omega (arith, c.requires.kids_end_fits)
 
 pub is_marked-requires : goal.is_marked-requires
-is_marked-requires c = let w = c.requires.writes in cell_below w c.loop-i.i c.loop-i-test.true _ w.rule_in
+is_marked-requires c = let w = c.requires.columns_in_cells in cell_below w c.loop-i.i c.loop-i-test.true _ w.rule_in
 
 pub add-n-requires : goal.add-n-requires
 add-n-requires c = omega (arith, c.loop-i.invariant.1.most)

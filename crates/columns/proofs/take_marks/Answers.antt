@@ -8,14 +8,14 @@ pub loop-i-init : goal.loop-i-init
 loop-i-init c = (omega arith, marked_none _ _ _ _ _)
 
 pub overflow_add-kids : goal.overflow_add-kids
-overflow_add-kids c = omega (arith, c.requires.count_bound)
+overflow_add-kids c = omega (arith, c.requires.kids_end_fits)
 
 pub take_mark-requires : goal.take_mark-requires
-take_mark-requires c = writes_row c.requires.writes c.loop-i.invariant.1.len (omega arith) (omega arith)
+take_mark-requires c = writes_row c.requires.columns_in_cells c.loop-i.invariant.1.len (omega arith) (omega arith)
 
 pub loop-i-preserved : goal.loop-i-preserved
 loop-i-preserved c =
-    let w = c.requires.writes in
+    let w = c.requires.columns_in_cells in
     let p = c.loop-i.invariant.1 in
     (omega arith, marked_more p w.rule_in refl refl c.take_mark.ensures)
 

@@ -11,7 +11,7 @@ unfolding telling
 returns-in-40 c =
     let row = c.clause_at-row in
     let read : ReadBy telling row.result _ = read_by telling (decodes 40 c.in-40.is (members_decoded _ _)) (λ ws ts. refl) in record {
-      by_index = λ ts. read.means c.args.words.now ts c.args.k row.ensures;
+      means_telling = λ ts. read.means c.args.words.now ts c.args.k row.ensures;
       tested = read.tested c.args.words.now c.args.form c.args.k c.requires.1 row.ensures;
     }
 
@@ -20,7 +20,7 @@ unfolding telling
 returns-in-43 c =
     let row = c.clause_at-row in
     let read : ReadBy telling row.result _ = read_by telling (decodes 43 c.in-43.is (prefix_decoded _ _)) (λ ws ts. refl) in record {
-      by_index = λ ts. read.means c.args.words.now ts c.args.k row.ensures;
+      means_telling = λ ts. read.means c.args.words.now ts c.args.k row.ensures;
       tested = read.tested c.args.words.now c.args.form c.args.k c.requires.1 row.ensures;
     }
 
@@ -28,6 +28,6 @@ pub returns-in_default : goal.returns-in_default
 returns-in_default c =
     let row = c.clause_at-row in
     let read : ReadBy telling row.result _ = never_by telling (telling_few _ c.in_default.in_default-own.rest) in record {
-      by_index = λ ts. read.means c.args.words.now ts c.args.k row.ensures;
+      means_telling = λ ts. read.means c.args.words.now ts c.args.k row.ensures;
       tested = read.tested c.args.words.now c.args.form c.args.k c.requires.1 row.ensures;
     }

@@ -11,7 +11,7 @@ unfolding told
 returns-in-42 c =
     let row = c.clause_at-row in
     let read : ReadBy told row.result _ = read_by told (decodes 42 c.in-42.is (additional_decoded _ _)) (λ ws ts. refl) in record {
-      by_index = λ ts. read.means c.args.words.now ts c.args.k row.ensures;
+      means_told = λ ts. read.means c.args.words.now ts c.args.k row.ensures;
       tested = read.tested c.args.words.now c.args.form c.args.k c.requires.1 row.ensures;
     }
 
@@ -20,7 +20,7 @@ unfolding told
 returns-in-44 c =
     let row = c.clause_at-row in
     let read : ReadBy told row.result _ = read_by told (decodes 44 c.in-44.is (items_decoded _ _)) (λ ws ts. refl) in record {
-      by_index = λ ts. read.means c.args.words.now ts c.args.k row.ensures;
+      means_told = λ ts. read.means c.args.words.now ts c.args.k row.ensures;
       tested = read.tested c.args.words.now c.args.form c.args.k c.requires.1 row.ensures;
     }
 
@@ -28,6 +28,6 @@ pub returns-in_default : goal.returns-in_default
 returns-in_default c =
     let row = c.clause_at-row in
     let read : ReadBy told row.result _ = never_by told (told_few _ c.in_default.in_default-own.rest) in record {
-      by_index = λ ts. read.means c.args.words.now ts c.args.k row.ensures;
+      means_told = λ ts. read.means c.args.words.now ts c.args.k row.ensures;
       tested = read.tested c.args.words.now c.args.form c.args.k c.requires.1 row.ensures;
     }

@@ -13,13 +13,13 @@ pub finish_in-requires : goal.finish_in-requires
 finish_in-requires c =
     let asked = c.requires in record {
       laid = asked.laid;
-      rules_laid = (asked.rules_read.0.laid, (words_read asked.rules_read.0 asked.rules_read.1 asked.rules_read.2 asked.row_value c.sparing_by-clause.ensures).tested);
+      rules_laid = (asked.rules_read.0.laid, (words_read asked.rules_read.0 asked.rules_read.1 asked.rules_read.2 asked.row_is_clause_words c.sparing_by-clause.ensures).tested);
     }
 
 pub returns : goal.returns
 returns c =
     let asked = c.requires in
-    let read = words_read asked.rules_read.0 asked.rules_read.1 asked.rules_read.2 asked.row_value c.sparing_by-clause.ensures in
+    let read = words_read asked.rules_read.0 asked.rules_read.1 asked.rules_read.2 asked.row_is_clause_words c.sparing_by-clause.ensures in
     let p = pair_is c.args.p in
     λ ts.
     let doc = doc_of c.args.«record».now ts in

@@ -6,8 +6,8 @@ use Rattle.judge.proofs.judge_by_record.Goals as goal
 
 pub judge_checked-requires : goal.judge_checked-requires
 judge_checked-requires c = record {
-  text_value = sym c.check_record.ensures ∙ ap outcome_of c.in-Accepted.is;
-  checked_value = c.check_rules-checked.ensures;
+  record_accepted = sym c.check_record.ensures ∙ ap outcome_of c.in-Accepted.is;
+  checked_is_rules_outcome = c.check_rules-checked.ensures;
 }
 
 pub returns-in-Refused : goal.returns-in-Refused

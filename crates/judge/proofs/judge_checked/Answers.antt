@@ -6,10 +6,10 @@ use Rattle.judge.proofs.judge_checked.Goals as goal
 
 pub judge_in_areas-requires : goal.judge_in_areas-requires
 judge_in_areas-requires c = record {
-  text_value = c.requires.text_value;
-  rule_text_value = sym c.requires.checked_value ∙ ap outcome_of c.in-Accepted.is;
+  text_value = c.requires.record_accepted;
+  rule_text_value = sym c.requires.checked_is_rules_outcome ∙ ap outcome_of c.in-Accepted.is;
 }
 
 pub returns-in-Refused : goal.returns-in-Refused
 returns-in-Refused c =
-    sym (rules_refused _ _ _ _ _ _ _ _ c.requires.text_value _ _ (sym c.requires.checked_value ∙ ap outcome_of c.in-Refused.is))
+    sym (rules_refused _ _ _ _ _ _ _ _ c.requires.record_accepted _ _ (sym c.requires.checked_is_rules_outcome ∙ ap outcome_of c.in-Refused.is))

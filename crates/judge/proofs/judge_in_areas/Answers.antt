@@ -36,7 +36,7 @@ of-rule_form-requires c = rules_trailer c.args.«record».now c.args.text.now c.
 
 pub run-v-requires : goal.run-v-requires
 run-v-requires c = record {
-  sheets = sheets_read c.args.«record».now c.args.text.now c.args.rules.now c.args.rule_text.now c.args.n c.args.m c.requires.text_value c.requires.rule_text_value c.of-form.ensures c.of-rule_form.ensures;
+  sheets_read = sheets_read c.args.«record».now c.args.text.now c.args.rules.now c.args.rule_text.now c.args.n c.args.m c.requires.text_value c.requires.rule_text_value c.of-form.ensures c.of-rule_form.ensures;
   roomy = call_roomy c.args.«record».now c.args.text.now c.args.rules.now c.args.rule_text.now c.args.n c.args.m c.requires.text_value c.requires.rule_text_value (way_by c.args.cut) c.wide-size.ensures c.list_room.ensures c.if-cells-size.false c.if-list-list_room.false;
 }
 

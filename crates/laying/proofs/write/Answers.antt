@@ -65,7 +65,7 @@ write_sheet-requires c =
     let short = bytes_few a.json.now a.values.now a.texts.now p c.requires.json_len_bound in record {
       writable = writable a.json.now a.values.now a.texts.now p n.result m.result n.new.starts m.new.starts a.words.now a.text.now
           n.ensures.0 m.ensures.0 n.ensures.1 m.ensures.1 (search rules) (search rules) c.if-words-needed.false c.if-text-size.false;
-      json_len_bound = (c.requires.json_len_bound, omega (arith, n.ensures.0, few), omega (arith, m.ensures.0, short));
+      sizes_bounded = (c.requires.json_len_bound, omega (arith, n.ensures.0, few), omega (arith, m.ensures.0, short));
     }
 
 pub returns : goal.returns

@@ -7,12 +7,12 @@ use Rattle.lent.proofs.next_clause.Goals as goal
 
 pub returns-then-goes_on : goal.returns-then-goes_on
 returns-then-goes_on c = record {
-  value = ap (λ b. cond b (c.args.i + 1) c.args.many) (sym c.if-goes_on.true ∙ c.goes_on.ensures);
-  lower_bound = (omega arith, omega (arith, c.requires));
+  next_or_end = ap (λ b. cond b (c.args.i + 1) c.args.many) (sym c.if-goes_on.true ∙ c.goes_on.ensures);
+  onward_within_many = (omega arith, omega (arith, c.requires));
 }
 
 pub returns-else-goes_on : goal.returns-else-goes_on
 returns-else-goes_on c = record {
-  value = ap (λ b. cond b (c.args.i + 1) c.args.many) (sym c.if-goes_on.false ∙ c.goes_on.ensures);
-  lower_bound = (omega (arith, c.requires), omega arith);
+  next_or_end = ap (λ b. cond b (c.args.i + 1) c.args.many) (sym c.if-goes_on.false ∙ c.goes_on.ensures);
+  onward_within_many = (omega (arith, c.requires), omega arith);
 }

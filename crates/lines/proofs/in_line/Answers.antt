@@ -13,7 +13,7 @@ use Rattle.lines.proofs.in_line.Goals as goal
 pub returns-then-at-eq0 : goal.returns-then-at-eq0
 returns-then-at-eq0 c =
     let none : c.args.count + 0 ≡ c.args.count = omega arith in
-    λ d A. rw none (standing_first c.requires.ready c.requires.unsettled.0 d A)
+    λ d A. rw none (standing_first c.requires.ready c.requires.unsettled_at_clause.0 d A)
 
 pub plain_rows-n-requires : goal.plain_rows-n-requires
 plain_rows-n-requires c =
@@ -22,12 +22,12 @@ plain_rows-n-requires c =
     let room = cells_room R in
     let some = c.if-at-eq0.false in
     let row : RecordRow = record { 0 = c.line-at.result.first } in
-    let few : c.line-at.result.count < 4294967296 = omega (arith, c.line-at.ensures.count_bound, R.fit.rows.few) in
-    let Z = standing_first R c.requires.unsettled.0 R.done R.areas in
-    let has = clause_has c.requires.lent.sheets R.inside c.requires.unsettled.1 in
+    let few : c.line-at.result.count < 4294967296 = omega (arith, c.line-at.ensures.rows_inside, R.fit.rows.few) in
+    let Z = standing_first R c.requires.unsettled_at_clause.0 R.done R.areas in
+    let has = clause_has c.requires.lent.sheets R.inside c.requires.unsettled_at_clause.1 in
     let inside = (line_aim T (pair_is c.args.p) c.args.i c.line-at.ensures.in_line few {k = 0} (omega arith) {row = row} {rule = c.line-at.result.rule} (omega arith) refl Z has).inside in record {
-      lent = (c.requires.lent, c.line-at.ensures.count_bound, inside.rule_in);
-      forms_in_bounds = (room.0, room.1);
+      lent_rows_inside = (c.requires.lent, c.line-at.ensures.rows_inside, inside.rule_in);
+      table_in_cells = (room.0, room.1);
     }
 
 pub settle_line-requires : goal.settle_line-requires
@@ -38,7 +38,7 @@ settle_line-requires c =
     let L = line_fewer {D = T.doc} {p = p} {before = before_of T p c.args.i} {c = clause_at T p c.args.i} found.0 c.line-at.ensures.in_line in record {
       lent = c.requires.lent;
       ready = c.requires.ready;
-      unsettled = c.requires.unsettled;
+      unsettled = c.requires.unsettled_at_clause;
       in_line = L;
-      rows_pass = (found.1, omega (arith, found.0, c.line-at.ensures.count_bound));
+      rows_pass = (found.1, omega (arith, found.0, c.line-at.ensures.rows_inside));
     }

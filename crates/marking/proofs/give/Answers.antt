@@ -29,8 +29,8 @@ pub add_marks-requires : goal.add_marks-requires
 add_marks-requires c =
     let ts = (lent c.args.texts.now 0) in
     let K = c.children_of-kids.ensures in record {
-      writes = rw (c.schemas_of-m.ensures ∙ schemas_lent c.requires.reads.all, K.first_is ts, K.count_is ts) c.requires.hands.writes;
-      count_bound = kids_small ts (lent_sheets c.requires.reads.all.sheets (record_lent c.requires.reads.all c.record_form-form.ensures) refl) c.requires.reads.inside K (omega arith);
+      columns_in_cells = rw (c.schemas_of-m.ensures ∙ schemas_lent c.requires.reads.all, K.first_is ts, K.count_is ts) c.requires.hands.writes;
+      kids_end_fits = kids_small ts (lent_sheets c.requires.reads.all.sheets (record_lent c.requires.reads.all c.record_form-form.ensures) refl) c.requires.reads.inside K (omega arith);
     }
 
 pub write_mark-requires : goal.write_mark-requires

@@ -16,8 +16,8 @@ range_at-other-requires c =
 
 pub same_part-requires : goal.same_part-requires
 same_part-requires c = record {
-  p_value = rw c.range_at-other.ensures (c.requires.0.fitting _ (omega (arith, c.requires.1)));
-  q_value = rw c.range_at-name.ensures (c.requires.0.fitting _ c.requires.1);
+  p_fits = rw c.range_at-other.ensures (c.requires.0.fitting _ (omega (arith, c.requires.1)));
+  q_fits = rw c.range_at-name.ensures (c.requires.0.fitting _ c.requires.1);
 }
 
 pub returns-then-same_part : goal.returns-then-same_part

@@ -12,7 +12,7 @@ loop-i-init c =
 
 pub judge_listed-requires : goal.judge_listed-requires
 judge_listed-requires c = record {
-  inside = record { listed = omega (arith, c.loop-i.invariant.0); within = c.requires.tested.all_within c.loop-i.i (omega (arith, c.loop-i.invariant.0)) };
+  record_listed = record { listed = omega (arith, c.loop-i.invariant.0); within = c.requires.tested.all_within c.loop-i.i (omega (arith, c.loop-i.invariant.0)) };
   rules_checked = c.requires.rules_checked;
 }
 

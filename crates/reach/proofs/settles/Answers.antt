@@ -10,8 +10,8 @@ use Rattle.reach.proofs.settles.Goals as goal
 
 pub range_is_utf8-requires : goal.range_is_utf8-requires
 range_is_utf8-requires c = record {
-  text_value = c.requires.0.whole_is c.if-whole.true;
-  range_value = c.requires.1;
+  text_is_utf8 = c.requires.0.whole_is c.if-whole.true;
+  range_fits = c.requires.1;
 }
 
 pub reach_of-to-requires : goal.reach_of-to-requires
@@ -32,8 +32,8 @@ slice_bounds-range_is_utf8-end c = omega (arith, c.reach_of-to.ensures.room)
 pub range_is_utf8-requires-2 : goal.range_is_utf8-requires-2
 unfolding part
 range_is_utf8-requires-2 c = record {
-  text_value = c.reach_of-to.ensures.good;
-  range_value = front_fits _ _ c.requires.1 _ c.reach_of-to.ensures (omega arith);
+  text_is_utf8 = c.reach_of-to.ensures.good;
+  range_fits = front_fits _ _ c.requires.1 _ c.reach_of-to.ensures (omega arith);
 }
 
 pub returns : goal.returns

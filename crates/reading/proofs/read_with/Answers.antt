@@ -6,7 +6,7 @@ use Rattle.reading.proofs.read_with.Goals as goal
 
 pub refusal_of-refusal-requires : goal.refusal_of-refusal-requires
 refusal_of-refusal-requires c = record {
-  json_len_bound = c.requires;
+  short_and_lent = c.requires;
   blank = record { values_blank = refl; texts_blank = refl; objects_blank = refl };
 }
 

@@ -7,11 +7,11 @@ use Rattle.recordcall.proofs.judge_listed.Goals as goal
 
 pub words_of-record-requires : goal.words_of-record-requires
 words_of-record-requires c =
-    rw c.words_at.ensures (words_inside (length c.args.words.now) (length c.args.bytes.now) c.args.listing.now c.args.i c.requires.inside.within)
+    rw c.words_at.ensures (words_inside (length c.args.words.now) (length c.args.bytes.now) c.args.listing.now c.args.i c.requires.record_listed.within)
 
 pub bytes_of-text-requires : goal.bytes_of-text-requires
 bytes_of-text-requires c =
-    rw c.text_at.ensures (text_inside (length c.args.words.now) (length c.args.bytes.now) c.args.listing.now c.args.i c.requires.inside.within)
+    rw c.text_at.ensures (text_inside (length c.args.words.now) (length c.args.bytes.now) c.args.listing.now c.args.i c.requires.record_listed.within)
 
 pub number_of-requires : goal.number_of-requires
 number_of-requires c =

@@ -31,7 +31,7 @@ overflow_add-end c = omega (arith, (leb-true (c.schema_at-row.result.first + c.s
 pub pass_schema-pass-requires : goal.pass_schema-pass-requires
 pass_schema-pass-requires c = record {
   rules_formed = (c.requires.0, c.requires.1, (leb-true (c.schema_at-row.result.first + c.schema_at-row.result.count) c.args.form.c (right (eqb c.schema_at-row.result.first c.loop-s.k) (leb (c.schema_at-row.result.first + c.schema_at-row.result.count) c.args.form.c) (rw (c.wide.ensures, c.wide-in-loop-s.ensures, c.wide-in-loop-s-2.ensures) at (not-false (eqb c.schema_at-row.result.first c.loop-s.k && leb (c.wide.result + c.wide-in-loop-s.result) c.wide-in-loop-s-2.result) c.if-not-first-k.false-raw)))));
-  first_value = (ap (λ (x : SchemaRow). x.first) c.schema_at-row.ensures, ap (λ (n : ℕ). c.schema_at-row.result.first + n) (ap (λ (x : SchemaRow). x.count) c.schema_at-row.ensures), c.loop-s.invariant.3.next ∙ ap (list_start c.args.words.now) (sym (eqb-true c.schema_at-row.result.first c.loop-s.k (left (eqb c.schema_at-row.result.first c.loop-s.k) (leb (c.schema_at-row.result.first + c.schema_at-row.result.count) c.args.form.c) (rw (c.wide.ensures, c.wide-in-loop-s.ensures, c.wide-in-loop-s-2.ensures) at (not-false (eqb c.schema_at-row.result.first c.loop-s.k && leb (c.wide.result + c.wide-in-loop-s.result) c.wide-in-loop-s-2.result) c.if-not-first-k.false-raw))))));
+  clauses_of_schema = (ap (λ (x : SchemaRow). x.first) c.schema_at-row.ensures, ap (λ (n : ℕ). c.schema_at-row.result.first + n) (ap (λ (x : SchemaRow). x.count) c.schema_at-row.ensures), c.loop-s.invariant.3.next ∙ ap (list_start c.args.words.now) (sym (eqb-true c.schema_at-row.result.first c.loop-s.k (left (eqb c.schema_at-row.result.first c.loop-s.k) (leb (c.schema_at-row.result.first + c.schema_at-row.result.count) c.args.form.c) (rw (c.wide.ensures, c.wide-in-loop-s.ensures, c.wide-in-loop-s-2.ensures) at (not-false (eqb c.schema_at-row.result.first c.loop-s.k && leb (c.wide.result + c.wide-in-loop-s.result) c.wide-in-loop-s-2.result) c.if-not-first-k.false-raw))))));
 }
 
 pub returns-then-not-pass : goal.returns-then-not-pass

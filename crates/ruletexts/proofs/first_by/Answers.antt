@@ -20,7 +20,7 @@ clause_at-clause-requires c = (c.requires.0.clauses_laid.schemas_laid.formed, om
 pub first_in-bad-requires : goal.first_in-bad-requires
 first_in-bad-requires c = record {
   rules_laid = (c.requires.0, c.requires.1, c.requires.2);
-  k_lt_c = (omega arith, (told is_list (fields_read c.args.words.now c.loop-k.k c.clause_at-clause.ensures c.shape_of-shape.ensures) c.is_list.ensures c.if-is_list.true));
+  clause_listed = (omega arith, (told is_list (fields_read c.args.words.now c.loop-k.k c.clause_at-clause.ensures c.shape_of-shape.ensures) c.is_list.ensures c.if-is_list.true));
 }
 
 pub overflow_add-clause : goal.overflow_add-clause

@@ -9,7 +9,7 @@ clauses_of-many-requires c =
 
 pub plain-passed-requires : goal.plain-passed-requires
 plain-passed-requires c = record {
-  reads = (reads_by c.requires.lent c.requires.ready.inside, c.clauses_of-many.ensures);
+  reads_all_clauses = (reads_by c.requires.lent c.requires.ready.inside, c.clauses_of-many.ensures);
   unsettled = c.requires.unsettled;
 }
 

@@ -17,30 +17,30 @@ part_room {T} R e f = omega (arith, R.list_long, f ∙ ap (list_room T.way) e)
 
 pub overflow_mul-k : goal.overflow_mul-k
 overflow_mul-k c =
-    omega (arith, size_fits c.requires.sheets c.requires.roomy.fit c.wide.ensures c.wide-2.ensures)
+    omega (arith, size_fits c.requires.sheets_read c.requires.roomy.fit c.wide.ensures c.wide-2.ensures)
 
 pub slice_bounds-run_exact-end : goal.slice_bounds-run_exact-end
 slice_bounds-run_exact-end c =
-    let e = (size_is c.requires.sheets c.wide.ensures c.wide-2.ensures) in let h = c.requires.roomy.cells_long in omega arith
+    let e = (size_is c.requires.sheets_read c.wide.ensures c.wide-2.ensures) in let h = c.requires.roomy.cells_long in omega arith
 
 pub slice_bounds-run_exact-end-2 : goal.slice_bounds-run_exact-end-2
 slice_bounds-run_exact-end-2 c =
-    sym (length-take-le _ _ (let e = (size_is c.requires.sheets c.wide.ensures c.wide-2.ensures) in let h = c.requires.roomy.cells_long in omega arith))
+    sym (length-take-le _ _ (let e = (size_is c.requires.sheets_read c.wide.ensures c.wide-2.ensures) in let h = c.requires.roomy.cells_long in omega arith))
 
 pub slice_bounds-run_exact-end-3 : goal.slice_bounds-run_exact-end-3
 slice_bounds-run_exact-end-3 c =
-    part_room c.requires.roomy (size_is c.requires.sheets c.wide.ensures c.wide-2.ensures) c.list_room.ensures
+    part_room c.requires.roomy (size_is c.requires.sheets_read c.wide.ensures c.wide-2.ensures) c.list_room.ensures
 
 pub slice_bounds-run_exact-end-4 : goal.slice_bounds-run_exact-end-4
 slice_bounds-run_exact-end-4 c =
-    sym (length-take-le _ _ (part_room c.requires.roomy (size_is c.requires.sheets c.wide.ensures c.wide-2.ensures) c.list_room.ensures))
+    sym (length-take-le _ _ (part_room c.requires.roomy (size_is c.requires.sheets_read c.wide.ensures c.wide-2.ensures) c.list_room.ensures))
 
 pub run_exact-requires : goal.run_exact-requires
 run_exact-requires c = record {
-  sheets = c.requires.sheets;
-  exact = part_exact (size_is c.requires.sheets c.wide.ensures c.wide-2.ensures) c.list_room.ensures c.requires.roomy;
+  sheets = c.requires.sheets_read;
+  exact = part_exact (size_is c.requires.sheets_read c.wide.ensures c.wide-2.ensures) c.list_room.ensures c.requires.roomy;
 }
 
 pub returns : goal.returns
 returns c =
-    part_judged c.run_exact.result (size_is c.requires.sheets c.wide.ensures c.wide-2.ensures) c.list_room.ensures c.requires.roomy c.run_exact.ensures
+    part_judged c.run_exact.result (size_is c.requires.sheets_read c.wide.ensures c.wide-2.ensures) c.list_room.ensures c.requires.roomy c.run_exact.ensures

@@ -25,8 +25,8 @@ children_of-kids-requires c =
 pub marked_of-marked-requires : goal.marked_of-marked-requires
 marked_of-marked-requires c =
     let ts = c.args.text.now in record {
-      writes = rw (c.wide.ensures ∙ schemas_are c.requires.sheets, c.children_of-kids.ensures.first_is ts, c.children_of-kids.ensures.count_is ts) (root_writes (cleared_fresh c.requires.exact c.clear.ensures) (rw (way_lent_lem (way_by c.args.cut) c.forms_of-forms.ensures) at c.judge_root-count.ensures) c.requires.exact.fit);
-      count_bound = kids_small ts c.requires.sheets (root_ready {t = 0} (cleared_fresh c.requires.exact c.clear.ensures)).inside c.children_of-kids.ensures (omega arith);
+      columns_in_cells = rw (c.wide.ensures ∙ schemas_are c.requires.sheets, c.children_of-kids.ensures.first_is ts, c.children_of-kids.ensures.count_is ts) (root_writes (cleared_fresh c.requires.exact c.clear.ensures) (rw (way_lent_lem (way_by c.args.cut) c.forms_of-forms.ensures) at c.judge_root-count.ensures) c.requires.exact.fit);
+      kids_end_fits = kids_small ts c.requires.sheets (root_ready {t = 0} (cleared_fresh c.requires.exact c.clear.ensures)).inside c.children_of-kids.ensures (omega arith);
     }
 
 pub returns : goal.returns

@@ -19,7 +19,7 @@ finish_of-requires c =
     let S = lent_sheets c.requires.0.reads.all.sheets (record_lent c.requires.0.reads.all c.record_form-form.ensures) (rules_lent c.requires.0.reads.all c.rules_form-rule_form.ensures) in record {
       laid = (S.record_read.laid, row_low S c.requires.0.reads.inside);
       rules_read = (S.rules_read, rule_low S c.requires.0.reads.inside, c.requires.0.clause_inside);
-      row_value = c.requires.1;
+      row_is_clause_words = c.requires.1;
     }
 
 pub returns : goal.returns

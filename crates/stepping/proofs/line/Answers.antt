@@ -21,6 +21,6 @@ returns c =
     let S = lent_sheets A.reads.all.sheets (record_lent A.reads.all c.record_form-form.ensures) refl in
     let asked : LineAsked (lent c.args.sheets.now 1) (lent c.args.texts.now 1) _ c.args.p c.args.i c.args.row c.args.from =
     record { rules_read = S.rules_read; rule_in = rule_low S A.reads.inside; clause_inside = A.clause_inside; row_is = c.requires.reads_clause.1; started = c.requires.started } in record {
-      in_line = c.line_of.ensures.by_index (lent c.args.texts.now 0) (lent c.args.sheets.now 1) (lent c.args.texts.now 1) _ asked;
-      count_bound = omega (arith, rows_are S, c.line_of.ensures.count_bound);
+      in_line = c.line_of.ensures.lined_in (lent c.args.texts.now 0) (lent c.args.sheets.now 1) (lent c.args.texts.now 1) _ asked;
+      rows_inside = omega (arith, rows_are S, c.line_of.ensures.rows_inside);
     }

@@ -21,7 +21,7 @@ after_miss-requires c =
     let A = c.requires.0 in
     let S = lent_sheets A.reads.all.sheets refl (rules_lent A.reads.all c.rules_form-rule_form.ensures) in record {
       rules_read = (S.rules_read, rule_low S A.reads.inside, A.clause_inside, c.requires.2);
-      row_value = c.requires.1;
+      row_is_clause_words = c.requires.1;
     }
 
 pub returns : goal.returns

@@ -20,7 +20,7 @@ overflow_add-result c =
 pub returns-then-byte-ne92 : goal.returns-then-byte-ne92
 returns-then-byte-ne92 c =
     let a = c.args in let json = a.json.now in let i = a.i in let w = a.waits in let s = c.requires.inside in record {
-      onward = λ (s : Inside json i w). rw c.put.ensures (raw_read json i w s a.at a.area.now c.requires.i_nonzero.0 c.if-byte-ne92.true);
+      onward = λ (s : Inside json i w). rw c.put.ensures (raw_read json i w s a.at a.area.now c.requires.not_at_quote.0 c.if-byte-ne92.true);
       further = omega arith;
     }
 
@@ -64,7 +64,7 @@ character_of-requires c =
 
 pub append-end-requires : goal.append-end-requires
 append-end-requires c =
-    let a = c.args in let json = a.json.now in let i = a.i in let w = a.waits in let s = c.requires.inside in (rw (c.character_of.ensures, c.code_at-code.ensures) (joined_low w (code_at json i) s.low (code_low json i w s c.if-byte-ne92.false c.if-next-ne117.false)), c.requires.i_nonzero.1)
+    let a = c.args in let json = a.json.now in let i = a.i in let w = a.waits in let s = c.requires.inside in (rw (c.character_of.ensures, c.code_at-code.ensures) (joined_low w (code_at json i) s.low (code_low json i w s c.if-byte-ne92.false c.if-next-ne117.false)), c.requires.not_at_quote.1)
 
 pub overflow_add-result-2 : goal.overflow_add-result-2
 overflow_add-result-2 c =

@@ -12,18 +12,18 @@ loop-i-init c =
 
 pub bounds-json-i : goal.bounds-json-i
 bounds-json-i c =
-    let a = c.args in in_text a.json.now c.loop-i.i c.loop-i.waits (c.loop-i.invariant.0 c.requires.inside).left
+    let a = c.args in in_text a.json.now c.loop-i.i c.loop-i.waits (c.loop-i.invariant.0 c.requires.string_goes_on).left
 
 pub atom-next-requires : goal.atom-next-requires
 atom-next-requires c =
-    let a = c.args in let o = c.loop-i.invariant.0 c.requires.inside in let l = in_text a.json.now c.loop-i.i c.loop-i.waits o.left in record {
+    let a = c.args in let o = c.loop-i.invariant.0 c.requires.string_goes_on in let l = in_text a.json.now c.loop-i.i c.loop-i.waits o.left in record {
       inside = o.left;
-      i_nonzero = (c.loop-i-test.true, omega (arith, o.no_longer, c.requires.from_bound.0, c.requires.from_bound.1));
+      not_at_quote = (c.loop-i-test.true, omega (arith, o.no_longer, c.requires.sizes_bounded.0, c.requires.sizes_bounded.1));
     }
 
 pub loop-i-smaller : goal.loop-i-smaller
 loop-i-smaller c =
-    let a = c.args in let o = c.loop-i.invariant.0 c.requires.inside in let l = in_text a.json.now c.loop-i.i c.loop-i.waits o.left in omega (arith, c.atom-next.ensures.further)
+    let a = c.args in let o = c.loop-i.invariant.0 c.requires.string_goes_on in let l = in_text a.json.now c.loop-i.i c.loop-i.waits o.left in omega (arith, c.atom-next.ensures.further)
 
 pub loop-i-preserved : goal.loop-i-preserved
 loop-i-preserved c =
@@ -31,7 +31,7 @@ loop-i-preserved c =
 
 pub overflow_add-result : goal.overflow_add-result
 overflow_add-result c =
-    let a = c.args in let o = c.loop-i.invariant.0 c.requires.inside in let l = in_text a.json.now c.loop-i.i c.loop-i.waits o.left in omega arith
+    let a = c.args in let o = c.loop-i.invariant.0 c.requires.string_goes_on in let l = in_text a.json.now c.loop-i.i c.loop-i.waits o.left in omega arith
 
 pub shape_of-area : goal.shape_of-area
 shape_of-area c =

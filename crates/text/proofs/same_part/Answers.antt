@@ -6,11 +6,11 @@ use Rattle.text.proofs.same_part.Goals as goal
 
 pub returns-then-p-q : goal.returns-then-p-q
 returns-then-p-q c =
-    sym (lengths_differ _ _ (λ e. c.if-p-q.true (sym (part_length _ _ c.requires.p_value) ∙ e ∙ part_length _ _ c.requires.q_value)))
+    sym (lengths_differ _ _ (λ e. c.if-p-q.true (sym (part_length _ _ c.requires.p_fits) ∙ e ∙ part_length _ _ c.requires.q_fits)))
 
 pub same_bytes-requires : goal.same_bytes-requires
 same_bytes-requires c =
-    rw (c.bytes_of-x.ensures, c.bytes_of-y.ensures, part_length _ _ c.requires.p_value, part_length _ _ c.requires.q_value) c.if-p-q.false
+    rw (c.bytes_of-x.ensures, c.bytes_of-y.ensures, part_length _ _ c.requires.p_fits, part_length _ _ c.requires.q_fits) c.if-p-q.false
 
 pub returns : goal.returns
 returns c = rw (c.bytes_of-x.ensures, c.bytes_of-y.ensures) at c.same_bytes.ensures

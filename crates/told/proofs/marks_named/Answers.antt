@@ -12,7 +12,7 @@ pub returns-then-applies : goal.returns-then-applies
 returns-then-applies c =
     λ us.
     let applied = c.applies.ensures c.args.rules.now us c.args.k (c.requires.0.clauses_laid.clauses_fine _ c.requires.1) c.clause_at.ensures in
-    applied_marks (clause_of c.args.rules.now us c.args.k) _ (sym applied ∙ c.if-applies.true) (c.telling_of.ensures.by_index us) (c.has_names.ensures c.args.rules.now us)
+    applied_marks (clause_of c.args.rules.now us c.args.k) _ (sym applied ∙ c.if-applies.true) (c.telling_of.ensures.means_telling us) (c.has_names.ensures c.args.rules.now us)
 
 pub returns : goal.returns
 returns c =

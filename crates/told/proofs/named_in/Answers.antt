@@ -23,8 +23,8 @@ entry_name-name-requires c =
 
 pub same_part-requires : goal.same_part-requires
 same_part-requires c = record {
-  p_value = rw c.requires.record_read.0.text_length c.name_of-own.ensures.name_fits;
-  q_value = rw c.requires.rules_read.0.text_length (c.entry_name-name.ensures.name_fits Members refl c.requires.rules_read.1.listed);
+  p_fits = rw c.requires.record_read.0.text_length c.name_of-own.ensures.name_fits;
+  q_fits = rw c.requires.rules_read.0.text_length (c.entry_name-name.ensures.name_fits Members refl c.requires.rules_read.1.listed);
 }
 
 pub returns-then-same_part : goal.returns-then-same_part
@@ -41,8 +41,8 @@ entry_name-name-requires-in-loop-i c =
 
 pub same_part-requires-in-loop-i : goal.same_part-requires-in-loop-i
 same_part-requires-in-loop-i c = record {
-  p_value = rw c.requires.record_read.0.text_length c.name_of-own.ensures.name_fits;
-  q_value = rw c.requires.rules_read.0.text_length (c.entry_name-name-in-loop-i.ensures.name_fits Members refl c.requires.rules_read.1.listed);
+  p_fits = rw c.requires.record_read.0.text_length c.name_of-own.ensures.name_fits;
+  q_fits = rw c.requires.rules_read.0.text_length (c.entry_name-name-in-loop-i.ensures.name_fits Members refl c.requires.rules_read.1.listed);
 }
 
 pub returns-then-same_part-2 : goal.returns-then-same_part-2

@@ -29,7 +29,7 @@ returns-then-has_names c = record {
 
 pub loop-k-preserved : goal.loop-k-preserved
 loop-k-preserved c =
-    (omega arith, λ us. names_more c.args.rules.now us c.args.first c.loop-k.k _ (c.telling_of.ensures.by_index us) (c.loop-k.invariant.1 us) (unnaming _ (sym (c.has_names.ensures c.args.rules.now us) ∙ c.if-has_names.false)))
+    (omega arith, λ us. names_more c.args.rules.now us c.args.first c.loop-k.k _ (c.telling_of.ensures.means_telling us) (c.loop-k.invariant.1 us) (unnaming _ (sym (c.has_names.ensures c.args.rules.now us) ∙ c.if-has_names.false)))
 
 pub returns : goal.returns
 returns c = record {

@@ -33,7 +33,7 @@ overflow_add-elements c =
 pub loop-k-preserved : goal.loop-k-preserved
 loop-k-preserved c =
     let small = c.prefix_of-elements.ensures.upper_bound c.args.form (c.telling_of.ensures.tested.bounded c.requires.0.clauses_laid) in
-    (omega arith, omega (arith, entries_few c.requires.0), λ us. prefix_more c.args.rules.now us c.args.first c.loop-k.k _ (c.telling_of.ensures.by_index us) _ _ (c.loop-k.invariant.2 us) (c.prefix_of-elements.ensures.by_index c.args.rules.now us))
+    (omega arith, omega (arith, entries_few c.requires.0), λ us. prefix_more c.args.rules.now us c.args.first c.loop-k.k _ (c.telling_of.ensures.means_telling us) _ _ (c.loop-k.invariant.2 us) (c.prefix_of-elements.ensures.by_index c.args.rules.now us))
 
 pub returns : goal.returns
 returns c = record {

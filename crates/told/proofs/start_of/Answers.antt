@@ -29,5 +29,5 @@ start_in-requires c =
 pub returns : goal.returns
 returns c =
     let asked = c.requires in
-    let read = (clause_read asked.0 asked.1 (ap (λ (row : SchemaRow). row.first) c.schema_at-first.ensures) asked.2 told c.told_of-clause.ensures.by_index c.told_of-clause.ensures.tested) in
+    let read = (clause_read asked.0 asked.1 (ap (λ (row : SchemaRow). row.first) c.schema_at-first.ensures) asked.2 told c.told_of-clause.ensures.means_told c.told_of-clause.ensures.tested) in
     told_started (clause_in c.args.rules.now c.args.rule_text.now c.args.s.0 c.args.i) (subst (λ x. Started (before_in c.args.rules.now c.args.rule_text.now c.args.s.0 c.args.i) x c.start_in.result) read.means (c.start_in.ensures c.args.rule_text.now))

@@ -9,7 +9,7 @@ use Rattle.told.proofs.unnamed_in.Goals as goal
 
 pub loop-k-init : goal.loop-k-init
 loop-k-init c =
-    (omega arith, unnamed_from (doc_of c.args.«record».now c.args.text.now) c.args.row.0 _ _ _ (c.requires.rules_read.0.laid, c.requires.rules_read.1, c.requires.rules_read.2, c.requires.rules_read.3) c.args.rule_text.now c.args.from c.requires.from_le_i.0 c.requires.from_le_i.1)
+    (omega arith, unnamed_from (doc_of c.args.«record».now c.args.text.now) c.args.row.0 _ _ _ (c.requires.rules_read.0.laid, c.requires.rules_read.1, c.requires.rules_read.2, c.requires.rules_read.3) c.args.rule_text.now c.args.from c.requires.none_named_before_from.0 c.requires.none_named_before_from.1)
 
 pub overflow_add-first : goal.overflow_add-first
 overflow_add-first c =
@@ -27,11 +27,11 @@ clause_names-requires c = record {
 
 pub returns-then-clause_names : goal.returns-then-clause_names
 returns-then-clause_names c =
-    unnamed_is (doc_of c.args.«record».now c.args.text.now) c.args.row.0 _ _ _ (c.requires.rules_read.0.laid, c.requires.rules_read.1, c.requires.rules_read.2, c.requires.rules_read.3) c.args.rule_text.now true (named_here_lem (doc_of c.args.«record».now c.args.text.now) c.args.row.0 c.args.rules.now c.args.rule_text.now c.args.first c.loop-k.k _ (c.telling_of-clause.ensures.by_index c.args.rule_text.now) _ c.clause_names.ensures c.args.i (omega arith) c.if-clause_names.true)
+    unnamed_is (doc_of c.args.«record».now c.args.text.now) c.args.row.0 _ _ _ (c.requires.rules_read.0.laid, c.requires.rules_read.1, c.requires.rules_read.2, c.requires.rules_read.3) c.args.rule_text.now true (named_here_lem (doc_of c.args.«record».now c.args.text.now) c.args.row.0 c.args.rules.now c.args.rule_text.now c.args.first c.loop-k.k _ (c.telling_of-clause.ensures.means_telling c.args.rule_text.now) _ c.clause_names.ensures c.args.i (omega arith) c.if-clause_names.true)
 
 pub loop-k-preserved : goal.loop-k-preserved
 loop-k-preserved c =
-    (omega arith, unnamed_more (doc_of c.args.«record».now c.args.text.now) c.args.row.0 c.args.rules.now c.args.rule_text.now c.args.first c.loop-k.k _ (c.telling_of-clause.ensures.by_index c.args.rule_text.now) _ c.clause_names.ensures c.loop-k.invariant.1 c.if-clause_names.false)
+    (omega arith, unnamed_more (doc_of c.args.«record».now c.args.text.now) c.args.row.0 c.args.rules.now c.args.rule_text.now c.args.first c.loop-k.k _ (c.telling_of-clause.ensures.means_telling c.args.rule_text.now) _ c.clause_names.ensures c.loop-k.invariant.1 c.if-clause_names.false)
 
 pub returns : goal.returns
 returns c =

@@ -24,7 +24,7 @@ loop-spot-init c =
     let words = a.words.now in
     let text = a.text.now in
     let w₀ = c.requires.writable in
-    let e = c.clear_rows.ensures in ((λ (s : Reading json 0 0). going_none a.n json 0 (desk_of 0 0 0 rows bytes _ text) s), rw e (text_ready json a.n a.size rows bytes words text w₀ (omega (arith, c.requires.json_len_bound.1)) c.requires.json_len_bound.2), refl, refl, refl, refl)
+    let e = c.clear_rows.ensures in ((λ (s : Reading json 0 0). going_none a.n json 0 (desk_of 0 0 0 rows bytes _ text) s), rw e (text_ready json a.n a.size rows bytes words text w₀ (omega (arith, c.requires.sizes_bounded.1)) c.requires.sizes_bounded.2), refl, refl, refl, refl)
 
 pub turn-spot-requires : goal.turn-spot-requires
 turn-spot-requires c =
@@ -35,7 +35,7 @@ turn-spot-requires c =
     let words = a.words.now in
     let text = a.text.now in
     let w₀ = c.requires.writable in
-    let l = c.requires.json_len_bound in
+    let l = c.requires.sizes_bounded in
     let inv = c.loop-spot.invariant in record {
       reading = (inv.0 (text_read json a.n a.size rows bytes words text w₀)).left;
       ready_2 = inv.1;
@@ -68,7 +68,7 @@ loop-spot-preserved c =
 pub finish-requires : goal.finish-requires
 finish-requires c =
     let w₀ = c.requires.writable in
-    let l = c.requires.json_len_bound in
+    let l = c.requires.sizes_bounded in
     (omega (arith, w₀.words_fit), l.1)
 
 pub shape_of-rows : goal.shape_of-rows

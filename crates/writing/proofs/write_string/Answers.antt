@@ -33,8 +33,8 @@ copy_string-end-requires c =
     let d : Desk = desk_of k a.spot.start a.spot.size rows bytes words text in
     let ok = c.requires.ready_2 in
     let l = c.requires.at_in_bounds in record {
-      inside = string_at a.n json i d c.requires.reading l.0 l.2;
-      from_bound = (omega (arith, ok.bytes_low k, l.0, l.1), omega (arith, l.1));
+      string_goes_on = string_at a.n json i d c.requires.reading l.0 l.2;
+      sizes_bounded = (omega (arith, ok.bytes_low k, l.0, l.1), omega (arith, l.1));
     }
 
 pub overflow_cast-size : goal.overflow_cast-size

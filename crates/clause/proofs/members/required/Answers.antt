@@ -32,8 +32,8 @@ entry_name-name-requires c = (c.requires.rules_read.0.laid.clauses_laid.schemas_
 
 pub has_member-requires : goal.has_member-requires
 has_member-requires c = record {
-  record_read = (c.requires.record_read.0, c.requires.record_read.1, has_members ((doc_of c.args.«record».now c.args.text.now).value c.args.row.0) (sym (c.is_kind.ensures c.args.text.now) ∙ not-false _ c.if-not-is_kind.false-raw));
-  name_value = (rw c.requires.rules_read.0.text_length (c.entry_name-name.ensures.name_fits Names refl c.requires.rules_read.1.listed), c.children_of-members.ensures.count_is c.args.text.now);
+  object_read = (c.requires.record_read.0, c.requires.record_read.1, has_members ((doc_of c.args.«record».now c.args.text.now).value c.args.row.0) (sym (c.is_kind.ensures c.args.text.now) ∙ not-false _ c.if-not-is_kind.false-raw));
+  name_fits_members_counted = (rw c.requires.rules_read.0.text_length (c.entry_name-name.ensures.name_fits Names refl c.requires.rules_read.1.listed), c.children_of-members.ensures.count_is c.args.text.now);
 }
 
 pub returns-then-not-has_member : goal.returns-then-not-has_member

@@ -18,4 +18,4 @@ clause_of-requires c =
 pub returns : goal.returns
 returns c =
     let A = c.requires in
-    clause_read A.0 A.1 (ap (λ (row : SchemaRow). row.first) c.schema_at-first.ensures) A.2 (λ d. d) c.clause_of.ensures.by_index c.clause_of.ensures.tested
+    clause_read A.0 A.1 (ap (λ (row : SchemaRow). row.first) c.schema_at-first.ensures) A.2 (λ d. d) c.clause_of.ensures.means_clause c.clause_of.ensures.tested

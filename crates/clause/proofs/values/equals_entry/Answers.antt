@@ -20,8 +20,8 @@ returns-then-kind-eq-NUMBER c =
 
 pub same_part-requires : goal.same_part-requires
 same_part-requires c = record {
-  p_value = rw c.requires.record_read.0.text_length (string_in c.string_of.ensures c.args.text.now (eq-eqb _ _ (sym (c.number-kind.ensures ∙ ap kind_number (c.kind_of.ensures c.args.text.now)) ∙ c.if-kind-eq-STRING.true)));
-  q_value = entry_fits c.args.rule_text.now c.args.entry c.requires.value (sym c.if-kind-entry.false ∙ c.if-kind-eq-STRING.true);
+  p_fits = rw c.requires.record_read.0.text_length (string_in c.string_of.ensures c.args.text.now (eq-eqb _ _ (sym (c.number-kind.ensures ∙ ap kind_number (c.kind_of.ensures c.args.text.now)) ∙ c.if-kind-eq-STRING.true)));
+  q_fits = entry_fits c.args.rule_text.now c.args.entry c.requires.value (sym c.if-kind-entry.false ∙ c.if-kind-eq-STRING.true);
 }
 
 pub returns-then-kind-eq-STRING : goal.returns-then-kind-eq-STRING

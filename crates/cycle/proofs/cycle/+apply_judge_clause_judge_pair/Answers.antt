@@ -30,7 +30,7 @@ apply-clauses_of-many-requires t c =
 
 pub apply-plain-passed-requires : goal.apply-plain-passed-requires
 apply-plain-passed-requires t c = record {
-  reads = (reads_by c.requires.lent c.requires.ready.inside, c.clauses_of-many.ensures);
+  reads_all_clauses = (reads_by c.requires.lent c.requires.ready.inside, c.clauses_of-many.ensures);
   unsettled = (unsettled_by _ _ _ (rw (schemas_lent c.requires.lent) at c.verdict_of.ensures) c.if-verdict_of-ne0.false);
 }
 
@@ -107,7 +107,7 @@ judge_pair-next_clause-i-requires t c =
 pub judge_pair-loop-i-smaller : goal.judge_pair-loop-i-smaller
 judge_pair-loop-i-smaller t c =
     let h = c.loop-i-test.true in
-    let next = c.next_clause-i.ensures.lower_bound in
+    let next = c.next_clause-i.ensures.onward_within_many in
     omega (arith, next.0, next.1)
 
 pub judge_pair-loop-i-preserved : goal.judge_pair-loop-i-preserved
@@ -122,7 +122,7 @@ judge_pair-loop-i-preserved t c =
       judge_pair-then-applies w ↦ rw (w.cells-is, w.list-is, w.now-is) (claused_more L.claused (L.unstopped h) w.judge_clause-d.ensures w.ok-is)
     | judge_pair-else-applies w ↦ rw (w.cells-is, w.list-is, w.now-is) (claused_test L.claused (L.unstopped h) (tries_by T.doc c.args.p.row.0 (clause_at T (pair_is c.args.p) c.loop-i.i) (sym told ∙ w.if-applies.false) w.holds-ok.ensures) w.ok-is)
     ])
-    h c.next_clause-i.ensures.value
+    h c.next_clause-i.ensures.next_or_end
 
 pub judge_pair-shut-requires : goal.judge_pair-shut-requires
 judge_pair-shut-requires t c =
@@ -160,8 +160,8 @@ judge_clause-in_line-x-requires t c =
     let asked = c.requires in record {
       lent = asked.lent;
       ready = asked.ready;
-      unsettled = (asked.unsettled, asked.i_bound.0);
-      row_value = (asked.row_value, c.start-from.ensures);
+      unsettled_at_clause = (asked.unsettled, asked.i_bound.0);
+      row_read_and_started = (asked.row_value, c.start-from.ensures);
     }
 
 pub judge_clause-overflow_add-now : goal.judge_clause-overflow_add-now

@@ -8,8 +8,8 @@ name_of-requires c = (c.requires.record_read.0.laid, c.requires.record_read.1)
 
 pub same_part-requires : goal.same_part-requires
 same_part-requires c = record {
-  p_value = rw c.requires.record_read.0.text_length c.name_of.ensures.name_fits;
-  q_value = c.requires.name_value;
+  p_fits = rw c.requires.record_read.0.text_length c.name_of.ensures.name_fits;
+  q_fits = c.requires.name_value;
 }
 
 pub returns : goal.returns

@@ -23,7 +23,7 @@ first_repeated_in-again-requires c =
     let clause = c.clause_at-clause in
     let ws = c.args.words.now in record {
       rules_laid = (c.requires.0, c.requires.1);
-      k_lt_c = (omega arith, told is_named (fields_read ws c.loop-k.k clause.ensures c.shape_of-shape.ensures) c.is_named.ensures c.if-is_named.true);
+      clause_named = (omega arith, told is_named (fields_read ws c.loop-k.k clause.ensures c.shape_of-shape.ensures) c.is_named.ensures c.if-is_named.true);
     }
 
 pub overflow_add-clause : goal.overflow_add-clause

@@ -15,11 +15,11 @@ overflow_add-child c =
 
 pub entry_schema-schema-requires : goal.entry_schema-schema-requires
 entry_schema-schema-requires c =
-    (c.requires.rules_formed.0, c.requires.rules_formed.1, omega (arith, c.requires.rules_formed.2))
+    (c.requires.one_entry_inside.0, c.requires.one_entry_inside.1, omega (arith, c.requires.one_entry_inside.2))
 
 pub returns-then-x-many : goal.returns-then-x-many
 returns-then-x-many c =
-    let below = c.if-x-many.true in λ ts least most t p before κ same. counted_turn t (doc_of c.args.«record».now ts) p before κ _ least most c.args.x _ _ _ _ (rw same (c.children_of.ensures.first_is ts)) (rw same (rw (← c.elements_in-many.ensures ts) below)) (omega arith) refl (first_in c.args.rules.now c.args.list 0 (omega (arith, c.requires.rules_formed.2)) c.entry_schema-schema.ensures) c.at_step_of.ensures
+    let below = c.if-x-many.true in λ ts least most t p before κ same. counted_turn t (doc_of c.args.«record».now ts) p before κ _ least most c.args.x _ _ _ _ (rw same (c.children_of.ensures.first_is ts)) (rw same (rw (← c.elements_in-many.ensures ts) below)) (omega arith) refl (first_in c.args.rules.now c.args.list 0 (omega (arith, c.requires.one_entry_inside.2)) c.entry_schema-schema.ensures) c.at_step_of.ensures
 
 pub returns : goal.returns
 returns c =

@@ -22,7 +22,7 @@ pub entry_schema-requires : goal.entry_schema-requires
 entry_schema-requires c =
     let below = c.if-x-many.true in
     let few = c.lesser-many.ensures in
-    (c.requires.rules_formed.0, c.requires.rules_formed.1, omega arith)
+    (c.requires.list_inside.0, c.requires.list_inside.1, omega arith)
 
 pub returns-then-x-many : goal.returns-then-x-many
 returns-then-x-many c =

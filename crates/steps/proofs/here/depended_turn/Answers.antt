@@ -31,8 +31,8 @@ entry_name-name-requires c =
 pub child_named-n-requires : goal.child_named-n-requires
 child_named-n-requires c =
     let some : 0 < member_count ((doc_of c.args.«record».now c.args.text.now).value c.args.row.0) = omega (arith, c.members_in-members.ensures c.args.text.now, c.if-members-eq0.false) in record {
-      record_read = (c.requires.record_read.0, c.requires.record_read.1, members_object ((doc_of c.args.«record».now c.args.text.now).value c.args.row.0) some);
-      name_value = rw c.requires.rules_read.0.text_length (c.entry_name-name.ensures.name_fits Members refl c.requires.rules_read.1.listed);
+      object_read = (c.requires.record_read.0, c.requires.record_read.1, members_object ((doc_of c.args.«record».now c.args.text.now).value c.args.row.0) some);
+      name_fits = rw c.requires.rules_read.0.text_length (c.entry_name-name.ensures.name_fits Members refl c.requires.rules_read.1.listed);
     }
 
 pub member_schema-requires : goal.member_schema-requires

@@ -38,7 +38,7 @@ unnamed_in-requires c =
     let long = before_long c.args.p.rule.0 _ c.args.i (rules.0.laid, rules.1, at, omega arith) c.args.rule_text.now in record {
       record_read = (c.requires.record_read.0, (child_inside c.args.«record».now c.args.text.now c.args.form c.requires.record_read.0.laid c.args.p.row.0 c.children_of-first.result.first c.children_of-first.result.count c.loop-at.at c.requires.record_read.1 (c.children_of-first.ensures.first_is c.args.text.now) (c.children_of-first.ensures.count_is c.args.text.now) (omega (arith, members_some ((doc_of c.args.«record».now c.args.text.now).value c.args.p.row.0), c.members_in-many.ensures c.args.text.now, c.children_of-first.ensures.count_is c.args.text.now, c.loop-at-test.true))).0);
       rules_read = (rules.0, rules.1, at, omega arith);
-      from_le_i = (omega (arith, told.within, long), told.none);
+      none_named_before_from = (omega (arith, told.within, long), told.none);
     }
 
 pub returns-then-unnamed_in : goal.returns-then-unnamed_in

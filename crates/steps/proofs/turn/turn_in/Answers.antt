@@ -42,7 +42,7 @@ depended_turn-requires c = record {
 pub counted_turn-requires : goal.counted_turn-requires
 counted_turn-requires c = record {
   laid = (c.requires.turn_asked.record_read.laid, c.requires.turn_asked.row_in);
-  rules_formed = (c.requires.turn_asked.rules_read.laid.clauses_laid.schemas_laid.formed, (list_read c.requires.clause_read.tested c.requires.turn_asked.rules_read (Contains c.in-Contains.es) c.in-Contains.is Counted c.in-Contains.es refl).within, sizes c.requires.clause_read.tested c.requires.turn_asked.rules_read (Contains c.in-Contains.es) c.in-Contains.is);
+  one_entry_inside = (c.requires.turn_asked.rules_read.laid.clauses_laid.schemas_laid.formed, (list_read c.requires.clause_read.tested c.requires.turn_asked.rules_read (Contains c.in-Contains.es) c.in-Contains.is Counted c.in-Contains.es refl).within, sizes c.requires.clause_read.tested c.requires.turn_asked.rules_read (Contains c.in-Contains.es) c.in-Contains.is);
 }
 
 pub named_turn-requires : goal.named_turn-requires
@@ -56,7 +56,7 @@ additional_turn-requires c =
     let asked = c.requires.turn_asked in
     let started = started_as c.args.rules.now c.args.rule_text.now _ c.args.clause _ c.in-AdditionalProperties.is c.requires.clause_read.means asked.started in
     let is = applied_child _ _ (sym (ap (clause_means c.args.rules.now c.args.rule_text.now) c.in-AdditionalProperties.is) ∙ c.requires.clause_read.means) in record {
-      record_read = (asked.record_read, asked.row_in, asked.room);
+      record_read_table_in_cells = (asked.record_read, asked.row_in, asked.room);
       rules_read = (asked.rules_read, asked.rule_in, asked.clause_inside);
       names_from = started.names_from _ refl;
       names_marked = asked.marked _ is;
@@ -65,7 +65,7 @@ additional_turn-requires c =
 pub placed_turn-requires : goal.placed_turn-requires
 placed_turn-requires c = record {
   laid = (c.requires.turn_asked.record_read.laid, c.requires.turn_asked.row_in);
-  rules_formed = (c.requires.turn_asked.rules_read.laid.clauses_laid.schemas_laid.formed, (list_read c.requires.clause_read.tested c.requires.turn_asked.rules_read (PrefixItems c.in-PrefixItems.es) c.in-PrefixItems.is Schemas c.in-PrefixItems.es refl).within);
+  list_inside = (c.requires.turn_asked.rules_read.laid.clauses_laid.schemas_laid.formed, (list_read c.requires.clause_read.tested c.requires.turn_asked.rules_read (PrefixItems c.in-PrefixItems.es) c.in-PrefixItems.is Schemas c.in-PrefixItems.es refl).within);
 }
 
 pub rest_turn-requires : goal.rest_turn-requires
@@ -78,8 +78,8 @@ members_in-many-requires c =
 
 pub fresh_turn-requires : goal.fresh_turn-requires
 fresh_turn-requires c = record {
-  laid = (c.requires.turn_asked.record_read.laid, c.requires.turn_asked.row_in, λ ts. omega (arith, c.members_in-many.ensures ts, members_some ((doc_of c.args.«record».now ts).value c.args.p.row.0)));
-  m_in_bounds = (c.requires.turn_asked.room, c.requires.turn_asked.rule_in);
+  laid_many_children = (c.requires.turn_asked.record_read.laid, c.requires.turn_asked.row_in, λ ts. omega (arith, c.members_in-many.ensures ts, members_some ((doc_of c.args.«record».now ts).value c.args.p.row.0)));
+  table_in_cells = (c.requires.turn_asked.room, c.requires.turn_asked.rule_in);
 }
 
 pub elements_in-many-requires : goal.elements_in-many-requires
@@ -88,8 +88,8 @@ elements_in-many-requires c =
 
 pub fresh_turn-requires-in-UnevaluatedItems : goal.fresh_turn-requires-in-UnevaluatedItems
 fresh_turn-requires-in-UnevaluatedItems c = record {
-  laid = (c.requires.turn_asked.record_read.laid, c.requires.turn_asked.row_in, λ ts. omega (arith, c.elements_in-many.ensures ts, elements_some ((doc_of c.args.«record».now ts).value c.args.p.row.0)));
-  m_in_bounds = (c.requires.turn_asked.room, c.requires.turn_asked.rule_in);
+  laid_many_children = (c.requires.turn_asked.record_read.laid, c.requires.turn_asked.row_in, λ ts. omega (arith, c.elements_in-many.ensures ts, elements_some ((doc_of c.args.«record».now ts).value c.args.p.row.0)));
+  table_in_cells = (c.requires.turn_asked.room, c.requires.turn_asked.rule_in);
 }
 
 pub returns-in-AllOf : goal.returns-in-AllOf
@@ -142,11 +142,11 @@ returns-in-Items c =
 
 pub returns-in-UnevaluatedProperties : goal.returns-in-UnevaluatedProperties
 returns-in-UnevaluatedProperties c =
-    turned_as c.args.rules.now c.args.rule_text.now c.args.clause _ c.in-UnevaluatedProperties.is (c.fresh_turn.ensures.by_index c.args.text.now (c.members_in-many.ensures c.args.text.now) c.args.tally (before_in c.args.rules.now c.args.rule_text.now c.args.p.rule.0 c.args.i))
+    turned_as c.args.rules.now c.args.rule_text.now c.args.clause _ c.in-UnevaluatedProperties.is (c.fresh_turn.ensures.fresh_members c.args.text.now (c.members_in-many.ensures c.args.text.now) c.args.tally (before_in c.args.rules.now c.args.rule_text.now c.args.p.rule.0 c.args.i))
 
 pub returns-in-UnevaluatedItems : goal.returns-in-UnevaluatedItems
 returns-in-UnevaluatedItems c =
-    turned_as c.args.rules.now c.args.rule_text.now c.args.clause _ c.in-UnevaluatedItems.is (c.fresh_turn-in-UnevaluatedItems.ensures.by_index_2 c.args.text.now (c.elements_in-many.ensures c.args.text.now) c.args.tally (before_in c.args.rules.now c.args.rule_text.now c.args.p.rule.0 c.args.i))
+    turned_as c.args.rules.now c.args.rule_text.now c.args.clause _ c.in-UnevaluatedItems.is (c.fresh_turn-in-UnevaluatedItems.ensures.fresh_elements c.args.text.now (c.elements_in-many.ensures c.args.text.now) c.args.tally (before_in c.args.rules.now c.args.rule_text.now c.args.p.rule.0 c.args.i))
 
 pub returns-in_default : goal.returns-in_default
 returns-in_default c =

@@ -13,7 +13,7 @@ pub same_word-requires : goal.same_word-requires
 same_word-requires c = (omega arith, omega arith)
 
 pub returns-then-not-same_word : goal.returns-then-not-same_word
-returns-then-not-same_word c = sym (unlike (c.same_word.ensures.fact (not-true _ c.if-not-same_word.true-raw)))
+returns-then-not-same_word c = sym (unlike (c.same_word.ensures.unlike (not-true _ c.if-not-same_word.true-raw)))
 
 pub loop-left-preserved : goal.loop-left-preserved
 loop-left-preserved c =

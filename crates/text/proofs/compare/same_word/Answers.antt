@@ -9,5 +9,5 @@ returns c =
     let x = c.word_at.ensures in
     let y = c.word_at-2.ensures in record {
       alike = (λ e. word_alike _ _ _ x.low x.high y.low y.high (sym x.is ∙ eqb-true _ _ e ∙ y.is));
-      fact = (λ e p. eqb-false _ _ e (x.is ∙ alike_word _ _ _ p ∙ sym y.is));
+      unlike = (λ e p. eqb-false _ _ e (x.is ∙ alike_word _ _ _ p ∙ sym y.is));
     }
