@@ -9,10 +9,10 @@ returns-in_default c =
 
 pub judge_all-requires : goal.judge_all-requires
 judge_all-requires c = record {
-  tested = tested c.args.words.now c.args.bytes.now c.args.listing.now c.args.rules.now c.args.rule_text.now c.args.cells.now c.args.list.now c.args.answers.now c.test_listing-queued.result (opened c.in-Answered.in-Answered-own.keys1) c.test_listing-queued.ensures;
+  tested = tested c.args.words.now c.args.bytes.now c.args.listing.now c.args.rules.now c.args.rule_text.now c.args.cells.now c.args.list.now c.args.answers.now c.test_listing-queued.result c.in-Answered.in-Answered-own.keys1 c.test_listing-queued.ensures;
   rules_checked = c.check_rules-checked.ensures;
 }
 
 pub returns : goal.returns
 returns c =
-    all_left c.args.words.now c.args.bytes.now c.args.listing.now c.args.rules.now c.args.rule_text.now c.args.cells.now c.args.list.now c.args.answers.now c.test_listing-queued.result (opened c.in-Answered.in-Answered-own.keys1) c.test_listing-queued.ensures c.judge_all.ensures
+    all_left c.args.words.now c.args.bytes.now c.args.listing.now c.args.rules.now c.args.rule_text.now c.args.cells.now c.args.list.now c.args.answers.now c.test_listing-queued.result c.in-Answered.in-Answered-own.keys1 c.test_listing-queued.ensures c.judge_all.ensures
