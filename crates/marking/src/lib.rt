@@ -48,7 +48,9 @@ pub fn give<'a, 'b>(
     }
 }
 
-// Takes the marks of the pair away, unless it holds.
+// Takes the marks of the pair away, unless it holds. What it needs of the stack is kept out of the frame of
+// an open pair.
+#[inline(never)]
 pub fn shut<'a, 'b>(
     sheets: &'a [&'b [u32]; 2],
     texts: &'a [&'b [u8]; 2],

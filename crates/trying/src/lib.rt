@@ -101,7 +101,9 @@ pub fn plain_rows<'a, 'b>(
     )
 }
 
-// Whether the pair's row passes clause i of its schema, which is a test.
+// Whether the pair's row passes clause i of its schema, which is a test. What it needs of the stack is kept
+// out of the frame of an open pair.
+#[inline(never)]
 pub fn holds<'a, 'b>(
     sheets: &'a [&'b [u32]; 2],
     texts: &'a [&'b [u8]; 2],
