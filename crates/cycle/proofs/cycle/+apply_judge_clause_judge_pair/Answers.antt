@@ -119,8 +119,8 @@ judge_pair-loop-i-preserved t c =
     let L = c.loop-i.invariant d A in
     claused_next
     (elim c.if-applies.branch [
-      judge_pair-then-applies w ↦ rw (w.cells-is, w.list-is, w.now-is) (claused_more L.claused (L.unstopped h) w.judge_clause-d.ensures w.ok-is)
-    | judge_pair-else-applies w ↦ rw (w.cells-is, w.list-is, w.now-is) (claused_test L.claused (L.unstopped h) (tries_by T.doc c.args.p.row.0 (clause_at T (pair_is c.args.p) c.loop-i.i) (sym told ∙ w.if-applies.false) w.holds-ok.ensures) w.ok-is)
+      | judge_pair-then-applies w ↦ rw (w.cells-is, w.list-is, w.now-is) (claused_more L.claused (L.unstopped h) w.judge_clause-d.ensures w.ok-is)
+      | judge_pair-else-applies w ↦ rw (w.cells-is, w.list-is, w.now-is) (claused_test L.claused (L.unstopped h) (tries_by T.doc c.args.p.row.0 (clause_at T (pair_is c.args.p) c.loop-i.i) (sym told ∙ w.if-applies.false) w.holds-ok.ensures) w.ok-is)
     ])
     h c.next_clause-i.ensures.next_or_end
 
