@@ -1,5 +1,4 @@
-use mathlib.Core.Path.{refl, ◌∙◌}
-use Prim.Native.Nat.{◌-◌}
+use mathlib.Core.Path.{◌≡◌, refl, ◌∙◌}
 use native.Mathlib.Omega.{arith}
 use Rattle.laws.proofs.Passing.{begin, here, further, nowhere}
 use Rattle.ways.proofs.Ways.{spot_same, spot_fresh}
@@ -42,4 +41,6 @@ loop-i-preserved c =
     )
 
 pub returns : goal.returns
-returns c = nowhere c.loop-i.invariant.0 (omega arith)
+returns c =
+    let e : c.loop-i.i ≡ c.args.names.count = omega arith in
+    rw e at (nowhere c.loop-i.invariant.0 (omega arith))
