@@ -47,10 +47,9 @@ fn first_among(
     ensures { result ≡ lowest (repeats_at words.now text.now names) names.count }
 {
     for i in 0..names.count {
-        let spot = spot_of(words, text, names, heads, next, nodes, marks, i);
-        if spot.same {
+        let Some(spot) = spot_of(words, text, names, heads, next, nodes, marks, i) else {
             return i;
-        }
+        };
         put(heads, next, nodes, marks, i, spot.node, spot.mark);
     }
     names.count
