@@ -9,7 +9,7 @@ use native.Mathlib.Omega.{arith}
 use lib.Dec.{ltb, leb, lit≤}
 use lib.ListN.{length, drop, get_or}
 use lib.Seq.{drop-drop}
-use borrow.Author.Tests.{le-leb, lt-leb}
+use borrow.Author.Tests.{lt-leb}
 use Rattle.text.specs.declared.Range.{Range}
 use Rattle.counting.specs.Counting.{lead_length, count_after, count}
 use Rattle.text.specs.Part.{fits, part}
@@ -120,9 +120,6 @@ module _ {text : List ℕ} {r : Range} {many at : ℕ} (g : Passed text r many a
   module _ (k : ℕ) where
     pub too_few : r.start + r.length ≤ at → many < k → false ≡ leb k (count (part text r))
     too_few h l = let e = done h in sym (lt-leb k (count (part text r)) (omega arith))
-
-    pub enough : k ≤ many → true ≡ leb k (count (part text r))
-    enough l = sym (le-leb k (count (part text r)) (omega (arith, g.left)))
 
 pub begin : (text : List ℕ) (r : Range) (at : ℕ) → fits (length text) r ≡ true → AsciiTo text r.start (r.start + r.length) at → Passed text r (at - r.start) at
 begin text r at f p = recounted (along (at_start text r f) at p) (omega arith)

@@ -16,7 +16,7 @@ use text::Range;
 fn lead_length(b: u8) -> u32
     ensures { result ≡ lead_length b }
 {
-    let n = u8::leading_zeros(!b);
+    let n = (!b).leading_zeros();
     if n == 0 { 1 } else { n }
 }
 
@@ -27,8 +27,7 @@ pub fn characters(text: &[u8], range: Range) -> u32
     ensures meant { (u : Utf8 (part text.now range)) → result ≡ characters_of u }
 {
     let start = range.start as usize;
-    let n = range.length as usize;
-    let end = start + n;
+    let end = range.end();
     let mut at = ascii_run(text, start, end);
     let mut many = at - start;
     while at < end {
@@ -44,17 +43,13 @@ pub fn has_characters(text: &[u8], range: Range, k: u32) -> bool
     requires { fits (length text.now) range ≡ true }
     ensures { result ≡ leb k (count (part text.now range)) }
 {
-    let start = range.start as usize;
-    let n = range.length as usize;
-    let end = start + n;
-    let mut at = start;
-    let mut many: u32 = 0;
-    while many < k {
+    let end = range.end();
+    let mut at = range.start as usize;
+    for _many in 0..k {
         if end <= at {
             return false;
         }
         at += lead_length(text[at]) as usize;
-        many += 1;
     }
     true
 }

@@ -4,7 +4,7 @@
 use mathlib.Core.Path.{◌≡◌, sym, ap, ◌∙◌}
 use mathlib.Core.Bool.{true, false}
 use Prim.Native.Nat.{ℕ, ◌+◌, ◌-◌, ◌*◌, ◌/◌, ◌%◌, ◌^◌, ◌≤◌, ◌<◌}
-use native.Mathlib.Nat.{add-zero, zero-mul, mul_assoc, mul_comm, mul-one, mul-pos, mul-div_cancel, mul-mod_left, mul-add-mod_self_right, div-add-mod', mod-zero, mod-one, pow-suc}
+use native.Mathlib.Nat.{add-zero, zero-mul, mul_assoc, mul_comm, mul-pos, mul-div_cancel, mul-mod_left, mul-add-mod_self_right, div-add-mod', mod-zero, mod-one, pow-suc}
 use native.Mathlib.Numerals.{add-one}
 use native.Mathlib.Omega.{arith}
 use lib.Arith.{mod-mul}
@@ -47,9 +47,6 @@ step : (x m : ℕ) → ((x % m) * 10) % m ≡ (x * 10) % m
 step x m =
     let e : (x / m * 10) * m + (x % m) * 10 ≡ x * 10 = omega (arith, ap (λ (n : ℕ). n * 10) (div-add-mod' x m)) in
     sym (ap (λ (n : ℕ). n % m) (sym e) ∙ mul-add-mod_self_right (x / m * 10) m ((x % m) * 10))
-
-pub left_none : (x m : ℕ) → x % m ≡ (x * 10 ^ 0) % m
-left_none x m = rw mul-one
 
 pub left_more : (x m r i : ℕ) → r ≡ (x * 10 ^ i) % m → (r * 10) % m ≡ (x * 10 ^ (i + 1)) % m
 left_more x m r i e = rw e (step (x * 10 ^ i) m ∙ rw (add-one, pow-suc, ← mul_assoc))

@@ -2,9 +2,8 @@
 -- Assumes nothing.
 use mathlib.Core.Path.{◌≡◌, refl, sym, ap, ◌∙◌}
 use mathlib.Core.Bool.{Bool, true, false, ◌&&◌}
-use Prim.Native.Nat.{ℕ, zero, suc, ◌+◌, ◌-◌, ◌*◌, ◌^◌, ◌<◌}
-use native.Mathlib.Nat.{zero-mul, mul_assoc}
-use native.Mathlib.Omega.{arith}
+use Prim.Native.Nat.{ℕ, zero, suc, ◌-◌, ◌*◌, ◌^◌}
+use native.Mathlib.Nat.{zero-mul}
 use lib.Dec.{eqb}
 use lib.IntN.{ℤ, pos, nat_abs, ◌*ℤ◌}
 use lib.Signed.{le_z}
@@ -12,7 +11,7 @@ use borrow.Author.Tests.{eq-eqb, ne_eqb}
 use Rattle.decimal.specs.declared.Decimal.{Decimal}
 use Rattle.decimal.specs.Value.{scale_max, with_sign, signed_digits, billionths, value}
 use Rattle.decimal.proofs.Tests.{zero_times}
-use Rattle.decimal.proofs.Powers.{ten_above, ten_split}
+use Rattle.decimal.proofs.Powers.{ten_above}
 use Rattle.decimal.proofs.Order.{by_signs, most_by_signs}
 
 times : (b : Bool) (n k : ℕ) → with_sign b n *ℤ pos k ≡ with_sign b (n * k)

@@ -1,14 +1,14 @@
 -- Tests of numbers, as `leb` and `eqb` answer them: which of them say the same. And the test of two signs.
 -- Assumes nothing.
 use mathlib.Core.Path.{◌≡◌, refl, sym, ◌∙◌}
-use mathlib.Core.Bool.{Bool, true, false, not, ◌&&◌, ◌||◌, and-false, beq}
+use mathlib.Core.Bool.{Bool, true, false, not, ◌&&◌, and-false, beq}
 use mathlib.Core.Logic.{⊎_elim}
 use Prim.Native.Nat.{ℕ, zero, suc, ◌+◌, ◌*◌, ◌≤◌, ◌<◌}
 use native.Mathlib.Nat.{eq-zero-or-pos, mul-pos}
 use native.Mathlib.Omega.{arith}
 use lib.Dec.{leb, ltb, eqb, leb-suc-zero, leb-suc-suc, eqb-zero-suc, eqb-suc-zero, eqb-suc-suc}
 use Rattle.laws.proofs.Tests.{le_or_lt}
-use borrow.Author.Tests.{le-leb, lt-leb, lt-ltb, le-ltb, eq-eqb, ne_eqb, eqb-true}
+use borrow.Author.Tests.{le-leb, lt-leb, lt-ltb, le-ltb, eq-eqb, ne_eqb}
 
 -- two tests are equal if each answer of the first brings the same answer of the second
 pub leb_same : (a b c d : ℕ) → (a ≤ b → c ≤ d) → (b < a → d < c) → leb a b ≡ leb c d
@@ -41,15 +41,3 @@ signs_same true true e = refl
 signs_same true false e = cc
 signs_same false true e = cc
 signs_same false false e = refl
-
--- signs that differ are not the same: anything follows
-pub signs_differ : (x y : Bool) (m n : ℕ) → beq x y ≡ false → x ≡ y → m ≡ n
-signs_differ true true m n e q = cc
-signs_differ true false m n e q = cc
-signs_differ false true m n e q = cc
-signs_differ false false m n e q = cc
-
--- digits that are zero, or scales that are the same
-pub zero_or_same : (d m n : ℕ) → (eqb d 0 || eqb m n) ≡ true → 0 < d → m ≡ n
-zero_or_same zero m n e h = absurd (omega arith)
-zero_or_same (suc d) m n e h = eqb-true m n (rw (eqb-suc-zero d) at e)

@@ -10,6 +10,9 @@ ghost use Rattle.std.specs.Int.Signed.{le_z, lt_z};
 ghost use Rattle.decimal.specs.Value.{scale_max, digits_max, value, Plain, equal_z, is_whole, is_multiple, OfWord};
 
 // digits / 10^scale, below zero if `below` says so. Zero may have either sign.
+//
+// `Plain` is no invariant: `of_word` takes any scale, and its callers test later. So order and equality, which ask for `Plain`, are
+// functions and no `Ord`, whose methods may ask for nothing.
 #[derive(Clone, Copy)]
 pub struct Decimal {
     pub below: bool,
@@ -24,38 +27,36 @@ impl Decimal {
     pub fn of_word(word: u32, scale: u32) -> Decimal
         ensures { OfWord word scale result }
     {
-        if word < 0x8000_0000 {
-            return Decimal {
-                below: false,
-                digits: word as u64,
-                scale: scale,
-            };
-        }
+        let number = word.cast_signed();
         Decimal {
-            below: true,
-            digits: 0x1_0000_0000 - (word as u64),
-            scale: scale,
+            below: number < 0,
+            digits: u64::from(number.unsigned_abs()),
+            scale,
         }
     }
 }
 
-// 10^n, for an `n` up to `SCALE_MAX`.
+// 10^n, at the place n.
+const POWERS: [u64; 10] = [
+    1,
+    10,
+    100,
+    1_000,
+    10_000,
+    100_000,
+    1_000_000,
+    10_000_000,
+    100_000_000,
+    1_000_000_000,
+];
+
+// 10^n, for an `n` up to `SCALE_MAX`, the last place of the table.
 pub fn power(n: u32) -> u64
     requires { n ≤ scale_max }
     ensures { result ≡ 10 ^ n }
 {
-    match n {
-        1 => 10,
-        2 => 100,
-        3 => 1_000,
-        4 => 10_000,
-        5 => 100_000,
-        6 => 1_000_000,
-        7 => 10_000_000,
-        8 => 100_000_000,
-        Decimal::SCALE_MAX => 1_000_000_000,
-        _ => 1,
-    }
+    prove_eq!(POWERS.len(), Decimal::SCALE_MAX as usize + 1);
+    POWERS[n as usize]
 }
 
 // Whether the size of `a` is at most that of `b`, their signs left out. The digits with more places are divided, rounded up on the left
@@ -166,10 +167,8 @@ fn left_of(digits: u64, places: u32, m: u64) -> u64
     ensures { result ≡ (digits * 10 ^ places) % m }
 {
     let mut left = digits % m;
-    let mut i: u32 = 0;
-    while i < places {
+    for _place in 0..places {
         left = (left * 10) % m;
-        i += 1;
     }
     left
 }

@@ -45,13 +45,11 @@ pub fn first_same(words: &[u32], text: &[u8], names: Names, i: usize) -> usize
     ensures { result ≡ first_same (name_at words.now text.now names) i }
 {
     let name = range_at(words, names, i);
-    let mut k = 0;
-    while k < i {
+    for k in 0..i {
         let other = range_at(words, names, k);
         if text::same_part(text, other, text, name) {
             return k;
         }
-        k += 1;
     }
-    k
+    i
 }

@@ -25,27 +25,21 @@ fn first_of_few(words: &[u32], text: &[u8], names: Names) -> usize
     requires { Lying words.now text.now names }
     ensures { result ≡ lowest (repeats_at words.now text.now names) names.count }
 {
-    let n = names.count;
     let mut seen = [false; 128];
-    let mut i = 0;
-    while i < n {
+    for i in 0..names.count {
         let name = name_at(words, text, names, i);
         let sign = text::print::sign(name) as usize;
         if seen[sign] {
             if LONG < name.len() {
-                let w = words;
-                let t = text;
-                let all = names;
-                return first_in_tables(w, t, all);
+                return first_in_tables(words, text, names);
             }
             if first_same(words, text, names, i) < i {
                 return i;
             }
         }
         seen[sign] = true;
-        i += 1;
     }
-    i
+    names.count
 }
 
 // The same, for two names or a few more: each is compared with those before it, unless it is long.
@@ -53,22 +47,16 @@ fn first_by_pairs(words: &[u32], text: &[u8], names: Names) -> usize
     requires { Lying words.now text.now names × (1 ≤ names.count) }
     ensures { result ≡ lowest (repeats_at words.now text.now names) names.count }
 {
-    let n = names.count;
-    let mut i = 1;
-    while i < n {
+    for i in 1..names.count {
         let name = range_at(words, names, i);
         if LONG < name.length as usize {
-            let w = words;
-            let t = text;
-            let all = names;
-            return first_of_few(w, t, all);
+            return first_of_few(words, text, names);
         }
         if first_same(words, text, names, i) < i {
             return i;
         }
-        i += 1;
     }
-    i
+    names.count
 }
 
 // The lowest name that an earlier one repeats, or the number of names where none is repeated.
@@ -86,8 +74,5 @@ pub fn first_repeated(words: &[u32], text: &[u8], names: Names) -> usize
     if n <= FEW {
         return first_of_few(words, text, names);
     }
-    let w = words;
-    let t = text;
-    let all = names;
-    first_in_tables(w, t, all)
+    first_in_tables(words, text, names)
 }

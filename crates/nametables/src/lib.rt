@@ -5,7 +5,7 @@
 ghost use Rattle.std.specs.Prelude.{◌≡◌, ℕ, ◌+◌, ◌≤◌, ◌<◌, length, get_or};
 ghost use Rattle.laws.specs.Lowest.{lowest};
 ghost use Rattle.names.specs.Names.{repeats_at, Lying};
-ghost use Rattle.ways.specs.Tree.{Put, Room};
+ghost use Rattle.ways.specs.Tree.{places_max, Put, Room};
 
 use names::Names;
 use ways::{place_of, spot_of};
@@ -46,56 +46,25 @@ fn first_among(
     requires by_index { (p : ℕ) → get_or heads.old p 0 ≡ 0 }
     ensures { result ≡ lowest (repeats_at words.now text.now names) names.count }
 {
-    let n = names.count;
-    let mut i = 0;
-    while i < n {
-        let spot = spot_of(words, text, names, heads, next, nodes, marks, i);
-        if spot.same {
+    for i in 0..names.count {
+        let Some(spot) = spot_of(words, text, names, heads, next, nodes, marks, i) else {
             return i;
-        }
+        };
         put(heads, next, nodes, marks, i, spot.node, spot.mark);
-        i += 1;
     }
-    i
+    names.count
 }
 
-// The same for up to 128 names.
-fn first_of_some(words: &[u32], text: &[u8], names: Names) -> usize
-    requires { Lying words.now text.now names × (names.count ≤ 128) }
+// The same for up to N names, in tables of their own.
+fn first_of<const N: usize, const PLACES: usize>(words: &[u32], text: &[u8], names: Names) -> usize
+    requires lying { Lying words.now text.now names × (names.count ≤ N) }
+    requires places { (0 < PLACES) × (N ≤ PLACES) × (PLACES ≤ places_max) }
     ensures { result ≡ lowest (repeats_at words.now text.now names) names.count }
 {
-    let mut heads = [0u16; 512];
-    let mut next = [0u16; 128];
-    let mut nodes = [0u16; 128];
-    let mut marks = [0u32; 128];
-    first_among(
-        words, text, names, &mut heads, &mut next, &mut nodes, &mut marks,
-    )
-}
-
-// The same for up to 1,024 names.
-fn first_of_more(words: &[u32], text: &[u8], names: Names) -> usize
-    requires { Lying words.now text.now names × (names.count ≤ 1024) }
-    ensures { result ≡ lowest (repeats_at words.now text.now names) names.count }
-{
-    let mut heads = [0u16; 4_096];
-    let mut next = [0u16; 1_024];
-    let mut nodes = [0u16; 1_024];
-    let mut marks = [0u32; 1_024];
-    first_among(
-        words, text, names, &mut heads, &mut next, &mut nodes, &mut marks,
-    )
-}
-
-// The same for as many names as are ever compared.
-fn first_of_most(words: &[u32], text: &[u8], names: Names) -> usize
-    requires { Lying words.now text.now names }
-    ensures { result ≡ lowest (repeats_at words.now text.now names) names.count }
-{
-    let mut heads = [0u16; 8_192];
-    let mut next = [0u16; 4_096];
-    let mut nodes = [0u16; 4_096];
-    let mut marks = [0u32; 4_096];
+    let mut heads = [0u16; PLACES];
+    let mut next = [0u16; N];
+    let mut nodes = [0u16; N];
+    let mut marks = [0u32; N];
     first_among(
         words, text, names, &mut heads, &mut next, &mut nodes, &mut marks,
     )
@@ -108,10 +77,10 @@ pub fn first_in_tables(words: &[u32], text: &[u8], names: Names) -> usize
     ensures { result ≡ lowest (repeats_at words.now text.now names) names.count }
 {
     if names.count <= 128 {
-        return first_of_some(words, text, names);
+        return first_of::<128, 512>(words, text, names);
     }
     if names.count <= 1_024 {
-        return first_of_more(words, text, names);
+        return first_of::<1_024, 4_096>(words, text, names);
     }
-    first_of_most(words, text, names)
+    first_of::<4_096, 8_192>(words, text, names)
 }

@@ -4,15 +4,15 @@ use mathlib.Core.Bool.{true, false}
 use mathlib.Core.List.{List, [], ◌∷◌, ◌++◌}
 use mathlib.Core.Logic.{⊎_elim}
 use mathlib.Core.Path.{◌≡◌, refl, sym, ap, subst, ◌∙◌}
-use Prim.Native.Nat.{ℕ, zero, suc, ◌+◌, ◌-◌, ◌*◌, ◌/◌, ◌%◌, ◌≤◌, ◌<◌}
+use Prim.Native.Nat.{ℕ, zero, suc, ◌+◌, ◌-◌, ◌≤◌, ◌<◌}
 use native.Mathlib.Nat.{eq-or-lt_of_le}
 use native.Mathlib.Numerals.{add-one}
 use native.Mathlib.Omega.{arith}
 use lib.Dec.{eqb, ltb}
-use lib.ListN.{length, take, drop, get_or, set, length-set, replicate, length-replicate}
-use lib.Seq.{drop-cons, drop-drop, take-add, take-take, take_all, get_or-set_same, get_or-set_other}
-use borrow.Author.Tests.{eq-eqb, ne_eqb, eqb-true, eqb-false, ltb-true}
-use Rattle.laws.proofs.Tests.{le_or_lt, decide, left}
+use lib.ListN.{length, take, drop, get_or, replicate, length-replicate}
+use lib.Seq.{drop-cons, drop-drop, take-add, take-take, take_all}
+use borrow.Author.Tests.{eq-eqb, ne_eqb, ltb-true}
+use Rattle.laws.proofs.Tests.{le_or_lt, left}
 use Rattle.text.specs.declared.Range.{Range}
 use Rattle.text.specs.Part.{fits, part}
 use Rattle.text.proofs.Ranges.{fits_le, le_fits, part_length, part_end}
@@ -20,7 +20,7 @@ use Rattle.utf8.specs.declared.State.{State}
 use Rattle.utf8.specs.Automaton.{waiting, dead, begin, step, after, ends, is_utf8}
 use Rattle.utf8range.specs.Places.{continues, inside}
 use Rattle.ascii.specs.Runs.{Ascii}
-use Rattle.reach.specs.Reach.{span, NoneFrom, CharacterAt, Walked, Reach, places, blocks, Told, Known, AllUtf8}
+use Rattle.reach.specs.Reach.{span, NoneFrom, CharacterAt, Walked, Reach, places, blocks, Told, AllUtf8}
 use Rattle.utf8.proofs.Steps.{step_first, step_under, step_over, ends_dead, ends_cons, after_whole}
 use Rattle.utf8range.proofs.Skips.{run_accepted}
 
@@ -106,34 +106,24 @@ module _ {text : List ℕ} {at : ℕ} {s : State} {to : ℕ} (g : Begun text at 
   ended e =
       let p : at + (to - at) ≡ to = omega (arith, g.on) in
       record {
+        some = omega (arith, g.on);
         room = omega (arith, g.room, g.on);
         whole = rw p (here ∙ eq-eqb s.need 0 e);
-        else_none = λ (z : to - at ≡ 0). absurd (nothing z);
       }
-    where
-      nothing : to - at ≡ 0 → ⊥
-      nothing z = omega (arith, g.on)
 
-  none_yet : (s.need ≡ 0 → ⊥) → ((e : ℕ) → to < e → e ≤ length text → is_utf8 (span text at e) ≡ false) → CharacterAt text at 0
+  none_yet : (s.need ≡ 0 → ⊥) → ((e : ℕ) → to < e → e ≤ length text → is_utf8 (span text at e) ≡ false) → NoneFrom text at
   none_yet n later =
       record {
-        room = omega (arith, g.on, g.room);
-        whole = rw zero_more (ap is_utf8 (span_none text at) ∙ empty);
-        else_none = λ z. record {
-          none = λ (e : ℕ) (l : at < e) (r : e ≤ length text).
-              ⊎_elim
-              (λ (p : to ≤ e).
-              ⊎_elim (λ (q : to ≡ e). subst (λ (k : ℕ). is_utf8 (span text at k) ≡ false) q (not_here n)) (λ (q : to < e). later e q r) (eq-or-lt_of_le p))
-              (λ (p : e < to). g.before e l p)
-              (le_or_lt to e);
-        };
+        none = λ (e : ℕ) (l : at < e) (r : e ≤ length text).
+            ⊎_elim
+            (λ (p : to ≤ e).
+            ⊎_elim (λ (q : to ≡ e). subst (λ (k : ℕ). is_utf8 (span text at k) ≡ false) q (not_here n)) (λ (q : to < e). later e q r) (eq-or-lt_of_le p))
+            (λ (p : e < to). g.before e l p)
+            (le_or_lt to e);
       }
-    where
-      zero_more : at + 0 ≡ at
-      zero_more = omega arith
 
   -- no byte lies between the bounds
-  pub stuck : (s.need ≡ 0 → ⊥) → s.high < s.low → CharacterAt text at 0
+  pub stuck : (s.need ≡ 0 → ⊥) → s.high < s.low → NoneFrom text at
   stuck n h =
       none_yet n
       (λ (e : ℕ) (l : to < e) (r : e ≤ length text).
@@ -146,7 +136,7 @@ module _ {text : List ℕ} {at : ℕ} {s : State} {to : ℕ} (g : Begun text at 
       no_byte b = ⊎_elim (λ (l : s.low ≤ b). step_over s b n (omega arith)) (λ (l : b < s.low). step_under s b n l) (le_or_lt s.low b)
 
   -- the text ends within the character
-  pub cut_short : (s.need ≡ 0 → ⊥) → length text ≤ to → CharacterAt text at 0
+  pub cut_short : (s.need ≡ 0 → ⊥) → length text ≤ to → NoneFrom text at
   cut_short n h = none_yet n (λ (e : ℕ) (l : to < e) (r : e ≤ length text). absurd (nothing e l r))
     where
       nothing : (e : ℕ) → to < e → e ≤ length text → ⊥
@@ -169,15 +159,6 @@ module _ {text : List ℕ} {from at : ℕ} (g : Walking text from at) where
   pub stride : (size : ℕ) → CharacterAt text at size → Walking text from (at + size)
   stride size c = further (at + size) (omega arith) c.room c.whole
 
-  pub halted : (end : ℕ) → NoneFrom text at → Walked text from end at
-  halted end n = record { on = g.on; room = g.room; good = g.good; stopped = λ h. n }
-
-  pub arrived : (end : ℕ) → end ≤ at → Walked text from end at
-  arrived end h = record { on = g.on; room = g.room; good = g.good; stopped = λ (l : at < end). absurd (nothing l) }
-    where
-      nothing : at < end → ⊥
-      nothing l = omega arith
-
   pub walked : (end r : ℕ) → Walked text at end r → Walking text from r
   walked end r w = further r w.on w.room w.good
 
@@ -195,38 +176,11 @@ module _ {text : List ℕ} {from at : ℕ} (g : Walking text from at) where
   pub stays : NoneFrom text at → Reach text from at
   stays n = record { on = g.on; room = g.room; good = g.good; no_further = λ (to : ℕ) (l : at < to) (h : to ≤ length text). onward text from at to g.on (omega arith) g.good ∙ n.none to l h }
 
-  pub at_end : length text ≤ at → Reach text from at
-  at_end h = stays (record { none = λ (to : ℕ) (l : at < to) (r : to ≤ length text). absurd (nothing to l r) })
-    where
-      nothing : (to : ℕ) → at < to → to ≤ length text → ⊥
-      nothing to l r = omega arith
-
 -- ---- the table
 
 pub within : (text : List ℕ) (at : ℕ) → inside text at ≡ true → at + 1 ≤ length text
 unfolding inside
 within text at e = omega (arith, ltb-true at (length text) (left (ltb at (length text)) (continues (get_or text at 0)) e))
-
-pub told_at : (text memo : List ℕ) (b at : ℕ) → Told text memo → get_or memo b 0 / places ≡ at → (get_or memo b 0 % places ≡ 0 → ⊥) → Reach text at (get_or memo b 0 % places)
-told_at text memo b at t e n = rw e at (t.right b (λ (z : get_or memo b 0 ≡ 0). n (rw z refl)))
-
-pub noted : (text memo : List ℕ) (b at to : ℕ) → Told text memo → b < blocks → Reach text at to → Told text (set memo b (at * places + to))
-noted text memo b at to t h q =
-    record {
-      short = t.short;
-      room = length-set memo b (at * places + to) ∙ t.room;
-      right = λ (k : ℕ). ⊎_elim (λ (e : eqb k b ≡ true). same k (eqb-true k b e)) (λ (e : eqb k b ≡ false). other k (eqb-false k b e)) (decide (eqb k b));
-    }
-  where
-    same : (k : ℕ) → k ≡ b → (get_or (set memo b (at * places + to)) k 0 ≡ 0 → ⊥) → Reach text (get_or (set memo b (at * places + to)) k 0 / places) (get_or (set memo b (at * places + to)) k 0 % places)
-    same k e n =
-        let v : get_or (set memo b (at * places + to)) k 0 ≡ at * places + to = ap (λ (i : ℕ). get_or (set memo b (at * places + to)) i 0) e ∙ get_or-set_same memo b (at * places + to) 0 (omega (arith, t.room)) in
-        let x : (at * places + to) / places ≡ at = omega (arith, q.room, t.short) in
-        let y : (at * places + to) % places ≡ to = omega (arith, q.room, t.short) in
-        rw (v, x, y) q
-
-    other : (k : ℕ) → (k ≡ b → ⊥) → (get_or (set memo b (at * places + to)) k 0 ≡ 0 → ⊥) → Reach text (get_or (set memo b (at * places + to)) k 0 / places) (get_or (set memo b (at * places + to)) k 0 % places)
-    other k d n = let v : get_or (set memo b (at * places + to)) k 0 ≡ get_or memo k 0 = get_or-set_other memo b k (at * places + to) 0 d in rw v (t.right k (rw v at n))
 
 pub blank : (text : List ℕ) → length text < places → Told text (replicate blocks 0)
 blank text h = record { short = h; room = length-replicate {A = ℕ} blocks 0; right = λ b n. absurd (n (clear blocks b)) }

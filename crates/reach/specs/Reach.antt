@@ -13,11 +13,11 @@ span text from to = part text (record { start = from; length = to - from })
 pub record NoneFrom (text : List ℕ) (from : ℕ) : Type 0 where
   pub none : (to : ℕ) → from < to → to ≤ length text → is_utf8 (span text from to) ≡ false
 
--- the r bytes from a place on are UTF-8, and 0 says that none are
+-- the r bytes from a place on, at least one, are UTF-8
 pub record CharacterAt (text : List ℕ) (at r : ℕ) : Type 0 where
+  pub some : 0 < r
   pub room : at + r ≤ length text
   pub whole : is_utf8 (span text at (at + r)) ≡ true
-  pub else_none : r ≡ 0 → NoneFrom text at
 
 -- characters go on from one place to r, and to the end or as far as they can
 pub record Walked (text : List ℕ) (from end r : ℕ) : Type 0 where

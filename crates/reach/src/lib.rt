@@ -6,10 +6,10 @@
 // one may begin. No answer rests on which places stand in the table, only the time it takes.
 #![tactic(auto)]
 
-ghost use Rattle.std.specs.Prelude.{true, List, ◌≡◌, ℕ, ◌≤◌, ◌<◌, length};
+ghost use Rattle.std.specs.Prelude.{true, IfSome, MatchOption, List, ◌≡◌, ℕ, ◌≤◌, ◌<◌, length};
 ghost use Rattle.text.specs.Part.{fits, part};
 ghost use Rattle.utf8.specs.Automaton.{is_utf8};
-ghost use Rattle.reach.specs.Reach.{CharacterAt, Walked, Reach, Told, Known, AllUtf8, places, blocks};
+ghost use Rattle.reach.specs.Reach.{NoneFrom, CharacterAt, Walked, Reach, Told, Known, AllUtf8, places, blocks};
 
 use ascii::all_ascii;
 use text::Range;
@@ -20,28 +20,23 @@ pub const BLOCKS: usize = 512;
 
 const BLOCK: usize = 128;
 
-// How many bytes the character has that begins at the place, or 0 where none does.
-fn character_at(text: &[u8], at: usize) -> usize
+// How many bytes the character has that begins at the place, if one does.
+fn character_at(text: &[u8], at: usize) -> Option<usize>
     requires { at < length text.now }
-    ensures { CharacterAt text.now at result }
+    ensures { MatchOption result (NoneFrom text.now at) (CharacterAt text.now at) }
 {
     let n = text.len();
     let mut s = begin(text[at]);
-    let mut to = at + 1;
-    while to < n {
+    for to in at + 1..n {
         if s.need == 0 {
-            return to - at;
+            return Some(to - at);
         }
         if s.high < s.low {
-            return 0;
+            return None;
         }
         s = step(s, text[to]);
-        to += 1;
     }
-    if s.need == 0 {
-        return to - at;
-    }
-    0
+    if s.need == 0 { Some(n - at) } else { None }
 }
 
 // Goes on from a place, character by character, to the end or to where none begins.
@@ -51,32 +46,25 @@ fn walk(text: &[u8], from: usize, end: usize) -> usize
 {
     let mut at = from;
     while at < end {
-        let size = character_at(text, at);
-        if size == 0 {
+        let Some(size) = character_at(text, at) else {
             return at;
-        }
+        };
         at += size;
     }
     at
 }
 
-// A word as a number that can be a place.
-fn wide(word: u32) -> usize
-    ensures { result ≡ word }
-{
-    word as usize
-}
-
-// What the table tells of a place: how far characters go on from there, or 0 where it tells nothing.
-fn told_of(memo: &[u32], at: usize) -> usize
+// What the table tells of a place: how far characters go on from there.
+fn told_of(memo: &[u32], at: usize) -> Option<usize>
     requires { (at < places) × (length memo.now ≡ blocks) }
-    ensures { (text : List ℕ) → Told text memo.now → (result ≡ 0 → ⊥) → Reach text at result }
+    ensures { (text : List ℕ) → Told text memo.now → IfSome result (Reach text at) }
 {
-    let word = wide(memo[at / BLOCK]);
-    if word / 65_536 == at {
-        return word % 65_536;
+    let word = memo[at / BLOCK] as usize;
+    let to = word % 65_536;
+    if word / 65_536 == at && to != 0 {
+        return Some(to);
     }
-    0
+    None
 }
 
 // Where the block of a place ends, or the text.
@@ -84,11 +72,7 @@ fn block_end(at: usize, n: usize) -> usize
     requires { (at < n) × (n < places) }
     ensures { (at < result) × (result ≤ n) }
 {
-    let end = (at / BLOCK + 1) * BLOCK;
-    if n < end {
-        return n;
-    }
-    end
+    usize::min(n, (at / BLOCK + 1) * BLOCK)
 }
 
 // The last place to which characters go on from a place.
@@ -104,8 +88,7 @@ fn reach_of(text: &[u8], memo: &[u32], from: usize) -> usize
         if stop < end {
             return stop;
         }
-        let to = told_of(memo, stop);
-        if to != 0 {
+        if let Some(to) = told_of(memo, stop) {
             return to;
         }
         at = stop;
@@ -118,14 +101,12 @@ fn beginning(text: &[u8], from: usize) -> usize
     requires { (from ≤ length text.now) × (length text.now < places) }
     ensures { result ≤ length text.now }
 {
-    let mut at = from;
-    while at < from + 3 {
+    for at in from..from + 3 {
         if !inside(text, at) {
             return at;
         }
-        at += 1;
     }
-    at
+    from + 3
 }
 
 // Puts into the table how far characters go on from a place.
@@ -142,11 +123,9 @@ fn fill(text: &[u8], memo: &mut [u32])
     requires { Told text.now memo.old }
     ensures { Told text.now memo.new }
 {
-    let mut b = text.len() / BLOCK;
-    while 0 < b {
+    for b in (1..text.len() / BLOCK + 1).rev() {
         let at = beginning(text, b * BLOCK);
         note(text, memo, at);
-        b -= 1;
     }
 }
 
@@ -175,16 +154,11 @@ pub fn settles(text: &[u8], memo: &[u32], whole: bool, range: Range) -> bool
         return range_is_utf8(text, range);
     }
     let start = range.start as usize;
-    let end = start + range.length as usize;
     let to = reach_of(text, memo, start);
-    if to < end {
+    if to < range.end() {
         return false;
     }
-    let front = Range {
-        start: 0,
-        length: range.length,
-    };
-    range_is_utf8(&text[start..to], front)
+    range_is_utf8(&text[start..to], Range { start: 0, ..range })
 }
 
 // Whether the text is ASCII, so that every range of it is UTF-8.

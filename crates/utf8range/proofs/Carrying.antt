@@ -14,15 +14,11 @@ use Rattle.text.specs.declared.Range.{Range}
 use Rattle.utf8.specs.Automaton.{waiting, step, after, ends, is_utf8}
 use Rattle.text.specs.Part.{fits, part}
 use Rattle.ascii.specs.Runs.{AsciiTo}
-use Rattle.ascii.proofs.Runs as R
 use Rattle.utf8range.specs.Places.{Onward}
 use Rattle.laws.proofs.Tests.{decide}
 use Rattle.text.proofs.Ranges.{fits_le, le_fits, part_next, part_end}
 use Rattle.utf8.proofs.Steps.{ends_cons}
 use Rattle.utf8range.proofs.Skips.{run_accepted}
-
-pub within_character : (text : List ℕ) (s : State) (from end : ℕ) → Onward text s from end from
-within_character text s from end = record { run = (R.begin text from end).run; stays = λ (n : s.need ≡ 0 → ⊥). refl }
 
 -- what holds where the bytes before `at` were passed
 pub record Carried (text : List ℕ) (r : Range) (s : State) (at : ℕ) : Type 0 where

@@ -1,6 +1,6 @@
 -- A part of a text that is UTF-8: it is UTF-8 itself where neither of its ends stands inside a character.
 -- Assumes nothing.
-use mathlib.Core.Bool.{Bool, true, false, ◌&&◌}
+use mathlib.Core.Bool.{true, false}
 use mathlib.Core.List.{List, [], ◌∷◌, ◌++◌}
 use mathlib.Core.Logic.{◌↔◌, ⊎_elim}
 use mathlib.Core.Path.{◌≡◌, refl, sym, ap, ◌∙◌}
@@ -9,7 +9,7 @@ use native.Mathlib.Omega.{arith}
 use lib.Dec.{leb, ltb, eqb, lit≤}
 use lib.ListN.{length, take, drop, get_or, take-append-drop, length-drop}
 use lib.Seq.{split_at, drop-cons, take_all, drop-length, drop-drop, get_or-drop}
-use borrow.Author.Tests.{lt-ltb, le-ltb, le-leb, lt-leb, ltb-true, leb-true, eqb-true, eqb-false}
+use borrow.Author.Tests.{lt-ltb, le-leb, ltb-true, leb-true, eqb-true, eqb-false}
 use Rattle.utf8.specs.declared.State.{State}
 use Rattle.text.specs.declared.Range.{Range}
 use Rattle.utf8.specs.Encoding.{Utf8}
@@ -104,24 +104,6 @@ first_byte x b e =
     clash
     (sym (ends_cons (waiting 0) dead x b (step_first (waiting 0) x refl ∙ begin_below x l (omega arith))) ∙ e)
     (ends_dead b))
-
--- ---- whether a place is inside a character, as the code asks it
-module _ (text : List ℕ) (at : ℕ) where
-  pub past_end : length text ≤ at → inside text at ≡ false
-  unfolding inside
-  past_end h = rw (le-ltb at (length text) h)
-
-  pub ascii_at : get_or text at 0 < 0x80 → inside text at ≡ false
-  unfolding inside continues
-  ascii_at h = rw (lt-leb 0x80 (get_or text at 0) h) (either (ltb at (length text)))
-    where
-      either : (t : Bool) → (t && false) ≡ false
-      either true = refl
-      either false = refl
-
-  pub by_bound : at < length text → 0x80 ≤ get_or text at 0 → inside text at ≡ ltb (get_or text at 0) 0xC0
-  unfolding inside continues
-  by_bound h l = rw (lt-ltb at (length text) h, le-leb 0x80 (get_or text at 0) l)
 
 -- ---- a place that is not inside a character cuts the text
 at_place : (text : List ℕ) (at : ℕ) → inside text at ≡ false → at < length text → continues (get_or text at 0) ≡ false

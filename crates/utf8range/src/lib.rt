@@ -31,15 +31,9 @@ pub fn is_utf8(text: &[u8], range: Range) -> bool
     requires { fits (length text.now) range ≡ true }
     ensures { result ≡ is_utf8 (part text.now range) }
 {
-    let start = range.start as usize;
-    let n = range.length as usize;
-    let end = start + n;
-    let mut s = State {
-        need: 0,
-        low: 128,
-        high: 191,
-    };
-    let mut at = ascii_run(text, start, end);
+    let end = range.end();
+    let mut s = State::waiting(0);
+    let mut at = ascii_run(text, range.start as usize, end);
     while at < end {
         s = step(s, text[at]);
         at = onward(text, s, at + 1, end);
@@ -48,17 +42,11 @@ pub fn is_utf8(text: &[u8], range: Range) -> bool
 }
 
 // Whether the place is inside a character of a text that is UTF-8.
+#[tactic(auto, unfolding(crate::specs::Places::inside, crate::specs::Places::continues))]
 pub fn inside(text: &[u8], at: usize) -> bool
     ensures { result ≡ inside_of text.now at }
 {
-    if at >= text.len() {
-        return false;
-    }
-    let b = text[at];
-    if b < 128 {
-        return false;
-    }
-    b < 192
+    at < text.len() && 0x80 <= text[at] && text[at] < 0xC0
 }
 
 // Whether the range's bytes are UTF-8, where the whole text is: two bytes are read.
@@ -70,11 +58,10 @@ pub fn range_is_utf8(text: &[u8], range: Range) -> bool
     if range.length == 0 {
         return true;
     }
-    let start = range.start as usize;
-    let end = start + range.length as usize;
-    if inside(text, start) {
+    if inside(text, range.start as usize) {
         return false;
     }
+    let end = range.end();
     if inside(text, end) {
         return false;
     }

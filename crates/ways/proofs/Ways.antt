@@ -22,7 +22,7 @@ use Rattle.text.specs.Words.{Alike, Agreed}
 use Rattle.text.proofs.Alike.{none, join}
 use Rattle.ways.specs.declared.Spot.{Spot}
 use Rattle.names.specs.Names.{repeats_by}
-use Rattle.ways.specs.Tree.{letter_of, place_of, place_at, root_of, print_of, Forked, Leads, Told, Way, stay, go, Reached, Free, Stand, Child, Spotted}
+use Rattle.ways.specs.Tree.{letter_of, place_of, place_at, root_of, print_of, Forked, Leads, Told, Way, stay, go, Reached, Stand, Child, Spotted, Repeated}
 use Rattle.names.proofs.Repeats.{repeats_here, repeats_not}
 
 never : false ≡ true → ⊥
@@ -214,26 +214,16 @@ module _ {places : ℕ} {name : ℕ → List ℕ} {nodes marks : List ℕ} {i : 
           }
 
 module _ {places : ℕ} {name : ℕ → List ℕ} {nodes marks : List ℕ} {i node mark : ℕ} where
-  pub spotted_same : (k : ℕ) → k < i → name k ≡ name i
-      → Spotted places name nodes marks i (record { same = true; node = node; mark = mark })
-  spotted_same k h e = record { same = λ t. (k, h, e); free = λ f. absurd (never (sym f)); fresh = λ f. absurd (never (sym f)) }
-
   pub spotted_free : Stand places name nodes marks i → Seeking places name nodes marks i node mark
       → ((c : ℕ) → c < i → Leads places name nodes marks node mark (letter_of places node mark (name i)) c → ⊥)
-      → Spotted places name nodes marks i (record { same = false; node = node; mark = mark })
-  spotted_free s g alone =
-      record {
-        same = λ t. absurd (never t);
-        free = λ f. record { reached = g.reached; alone = alone };
-        fresh = λ f. fresh s g alone;
-      }
+      → Spotted places name nodes marks i (record { node = node; mark = mark })
+  spotted_free s g alone = record { free = record { reached = g.reached; alone = alone }; fresh = fresh s g alone }
 
-module _ {places : ℕ} {name : ℕ → List ℕ} {nodes marks : List ℕ} {i : ℕ} {spot : Spot} (t : Spotted places name nodes marks i spot) where
-  pub spot_same : spot.same ≡ true → repeats_by name i ≡ true
-  spot_same e = let found = t.same e in repeats_here name i found.0 found.1 found.2
+pub spot_same : {name : ℕ → List ℕ} {i : ℕ} → Repeated name i → repeats_by name i ≡ true
+spot_same {name} {i} t = let found = t.same in repeats_here name i found.0 found.1 found.2
 
-  pub spot_fresh : spot.same ≡ false → repeats_by name i ≡ false
-  spot_fresh e = repeats_not name i (t.fresh e)
+pub spot_fresh : {places : ℕ} {name : ℕ → List ℕ} {nodes marks : List ℕ} {i : ℕ} {spot : Spot} → Spotted places name nodes marks i spot → repeats_by name i ≡ false
+spot_fresh {name = name} {i = i} t = repeats_not name i t.fresh
 
 -- a name leads name i on, and the two are compared
 module _ {places : ℕ} {name : ℕ → List ℕ} {nodes marks : List ℕ} {i node mark from r : ℕ} (s : Stand places name nodes marks i)
@@ -253,8 +243,8 @@ module _ {places : ℕ} {name : ℕ → List ℕ} {nodes marks : List ℕ} {i no
   met_above = omega (arith, (s.free (r - 1) met_below).reached.low, its_lead.under)
 
   module _ {a : ℕ} (e : Agreed (name i) (name (r - 1)) from a) where
-    pub met_same : length (name i) ≤ a → Spotted places name nodes marks i (record { same = true; node = node; mark = mark })
-    met_same h = spotted_same (r - 1) met_below (sym (equal met.0 met.1 e h))
+    pub met_same : length (name i) ≤ a → Repeated name i
+    met_same h = record { same = (r - 1, met_below, sym (equal met.0 met.1 e h)) }
 
     pub met_on : a < length (name i) → Seeking places name nodes marks i (places + (r - 1)) a
     met_on h = onward s g met_below its_lead (parted met.0 met.1 e h)

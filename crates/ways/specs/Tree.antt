@@ -95,11 +95,14 @@ module _ (places : ℕ) (name : ℕ → List ℕ) (nodes marks : List ℕ) where
     pub one : 0 < r → Leads node mark (letter_of places node mark x) (r - 1)
     pub none : r ≡ 0 → (c : ℕ) → c < i → Leads node mark (letter_of places node mark x) c → ⊥
 
-  -- an earlier name is the same as name i, or where its way ends
+  -- no earlier name is the same as name i, and its way ends here
   pub record Spotted (i : ℕ) (spot : Spot) : Type 0 where
-    pub same : spot.same ≡ true → (k : ℕ) × (k < i) × (name k ≡ name i)
-    pub free : spot.same ≡ false → Free (name i) i spot.node spot.mark
-    pub fresh : spot.same ≡ false → (k : ℕ) → k < i → name k ≡ name i → ⊥
+    pub free : Free (name i) i spot.node spot.mark
+    pub fresh : (k : ℕ) → k < i → name k ≡ name i → ⊥
+
+-- an earlier name is the same as name i
+pub record Repeated (name : ℕ → List ℕ) (i : ℕ) : Type 0 where
+  pub same : (k : ℕ) × (k < i) × (name k ≡ name i)
 
 -- name i is put under the node with the mark, in front of the chain there
 pub record Put (heads next nodes marks : List ℕ) (i node mark : ℕ) (heads' next' nodes' marks' : List ℕ) : Type 0 where

@@ -7,26 +7,17 @@
 // earlier name, and never wrong.
 #![tactic(auto)]
 
-ghost use Rattle.std.specs.Prelude.{◌≡◌, ◌+◌, ◌≤◌, ◌<◌, length, get_or};
+ghost use Rattle.std.specs.Prelude.{◌≡◌, ◌+◌, ◌≤◌, ◌<◌, length, get_or, MatchOption};
 ghost use Rattle.names.specs.Names.{name_at, Lying};
-ghost use Rattle.ways.specs.Tree.{scaled_to, letter_of, place_of, Told, Reached, Child, Spotted, Standing};
+ghost use Rattle.ways.specs.Tree.{scaled_to, letter_of, place_of, Told, Reached, Child, Repeated, Spotted, Standing};
 
 use names::{Names, name_at};
 
-// Where the way of a name ends: under which node, with which mark; or that it is the same as an
-// earlier name.
-#[derive(Clone, Copy)]
+// Where the way of a name ends: under which node, with which mark.
+#[derive(Clone, Copy, PartialEq, Eq)]
 pub struct Spot {
-    pub same: bool,
     pub node: usize,
     pub mark: u32,
-}
-
-// A word of a table as a number.
-fn wide(word: u16) -> usize
-    ensures { result ≡ word }
-{
-    word as usize
 }
 
 // The place of a number of 32 bits among so many.
@@ -45,8 +36,7 @@ fn letter_of(places: usize, node: usize, mark: u32, name: &[u8]) -> u64
     if node < places {
         return name.len() as u64;
     }
-    let at = mark as usize;
-    text::word::wide(name[at])
+    u64::from(name[mark as usize])
 }
 
 // The place of the names under a node.
@@ -77,7 +67,7 @@ fn leads(
     requires k_in_bounds { places ≤ get_or nodes.now k 0 → get_or marks.now k 0 < length (name_at words.now text.now names k) }
     ensures { Told places (name_at words.now text.now names) nodes.now marks.now node mark letter k result }
 {
-    if wide(nodes[k]) != node {
+    if usize::from(nodes[k]) != node {
         return false;
     }
     if marks[k] != mark {
@@ -107,7 +97,7 @@ fn child(
     let places = heads.len();
     let letter = letter_of(places, node, mark, name_at(words, text, names, i));
     let place = place_of(places, node);
-    let mut c = wide(heads[place]);
+    let mut c = usize::from(heads[place]);
     while 0 < c {
         let k = c - 1;
         if leads(
@@ -115,12 +105,12 @@ fn child(
         ) {
             return c;
         }
-        c = wide(next[k]);
+        c = usize::from(next[k]);
     }
     c
 }
 
-// Where the way of name i ends.
+// Where the way of name i ends, if no earlier name is the same.
 pub fn spot_of(
     words: &[u32],
     text: &[u8],
@@ -130,10 +120,10 @@ pub fn spot_of(
     nodes: &[u16],
     marks: &[u32],
     i: usize,
-) -> Spot
+) -> Option<Spot>
     requires lying { Lying words.now text.now names × (i < names.count) }
     requires standing { Standing (name_at words.now text.now names) names.count heads.now next.now nodes.now marks.now i }
-    ensures { Spotted (length heads.now) (name_at words.now text.now names) nodes.now marks.now i result }
+    ensures { MatchOption result (Repeated (name_at words.now text.now names) i) (Spotted (length heads.now) (name_at words.now text.now names) nodes.now marks.now i) }
 {
     let places = heads.len();
     let name = name_at(words, text, names, i);
@@ -144,21 +134,13 @@ pub fn spot_of(
     loop {
         let c = child(words, text, names, heads, next, nodes, marks, i, node, mark);
         if c == 0 {
-            return Spot {
-                same: false,
-                node: node,
-                mark: mark,
-            };
+            return Some(Spot { node, mark });
         }
         let k = c - 1;
         let other = name_at(words, text, names, k);
         from = text::compare::agreed(name, other, from);
         if name.len() <= from {
-            return Spot {
-                same: true,
-                node: node,
-                mark: mark,
-            };
+            return None;
         }
         node = places + k;
         mark = from as u32;

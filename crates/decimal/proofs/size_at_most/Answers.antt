@@ -1,8 +1,7 @@
 -- `decimal::size_at_most` meets its contract, by which of the two has more places.
 -- Assumes nothing.
-use Prim.Native.Nat.{◌-◌}
 use native.Mathlib.Omega.{arith}
-use Rattle.decimal.proofs.Powers.{ten_above, ten_most}
+use Rattle.decimal.proofs.Powers.{ten_above}
 use Rattle.decimal.proofs.Compared.{places_right, places_left}
 use Rattle.decimal.proofs.size_at_most.Goals as goal
 
@@ -16,11 +15,6 @@ returns-then-a-b c =
 
 pub overflow_sub-result : goal.overflow_sub-result
 overflow_sub-result c = rw c.power-unit.ensures (ten_above _)
-
-pub overflow_add-result : goal.overflow_add-result
-overflow_add-result c =
-    let s = c.args in
-    omega (arith, ten_most (s.a.scale - s.b.scale) (omega arith))
 
 pub nonzero_div-result-2 : goal.nonzero_div-result-2
 nonzero_div-result-2 c = rw c.power-unit.ensures (ten_above _)

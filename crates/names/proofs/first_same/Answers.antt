@@ -1,5 +1,4 @@
-use mathlib.Core.Path.{sym, ◌∙◌}
-use Prim.Native.Nat.{◌-◌}
+use mathlib.Core.Path.{◌≡◌, sym, ◌∙◌}
 use native.Mathlib.Omega.{arith}
 use Rattle.laws.proofs.Passing.{begin, here, further, nowhere}
 use Rattle.names.proofs.first_same.Goals as goal
@@ -31,4 +30,6 @@ loop-k-preserved c =
     (rw (c.range_at-other.ensures, c.range_at-name.ensures) at (sym c.same_part.ensures ∙ c.if-same_part.false))
 
 pub returns : goal.returns
-returns c = nowhere c.loop-k.invariant (omega arith)
+returns c =
+    let e : c.loop-k.k ≡ c.args.i = omega arith in
+    rw e at (nowhere c.loop-k.invariant (omega arith))

@@ -1,5 +1,5 @@
-use mathlib.Core.Path.{◌∙◌}
-use Prim.Native.Nat.{ℕ, ◌-◌, ◌<◌}
+use mathlib.Core.Path.{◌≡◌, ◌∙◌}
+use Prim.Native.Nat.{ℕ, ◌<◌}
 use native.Mathlib.Omega.{arith}
 use borrow.Author.Tests.{lt-ltb, le-ltb}
 use Rattle.laws.proofs.Passing.{begin, here, further, nowhere}
@@ -28,4 +28,6 @@ pub loop-i-preserved : goal.loop-i-preserved
 loop-i-preserved c = (further c.loop-i.invariant.0 (omega arith) (repeats_is _ _ ∙ le-ltb _ _ (rw c.first_same.ensures at c.if-first_same-i.false)), c.loop-i.invariant.1)
 
 pub returns : goal.returns
-returns c = nowhere c.loop-i.invariant.0 (omega arith)
+returns c =
+    let e : c.loop-i.i ≡ c.args.names.count = omega arith in
+    rw e at (nowhere c.loop-i.invariant.0 (omega arith))

@@ -1,11 +1,7 @@
 -- `namesakes::first_by_pairs` meets its contract. No name stands before the first, so the search begins at the second. Assumes nothing.
-use Prim.Native.Nat.{◌-◌}
 use Rattle.laws.proofs.Passing.{Passing}
 use Rattle.names.specs.Names.{repeats_at, Lying}
 use Rattle.namesakes.proofs.first_by_pairs.Given as goal
 
 abbrev pub invariant-loop-i : goal.invariant-loop-i
-invariant-loop-i l = Passing (repeats_at l.words l.text l.names) l.n l.i × Lying l.words l.text l.names
-
-abbrev pub decreases-loop-i : goal.decreases-loop-i
-decreases-loop-i l = l.n - l.i
+invariant-loop-i l = Passing (repeats_at l.words l.text l.names) l.names.count l.i × Lying l.words l.text l.names

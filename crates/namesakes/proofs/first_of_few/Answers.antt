@@ -1,6 +1,4 @@
-use mathlib.Core.Logic.{⊎_elim}
-use mathlib.Core.Path.{refl, ◌∙◌}
-use Prim.Native.Nat.{◌-◌}
+use mathlib.Core.Path.{◌≡◌, refl, ◌∙◌}
 use native.Mathlib.Omega.{arith}
 use borrow.Author.Tests.{lt-ltb, le-ltb}
 use Rattle.laws.proofs.Passing.{begin, here, further, nowhere}
@@ -52,4 +50,6 @@ loop-i-preserved c =
     )
 
 pub returns : goal.returns
-returns c = nowhere c.loop-i.invariant.0 (omega arith)
+returns c =
+    let e : c.loop-i.i ≡ c.args.names.count = omega arith in
+    rw e at (nowhere c.loop-i.invariant.0 (omega arith))

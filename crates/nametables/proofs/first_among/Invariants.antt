@@ -1,22 +1,11 @@
 -- `nametables::first_among` meets its contract. The loop's invariant: what is left to search tells what the whole search tells, and the names
--- passed stand in the tables, which are as long as they were. Assumes nothing.
-use mathlib.Core.Path.{◌≡◌}
-use Prim.Native.Nat.{◌-◌}
-use lib.ListN.{length}
+-- passed stand in the tables. Assumes nothing.
 use Rattle.laws.proofs.Passing.{Passing}
-use Rattle.names.specs.Names.{name_at, repeats_at, Lying}
+use Rattle.names.specs.Names.{name_at, repeats_at}
 use Rattle.ways.specs.Tree.{Standing}
 use Rattle.nametables.proofs.first_among.Given as goal
 
 abbrev pub invariant-loop-i : goal.invariant-loop-i
 invariant-loop-i l =
-    Passing (repeats_at l.words l.text l.names) l.n l.i
-    × Standing (name_at l.words l.text l.names) l.n l.heads l.next l.nodes l.marks l.i
-    × Lying l.words l.text l.names
-    × (length l.heads ≡ length l.initial.heads)
-    × (length l.next ≡ length l.initial.next)
-    × (length l.nodes ≡ length l.initial.nodes)
-    × (length l.marks ≡ length l.initial.marks)
-
-abbrev pub decreases-loop-i : goal.decreases-loop-i
-decreases-loop-i l = l.n - l.i
+    Passing (repeats_at l.words l.text l.names) l.names.count l.i
+    × Standing (name_at l.words l.text l.names) l.names.count l.heads l.next l.nodes l.marks l.i

@@ -7,17 +7,8 @@ use Rattle.utf8.specs.Automaton.{is_utf8}
 use Rattle.reach.proofs.Reaching.{all_of}
 use Rattle.reach.proofs.know.Goals as goal
 
-pub overflow_cast-all : goal.overflow_cast-all
-overflow_cast-all c = omega (arith, c.requires.short)
-
 pub is_utf8-whole-requires : goal.is_utf8-whole-requires
 is_utf8-whole-requires c = le_fits _ _ (omega arith)
-
-pub fill-requires : goal.fill-requires
-fill-requires c = c.requires
-
-pub returns-then-not-whole : goal.returns-then-not-whole
-returns-then-not-whole c = record { told = c.fill.ensures; whole_is = λ t. sym (ap is_utf8 (all_of _ _ refl refl)) ∙ sym c.is_utf8-whole.ensures ∙ t }
 
 pub returns-else-not-whole : goal.returns-else-not-whole
 returns-else-not-whole c = record { told = c.requires; whole_is = λ t. sym (ap is_utf8 (all_of _ _ refl refl)) ∙ sym c.is_utf8-whole.ensures ∙ t }

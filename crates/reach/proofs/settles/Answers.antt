@@ -8,26 +8,11 @@ use Rattle.utf8.specs.Automaton.{is_utf8}
 use Rattle.reach.proofs.Reaching.{too_far, front, front_fits}
 use Rattle.reach.proofs.settles.Goals as goal
 
-pub range_is_utf8-requires : goal.range_is_utf8-requires
-range_is_utf8-requires c = record {
-  text_is_utf8 = c.requires.0.whole_is c.if-whole.true;
-  range_fits = c.requires.1;
-}
-
 pub reach_of-to-requires : goal.reach_of-to-requires
 reach_of-to-requires c = (c.requires.0.told, omega (arith, fits_le _ _ c.requires.1))
 
 pub returns-then-to-end : goal.returns-then-to-end
-returns-then-to-end c = sym (too_far _ _ c.requires.1 _ c.reach_of-to.ensures c.if-to-end.true)
-
-pub slice_bounds-range_is_utf8-count : goal.slice_bounds-range_is_utf8-count
-slice_bounds-range_is_utf8-count c = omega (arith, c.reach_of-to.ensures.on)
-
-pub slice_bounds-range_is_utf8-start : goal.slice_bounds-range_is_utf8-start
-slice_bounds-range_is_utf8-start c = omega (arith, c.reach_of-to.ensures.on)
-
-pub slice_bounds-range_is_utf8-end : goal.slice_bounds-range_is_utf8-end
-slice_bounds-range_is_utf8-end c = omega (arith, c.reach_of-to.ensures.room)
+returns-then-to-end c = sym (too_far _ _ c.requires.1 _ c.reach_of-to.ensures (omega arith))
 
 pub range_is_utf8-requires-2 : goal.range_is_utf8-requires-2
 unfolding part

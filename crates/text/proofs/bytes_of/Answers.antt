@@ -1,6 +1,6 @@
 -- `text::bytes_of` meets its contract: a range that fits ends within the text. Assumes nothing.
 use mathlib.Core.Path.{◌≡◌}
-use Prim.Native.Nat.{◌+◌, ◌-◌}
+use Prim.Native.Nat.{◌-◌}
 use native.Mathlib.Omega.{arith}
 use Rattle.text.specs.Part.{part}
 use Rattle.text.proofs.Ranges.{fits_le}
@@ -12,6 +12,6 @@ slice_bounds-result-end c = omega (arith, fits_le _ _ c.requires)
 pub returns : goal.returns
 unfolding part
 returns c =
-    let start = c.args in
-    let e : (start.range.start + start.range.length) - start.range.start ≡ start.range.length = omega arith in
+    let r = c.args.range in
+    let e : c.end.result - r.start ≡ r.length = omega (arith, c.end.ensures) in
     rw e

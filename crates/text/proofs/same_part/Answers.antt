@@ -11,6 +11,3 @@ returns-then-p-q c =
 pub same_bytes-requires : goal.same_bytes-requires
 same_bytes-requires c =
     rw (c.bytes_of-x.ensures, c.bytes_of-y.ensures, part_length _ _ c.requires.p_fits, part_length _ _ c.requires.q_fits) c.if-p-q.false
-
-pub returns : goal.returns
-returns c = rw (c.bytes_of-x.ensures, c.bytes_of-y.ensures) at c.same_bytes.ensures

@@ -11,7 +11,7 @@ pub returns-then-inside : goal.returns-then-inside
 returns-then-inside c = sym (start_inside _ _ c.requires.text_is_utf8 c.requires.range_fits c.if-range-eq0.false (sym c.inside.ensures ∙ c.if-inside.true))
 
 pub returns-then-inside-2 : goal.returns-then-inside-2
-returns-then-inside-2 c = sym (end_inside _ _ c.requires.text_is_utf8 c.requires.range_fits (sym c.inside.ensures ∙ c.if-inside.false) (sym c.inside-2.ensures ∙ c.if-inside-2.true))
+returns-then-inside-2 c = sym (end_inside _ _ c.requires.text_is_utf8 c.requires.range_fits (sym c.inside.ensures ∙ c.if-inside.false) (rw c.end-end.ensures at (sym c.inside-2.ensures ∙ c.if-inside-2.true)))
 
 pub returns : goal.returns
-returns c = sym (outside _ _ c.requires.text_is_utf8 c.requires.range_fits (sym c.inside.ensures ∙ c.if-inside.false) (sym c.inside-2.ensures ∙ c.if-inside-2.false))
+returns c = sym (outside _ _ c.requires.text_is_utf8 c.requires.range_fits (sym c.inside.ensures ∙ c.if-inside.false) (rw c.end-end.ensures at (sym c.inside-2.ensures ∙ c.if-inside-2.false)))

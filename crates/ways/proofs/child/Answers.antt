@@ -1,6 +1,5 @@
 use mathlib.Core.Path.{sym, ◌∙◌}
 use native.Mathlib.Omega.{arith}
-use Rattle.names.specs.Names.{name_at}
 use Rattle.ways.proofs.Chains.{begin, shorter, on}
 use Rattle.ways.proofs.Ways.{leads_place, branch_mark, child_one, child_none}
 use Rattle.ways.proofs.child.Goals as goal
@@ -16,13 +15,10 @@ pub place_of-place-requires : goal.place_of-place-requires
 place_of-place-requires c =
     omega (arith, c.requires.standing.room.enough_places, c.requires.lying.1, c.requires.reached.low)
 
-pub wide-c-requires : goal.wide-c-requires
-wide-c-requires c = tt
-
 pub loop-c-init : goal.loop-c-init
 loop-c-init c =
     let place = c.place_of-place.ensures in (
-      begin (λ k h l. leads_place l ∙ sym place.0) c.wide-c.ensures (c.requires.standing.chains.heads_are _ place.1),
+      begin (λ k h l. leads_place l ∙ sym place.0) c.from-c.ensures (c.requires.standing.chains.heads_are _ place.1),
       c.requires.lying,
       c.requires.standing,
       rw c.name_at.ensures at c.letter_of-letter.ensures,
@@ -44,17 +40,14 @@ returns-then-leads c =
 pub bounds-next-k : goal.bounds-next-k
 bounds-next-k c = omega (arith, c.loop-c.invariant.2.room.next_room)
 
-pub wide-c-requires-in-loop-c : goal.wide-c-requires-in-loop-c
-wide-c-requires-in-loop-c c = tt
-
 pub loop-c-smaller : goal.loop-c-smaller
 loop-c-smaller c =
-    shorter _ _ (omega arith) c.wide-c-in-loop-c.ensures (c.loop-c.invariant.2.chains.next_are _ (omega arith))
+    shorter _ _ (omega arith) c.from-c-in-loop-c.ensures (c.loop-c.invariant.2.chains.next_are _ (omega arith))
 
 pub loop-c-preserved : goal.loop-c-preserved
 loop-c-preserved c =
     let inv = c.loop-c.invariant in (
-      on inv.0 (omega arith) (c.leads.ensures.miss c.if-leads.false) c.wide-c-in-loop-c.ensures
+      on inv.0 (omega arith) (c.leads.ensures.miss c.if-leads.false) c.from-c-in-loop-c.ensures
           (inv.2.chains.next_are _ (omega arith)),
       inv.1,
       inv.2,

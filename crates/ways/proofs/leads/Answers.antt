@@ -4,8 +4,8 @@ use native.Mathlib.Omega.{arith}
 use Rattle.ways.proofs.Ways.{told_not, told_by}
 use Rattle.ways.proofs.leads.Goals as goal
 
-pub returns-then-wide-node : goal.returns-then-wide-node
-returns-then-wide-node c = told_not (λ l. c.if-wide-node.true (c.wide.ensures ∙ l.under))
+pub returns-then-from-node : goal.returns-then-from-node
+returns-then-from-node c = told_not (λ l. c.if-from-node.true (c.from.ensures ∙ l.under))
 
 pub returns-then-marks-k : goal.returns-then-marks-k
 returns-then-marks-k c = told_not (λ l. c.if-marks-k.true l.marked)
@@ -17,6 +17,6 @@ letter_of-requires c l =
 pub returns : goal.returns
 returns c =
     told_by
-    (sym c.wide.ensures ∙ c.if-wide-node.false)
+    (sym c.from.ensures ∙ c.if-from-node.false)
     c.if-marks-k.false
     (rw c.name_at.ensures at c.letter_of.ensures)

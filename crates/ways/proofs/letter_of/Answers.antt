@@ -7,9 +7,9 @@ pub returns-then-node-places : goal.returns-then-node-places
 unfolding letter_of
 returns-then-node-places c = rw (lt-ltb _ _ c.if-node-places.true)
 
-pub bounds-name-at : goal.bounds-name-at
-bounds-name-at c = c.requires c.if-node-places.false
+pub bounds-name-mark : goal.bounds-name-mark
+bounds-name-mark c = c.requires c.if-node-places.false
 
 pub returns : goal.returns
 unfolding letter_of
-returns c = rw (le-ltb _ _ c.if-node-places.false) c.wide.ensures.0
+returns c = rw (le-ltb _ _ c.if-node-places.false) c.from.ensures

@@ -1,12 +1,7 @@
--- `text::compare::agreed` meets its contract. The loop's invariant: up to k the bytes are alike. Assumes nothing.
-use mathlib.Core.Path.{◌≡◌}
-use Prim.Native.Nat.{◌-◌}
-use lib.ListN.{length}
+-- `text::compare::agreed` meets its contract. The loop's invariant: up to this block the bytes are alike. Assumes nothing.
+use Prim.Native.Nat.{◌+◌, ◌*◌}
 use Rattle.text.proofs.Alike.{Ahead}
 use Rattle.text.proofs.compare.agreed.Given as goal
 
-abbrev pub invariant-loop-k : goal.invariant-loop-k
-invariant-loop-k l = Ahead l.a l.b l.from l.k × (l.n ≡ length l.a)
-
-abbrev pub decreases-loop-k : goal.decreases-loop-k
-decreases-loop-k l = length l.a - l.k
+abbrev pub invariant-loop-block : goal.invariant-loop-block
+invariant-loop-block l = Ahead l.a l.b l.from (l.from + 32 * l.block)

@@ -9,4 +9,4 @@ returns-then-n-eq0 c = (rw (eq-eqb _ _ c.if-n-eq0.true), omega arith)
 
 pub returns : goal.returns
 unfolding sign_of
-returns c = (rw (ne_eqb _ _ c.if-n-eq0.false, c.wide.ensures.0, c.wide-2.ensures.0), omega arith)
+returns c = (rw (ne_eqb _ _ c.if-n-eq0.false, c.from.ensures, c.from-2.ensures), omega arith)
