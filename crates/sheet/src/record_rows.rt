@@ -1,10 +1,11 @@
 // A record sheet whose trailer is in order, as those who check its rows hand it on: the facts that
 // each of them leans on go with the words.
-ghost use Rattle.std.specs.Prelude.{◌≡◌, ◌<◌, length};
-ghost use Rattle.sheet.specs.Record.{text_word, row_at};
+ghost use Rattle.std.specs.Prelude.{◌≡◌, ◌+◌, ◌*◌, ◌≤◌, ◌<◌, length};
+ghost use Rattle.sheet.specs.Record.{row_words, text_word, row_at};
 ghost use Rattle.sheet.specs.Accepted.{Formed};
 
-use crate::record::{RecordForm, RecordRow, Row, row_at};
+use crate::record::{RecordForm, RecordRow, Row, row_at, wide};
+use names::Names;
 
 // The rows, and how many bytes of text there are.
 #[derive(Clone, Copy)]
@@ -31,6 +32,18 @@ impl<'a> RecordRows<'a> {
         ensures { result ≡ row_at self.now.words.now j }
     {
         row_at(self.words, self.form, RecordRow(j))
+    }
+
+    // Where the labels of so many rows from `first` on stand among the words.
+    pub fn labels(&self, first: u32, count: u32) -> Names
+        requires { first + count ≤ self.now.form.rows }
+        ensures { result ≡ record { base = self.now.form.start + row_words * first + 4; stride = row_words; count = count } }
+    {
+        Names {
+            base: self.form.start + RecordForm::ROW_WORDS * wide(first) + 4,
+            stride: RecordForm::ROW_WORDS,
+            count: wide(count),
+        }
     }
 }
 
