@@ -2,7 +2,7 @@
 // on to the passes that find the refusal and its place. Contracts cite `specs/Order.antt`.
 //
 // Each row tells its children their level, so a row that has none when its turn comes is no one's
-// child, and no row is asked twice.
+// child, and no row's order is asked twice.
 ghost use Rattle.std.specs.Prelude.{true, ◌≡◌, ℕ, ◌+◌, ◌≤◌, ◌<◌, length, get_or};
 ghost use Rattle.text.specs.Part.{fits};
 ghost use Rattle.sheet.specs.declared.kind.RowKind.TheVariants.{Object};
@@ -12,7 +12,7 @@ ghost use Rattle.recordcheck.specs.Order.{Levelled, child_ok, Holding, Held, Apa
 
 use recordfields::{fields_ok, label_ok, root_ok};
 use sheet::kind::RowKind;
-use sheet::record::{RecordForm, wide};
+use sheet::record::{Children, RecordForm, Row, wide};
 use sheet::record_rows::{RecordRows, RecordSheet};
 
 // Up to so many names are told apart by their signs first.
@@ -24,15 +24,13 @@ const SMALL: usize = 64;
 // The deepest level that may have children.
 const LEVEL_LAST: u8 = 31;
 
-// The rows from `first` on, of which there are `count`, as children of this owner, which is of this
-// kind, at this level.
+// Children of this owner, which is of this kind, at this level.
 #[derive(Clone, Copy)]
 struct Brood {
     kind: RowKind,
     owner: u32,
     level: u8,
-    first: u32,
-    count: u32,
+    children: Children,
 }
 
 // Whether row c is a child of row j, which is of this kind.
@@ -49,11 +47,11 @@ fn child_ok(rows: &RecordRows<'_>, kind: RowKind, j: u32, c: u32) -> bool
 
 // Whether all of the brood are children of their owner; each is told its level.
 fn children_ok(rows: &RecordRows<'_>, brood: Brood, levels: &mut [u8]) -> bool
-    requires { Holding rows.now.words.now rows.now.form brood.kind brood.owner brood.level brood.first brood.count × Levelled rows.now.words.now rows.now.form.rows levels.old }
-    ensures { result ≡ true → Held rows.now.words.now brood.kind brood.owner brood.first brood.count × Levelled rows.now.words.now rows.now.form.rows levels.new }
+    requires { Holding rows.now.words.now rows.now.form brood.kind brood.owner brood.level brood.children.first brood.children.count × Levelled rows.now.words.now rows.now.form.rows levels.old }
+    ensures { result ≡ true → Held rows.now.words.now brood.kind brood.owner brood.children.first brood.children.count × Levelled rows.now.words.now rows.now.form.rows levels.new }
 {
-    for i in 0..brood.count {
-        let c = brood.first + i;
+    for i in 0..brood.children.count {
+        let c = brood.children.first + i;
         if !child_ok(rows, brood.kind, brood.owner, c) {
             return false;
         }
@@ -62,15 +60,15 @@ fn children_ok(rows: &RecordRows<'_>, brood: Brood, levels: &mut [u8]) -> bool
     true
 }
 
-// Whether the names of so many rows from `first` on have each another sign.
-fn signs_differ(sheet: &RecordSheet<'_>, first: u32, count: u32) -> bool
-    requires within { first + count ≤ sheet.now.rows.form.rows }
-    requires by_index { (i : ℕ) → i < count → fits (text_word sheet.now.rows.words.now) (row_at sheet.now.rows.words.now (first + i)).label ≡ true }
-    ensures { result ≡ true → Apart sheet.now.rows.words.now sheet.now.text.now first count }
+// Whether the names of these children have each another sign.
+fn signs_differ(sheet: &RecordSheet<'_>, children: Children) -> bool
+    requires within { children.first + children.count ≤ sheet.now.rows.form.rows }
+    requires by_index { (i : ℕ) → i < children.count → fits (text_word sheet.now.rows.words.now) (row_at sheet.now.rows.words.now (children.first + i)).label ≡ true }
+    ensures { result ≡ true → Apart sheet.now.rows.words.now sheet.now.text.now children.first children.count }
 {
     let mut seen = [false; 128];
-    for i in 0..count {
-        let label = sheet.rows.row(first + i).label;
+    for i in 0..children.count {
+        let label = sheet.rows.row(children.first + i).label;
         let sign = text::print::sign(text::bytes_of(sheet.text, label)) as usize;
         if seen[sign] {
             return false;
@@ -81,15 +79,15 @@ fn signs_differ(sheet: &RecordSheet<'_>, first: u32, count: u32) -> bool
 }
 
 // Whether no two of them share a name.
-fn apart(sheet: &RecordSheet<'_>, first: u32, count: u32) -> bool
-    requires within { first + count ≤ sheet.now.rows.form.rows }
-    requires by_index { (i : ℕ) → i < count → fits (text_word sheet.now.rows.words.now) (row_at sheet.now.rows.words.now (first + i)).label ≡ true }
-    ensures { result ≡ true → Apart sheet.now.rows.words.now sheet.now.text.now first count }
+fn apart(sheet: &RecordSheet<'_>, children: Children) -> bool
+    requires within { children.first + children.count ≤ sheet.now.rows.form.rows }
+    requires by_index { (i : ℕ) → i < children.count → fits (text_word sheet.now.rows.words.now) (row_at sheet.now.rows.words.now (children.first + i)).label ≡ true }
+    ensures { result ≡ true → Apart sheet.now.rows.words.now sheet.now.text.now children.first children.count }
 {
-    if count <= FEW && signs_differ(sheet, first, count) {
+    if children.count <= FEW && signs_differ(sheet, children) {
         return true;
     }
-    let labels = sheet.rows.labels(first, count);
+    let labels = sheet.rows.labels(children);
     labels.count <= namesakes::first_repeated(sheet.rows.words, sheet.text, labels)
 }
 
@@ -106,22 +104,27 @@ fn row_ok(sheet: &RecordSheet<'_>, levels: &mut [u8], j: u32) -> bool
     if !fields_ok(sheet.rows.size, sheet.rows.form.rows, j, row) {
         return false;
     }
-    let kind = RowKind::of(row.kind);
-    if !kind.holds_children() || row.count == 0 {
+    let Row {
+        kind,
+        first,
+        count,
+        ..
+    } = row;
+    let kind = RowKind::of(kind);
+    if !kind.holds_children() || count == 0 {
         return true;
     }
     if LEVEL_LAST < level {
         return false;
     }
+    let children = Children { first, count };
     let brood = Brood {
         kind,
         owner: j,
         level: level + 1,
-        first: row.first,
-        count: row.count,
+        children,
     };
-    children_ok(&sheet.rows, brood, levels)
-        && (!kind.is_object() || apart(sheet, row.first, row.count))
+    children_ok(&sheet.rows, brood, levels) && (!kind.is_object() || apart(sheet, children))
 }
 
 // Whether all rows are, with a table that is clear.

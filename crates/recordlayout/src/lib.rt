@@ -18,7 +18,8 @@ use text::Range;
 pub const LEVEL_REFUSED: u16 = 33;
 
 // What one pass over the rows finds: the lowest row at fault, and, where none is, the lowest row at
-// the first level that is refused. Each is the number of rows where there is none.
+// the first level that is refused. Each is the number of rows where there is none: `Passed` says so
+// by `lowest`, as all lines of the refusal table do.
 #[derive(Clone, Copy)]
 pub struct Pass {
     pub fault: u32,

@@ -9,7 +9,7 @@ ghost use Rattle.sheet.specs.Faults.{repeated};
 ghost use Rattle.sheet.specs.Accepted.{Laid, Lowered};
 
 use sheet::kind::RowKind;
-use sheet::record::{RecordForm, Row};
+use sheet::record::{Children, RecordForm, Row};
 use sheet::record_rows::RecordSheet;
 
 // The lower of `least` and the lowest child of row o, if that is an object, whose name an earlier
@@ -27,7 +27,7 @@ fn lowest_under(sheet: &RecordSheet<'_>, o: u32, least: u32) -> u32
     if !RowKind::of(kind).is_object() {
         return least;
     }
-    let labels = sheet.rows.labels(first, count);
+    let labels = sheet.rows.labels(Children { first, count });
     let at = namesakes::first_repeated(sheet.rows.words, sheet.text, labels);
     if labels.count <= at {
         return least;
@@ -35,7 +35,8 @@ fn lowest_under(sheet: &RecordSheet<'_>, o: u32, least: u32) -> u32
     (first + at as u32).min(least)
 }
 
-// The lowest row whose name an earlier sibling under the same object has, or the number of rows.
+// The lowest row whose name an earlier sibling under the same object has, or the number of rows:
+// `lowest` of the clause is that where there is none.
 pub fn first_repeated(words: &[u32], text: &[u8], form: RecordForm) -> u32
     requires { Laid words.now form × (length text.now ≡ text_word words.now) }
     ensures { result ≡ lowest (repeated (doc_of words.now text.now)) (rows_word words.now) }

@@ -53,7 +53,8 @@ impl<'a> Asked<'a> {
     }
 }
 
-// The lowest row that names a text range that is not UTF-8, or the number of rows.
+// The lowest row that names a text range that is not UTF-8, or the number of rows: `lowest` of the
+// clause is that where there is none.
 pub fn first_not_utf8(words: &[u32], text: &[u8], form: RecordForm) -> u32
     requires { Laid words.now form × (length text.now ≡ text_word words.now) × (length text.now < places) }
     ensures { result ≡ lowest (not_utf8 (doc_of words.now text.now)) (rows_word words.now) }

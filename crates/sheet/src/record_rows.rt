@@ -4,7 +4,7 @@ ghost use Rattle.std.specs.Prelude.{◌≡◌, ◌+◌, ◌*◌, ◌≤◌, ◌<
 ghost use Rattle.sheet.specs.Record.{row_words, text_word, row_at};
 ghost use Rattle.sheet.specs.Accepted.{Formed};
 
-use crate::record::{RecordForm, RecordRow, Row, row_at, wide};
+use crate::record::{Children, RecordForm, RecordRow, Row, row_at, wide};
 use names::Names;
 
 // The rows, and how many bytes of text there are.
@@ -34,15 +34,15 @@ impl<'a> RecordRows<'a> {
         row_at(self.words, self.form, RecordRow(j))
     }
 
-    // Where the labels of so many rows from `first` on stand among the words.
-    pub fn labels(&self, first: u32, count: u32) -> Names
-        requires { first + count ≤ self.now.form.rows }
-        ensures { result ≡ record { base = self.now.form.start + row_words * first + 4; stride = row_words; count = count } }
+    // Where the labels of these children stand among the words.
+    pub fn labels(&self, children: Children) -> Names
+        requires { children.first + children.count ≤ self.now.form.rows }
+        ensures { result ≡ record { base = self.now.form.start + row_words * children.first + 4; stride = row_words; count = children.count } }
     {
         Names {
-            base: self.form.start + RecordForm::ROW_WORDS * wide(first) + 4,
+            base: self.form.start + RecordForm::ROW_WORDS * wide(children.first) + 4,
             stride: RecordForm::ROW_WORDS,
-            count: wide(count),
+            count: wide(children.count),
         }
     }
 }

@@ -206,7 +206,7 @@ impl<'a> Areas<'a> {
 }
 
 // The sheet of the text's value, of n rows, and the text's bytes, at the starts of the areas. The
-// counters stand at the starts of the levels.
+// counters stand at the starts of the levels. docs/PROMISES.md names these parameters.
 pub fn write_sheet(
     json: &[u8],
     n: u32,

@@ -17,6 +17,6 @@ loop-i-preserved c =
     let inv = c.loop-i.invariant in
     let i = c.loop-i.i in
     let ok = sym c.child_ok.ensures ∙ c.if-not-child_ok.false in (
-      below_more (λ (k : ℕ). child_ok c.args.rows.now.words.now c.args.brood.kind c.args.brood.owner (c.args.brood.first + k) ≡ true) i inv.0 ok,
+      below_more (λ (k : ℕ). child_ok c.args.rows.now.words.now c.args.brood.kind c.args.brood.owner (c.args.brood.children.first + k) ≡ true) i inv.0 ok,
       told c.requires.0 i c.loop-i-test.true ok c.wide.result c.wide.ensures inv.1,
     )

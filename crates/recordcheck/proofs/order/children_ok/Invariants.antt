@@ -7,5 +7,5 @@ use Rattle.recordcheck.proofs.order.children_ok.Given as goal
 
 abbrev pub invariant-loop-i : goal.invariant-loop-i
 invariant-loop-i l =
-    ((k : ℕ) → k < l.i → child_ok l.rows.words.now l.brood.kind l.brood.owner (l.brood.first + k) ≡ true)
+    ((k : ℕ) → k < l.i → child_ok l.rows.words.now l.brood.kind l.brood.owner (l.brood.children.first + k) ≡ true)
     × Levelled l.rows.words.now l.rows.form.rows l.levels

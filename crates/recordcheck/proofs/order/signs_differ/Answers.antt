@@ -12,14 +12,14 @@ use Rattle.sheet.proofs.Trailers.{form_few}
 use Rattle.recordcheck.proofs.Children.{named}
 use Rattle.recordcheck.proofs.order.signs_differ.Goals as goal
 
-pub overflow_add-first : goal.overflow_add-first
-overflow_add-first c = omega (arith, c.requires.within, form_few c.args.sheet.now.rows.words.now c.args.sheet.now.rows.form c.args.sheet.now.rows.formed)
+pub overflow_add-children : goal.overflow_add-children
+overflow_add-children c = omega (arith, c.requires.within, form_few c.args.sheet.now.rows.words.now c.args.sheet.now.rows.form c.args.sheet.now.rows.formed)
 
 pub loop-i-preserved : goal.loop-i-preserved
 loop-i-preserved c =
     let words = c.args.sheet.now.rows.words.now in
     let text = c.args.sheet.now.text.now in
-    let first = c.args.first in
+    let first = c.args.children.first in
     let inv = c.loop-i.invariant in
     let i = c.loop-i.i in
     let sign = rw (c.bytes_of.ensures ∙ named words text (first + i) c.row.result c.row.ensures) at c.sign-sign.ensures.0 in (

@@ -9,5 +9,5 @@ use Rattle.recordcheck.proofs.order.signs_differ.Given as goal
 
 abbrev pub invariant-loop-i : goal.invariant-loop-i
 invariant-loop-i l =
-    Marked (λ k. (doc_of l.sheet.rows.words.now l.sheet.text.now).name (l.first + k)) l.seen l.i
-    × ((k : ℕ) → k < l.i → repeats_by (λ x. (doc_of l.sheet.rows.words.now l.sheet.text.now).name (l.first + x)) k ≡ false)
+    Marked (λ k. (doc_of l.sheet.rows.words.now l.sheet.text.now).name (l.children.first + k)) l.seen l.i
+    × ((k : ℕ) → k < l.i → repeats_by (λ x. (doc_of l.sheet.rows.words.now l.sheet.text.now).name (l.children.first + x)) k ≡ false)
