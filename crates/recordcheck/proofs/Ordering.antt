@@ -20,7 +20,6 @@ use Rattle.laws.proofs.Tests.{decide, both}
 use Rattle.laws.proofs.Searches.{none_found}
 use Rattle.utf8.proofs.Tests.{clash}
 use Rattle.sheet.specs.declared.kind.RowKind.{RowKind}
-use Rattle.sheet.specs.declared.kind.RowKind.TheVariants.{Null, False, True, Number, String, Array, Object}
 use Rattle.sheet.specs.declared.record.Row.{Row}
 use Rattle.sheet.specs.declared.record.RecordForm.{RecordForm}
 use Rattle.sheet.specs.Kinds.{kind_of, holds_children, is_object_kind}
@@ -35,15 +34,6 @@ use Rattle.sheet.proofs.Owners.{under}
 use Rattle.sheet.proofs.Siblings.{Least, object_holds, repeated_at, lowered_none, least_none, least_more, least_end}
 use Rattle.recordcheck.specs.Order.{Placed, Levelled, Holding, Held, Apart, Ordered}
 use Rattle.recordcheck.proofs.Children.{nothing, owns}
-
-pub object_is : (kind : RowKind) → is_object_kind kind ≡ true → kind ≡ Object
-object_is Null t = cc
-object_is False t = cc
-object_is True t = cc
-object_is Number t = cc
-object_is String t = cc
-object_is Array t = cc
-object_is Object t = refl
 
 module _ (ws : List ℕ) (j : ℕ) where
   childless : holds_children (kind_of (row_at ws j).kind) ≡ false → owns_ok ws j (row_at ws j) ≡ true

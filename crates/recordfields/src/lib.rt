@@ -3,7 +3,7 @@
 #![tactic(auto)]
 
 ghost use Rattle.std.specs.Prelude.{◌&&◌, ◌≡◌};
-ghost use Rattle.sheet.specs.Faults.{trailer_fits, words_ok, text_ok, children_ok, content_ok, fields_ok, label_ok, root_ok};
+ghost use Rattle.sheet.specs.Faults.{trailer_fits, words_ok, text_ok, children_ok, fields_ok, label_ok, root_ok};
 
 use sheet::kind::RowKind;
 use sheet::layout::{TEXT_MAX, scalar_ok};
@@ -43,24 +43,15 @@ fn children_ok(n: u32, j: u32, first: u32, count: u32) -> bool
         | ((0 < count) & ((j < first) & (first as usize + count as usize <= n as usize)))
 }
 
-// Whether row j of n may hold this, over a text of `size` bytes.
-fn content_ok(kind: RowKind, size: usize, n: u32, j: u32, first: u32, count: u32) -> bool
-    ensures { result ≡ content_ok kind size n j first count }
-{
-    if kind.holds_children() {
-        return children_ok(n, j, first, count);
-    }
-    scalar_ok(kind, size, first, count)
-}
-
 // Whether the row's kind is known and its fields are what that kind may hold.
 pub fn fields_ok(size: usize, n: u32, j: u32, row: Row) -> bool
     ensures { result ≡ fields_ok size n j row }
 {
-    if !RowKind::known(row.kind) {
-        return false;
+    match RowKind::try_from(row.kind) {
+        Ok(kind) if kind.holds_children() => children_ok(n, j, row.first, row.count),
+        Ok(kind) => scalar_ok(kind, size, row.first, row.count),
+        Err(_) => false,
     }
-    content_ok(RowKind::of(row.kind), size, n, j, row.first, row.count)
 }
 
 // Whether a child of an owner of this kind may have this label.
@@ -68,13 +59,9 @@ pub fn label_ok(kind: RowKind, size: usize, label: Range) -> bool
     ensures { result ≡ label_ok kind size label }
 {
     match kind {
-        RowKind::Null => false,
-        RowKind::False => false,
-        RowKind::True => false,
-        RowKind::Number => false,
-        RowKind::String => false,
         RowKind::Array => (label.start == 0) & (label.length == 0),
         RowKind::Object => text::range_fits(size, label),
+        _ => false,
     }
 }
 
@@ -82,6 +69,6 @@ pub fn label_ok(kind: RowKind, size: usize, label: Range) -> bool
 pub fn root_ok(row: Row) -> bool
     ensures { result ≡ root_ok row }
 {
-    let label = row.label;
-    (row.owner == 0) & ((label.start == 0) & (label.length == 0))
+    let Row { owner, label, .. } = row;
+    (owner == 0) & ((label.start == 0) & (label.length == 0))
 }

@@ -1,17 +1,15 @@
 -- What the words are after a row, a container's end and the trailer, store by store as code makes them.
 -- Assumes nothing.
-use mathlib.Core.Bool.{cond}
-use mathlib.Core.List.{List, [], ◌∷◌, ◌++◌, append_assoc}
+use mathlib.Core.List.{List, [], ◌∷◌}
 use mathlib.Core.Path.{◌≡◌, refl, sym, ap, ◌∙◌}
 use Prim.Native.Nat.{ℕ, zero, suc, ◌+◌, ◌-◌, ◌*◌, ◌≤◌, ◌<◌}
-use native.Mathlib.Numerals.{add-one, unary_clauses}
+use native.Mathlib.Numerals.{add-one}
 use native.Mathlib.Omega.{arith}
 use borrow.Author.Tests.{lt-ltb, le-ltb, le-leb, lt-leb, ne_eqb, eq-eqb}
-use lib.ListN.{length, get_or, drop, set, replicate, length-replicate}
-use lib.Seq.{sets, drop-cons, set_at}
-use Rattle.sheet.specs.Record.{row_words}
+use lib.ListN.{get_or, set}
+use lib.Seq.{sets}
 use Rattle.breadth.specs.Sheet.{first_or_none}
-use Rattle.placing.specs.Desk.{row_put, row_shut, owner_at, cleared, finished}
+use Rattle.placing.specs.Desk.{row_put, row_shut, owner_at, finished}
 
 module _ (ws : List ℕ) where
   two_put : (at a b : ℕ) → set (set ws at a) (at + 1) b ≡ sets ws at (a ∷ b ∷ [])
@@ -72,20 +70,6 @@ module _ (ws : List ℕ) where
   pub trailer_put : (n size : ℕ) → set (set (set (set ws (6 * n) n) (6 * n + 1) (6 * n)) (6 * n + 2) size) (6 * n + 3) 1 ≡ finished n size ws
   unfolding finished
   trailer_put n size = four_put (6 * n) n (6 * n) size 1
-
-  -- ---- the first i words are 0
-
-  pub clear_none : replicate 0 0 ++ drop 0 ws ≡ ws
-  clear_none = refl
-
-  pub clear_more : (i : ℕ) → i < length ws → set (replicate i 0 ++ drop i ws) i 0 ≡ replicate (i + 1) 0 ++ drop (i + 1) ws
-  clear_more i h =
-      rw (add-one i, drop-cons ws i 0)
-      (set_at (replicate i 0) (get_or ws i 0) (drop (suc i) ws) 0 i (length-replicate i 0) ∙ snoc i (drop (suc i) ws))
-    where
-      snoc : (j : ℕ) (l : List ℕ) → replicate j 0 ++ 0 ∷ l ≡ 0 ∷ (replicate j 0 ++ l)
-      snoc zero l = refl
-      snoc (suc j) l = ap (λ (x : List ℕ). 0 ∷ x) (snoc j l)
 
 module _ (k : ℕ) (rows : List ℕ) where
   pub owner_root : k ≡ 0 → 0 ≡ owner_at k rows

@@ -15,7 +15,7 @@ use lib.IntN.{ℤ, nat_abs}
 use borrow.Author.Tests.{lt-ltb, leb-true}
 use Rattle.laws.proofs.Tests.{left, right}
 use Rattle.decimal.specs.declared.Decimal.{Decimal}
-use Rattle.decimal.specs.Value.{scale_max, signed, billionths, value, Plain, OfWord}
+use Rattle.decimal.specs.Value.{scale_max, signed, billionths, Plain, OfWord}
 use Rattle.text.specs.Part.{fits, part}
 use Rattle.sheet.specs.declared.kind.RowKind.{RowKind}
 use Rattle.sheet.specs.declared.kind.RowKind.TheVariants.{Null, False, True, Number, String, Array, Object}

@@ -8,11 +8,10 @@ use Rattle.text.specs.Part.{fits, part}
 use Rattle.utf8.specs.Encoding.{Utf8}
 use Rattle.sheet.specs.declared.record.RecordForm.{RecordForm}
 use Rattle.sheet.specs.declared.record.Children.{Children}
-use Rattle.laws.specs.Lowest.{lowest}
 use Rattle.sheet.specs.Refusals.{accepted}
 use Rattle.sheet.specs.Doc.{Doc, number, string, first_child, child_count, Child, is_object, level}
-use Rattle.sheet.specs.Record.{rows_max, rows_word, text_word, form_of, doc_of}
-use Rattle.sheet.specs.Faults.{words_ok, row_ok, at_fault, repeated, too_deep, level_refused, record_outcome}
+use Rattle.sheet.specs.Record.{rows_max, text_word, form_of, doc_of}
+use Rattle.sheet.specs.Faults.{words_ok, row_ok, repeated, level_refused, record_outcome}
 
 -- the form is that of these words, and their trailer is in order
 pub record Formed (ws : List ℕ) (form : RecordForm) : Type 0 where

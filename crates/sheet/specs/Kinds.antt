@@ -1,8 +1,9 @@
 -- The kinds of a record row and what belongs to a kind (paper 01, "Record sheet"): its number, and the bounds of a number's digits and scale.
 -- Assumes nothing.
-use Rattle.std.specs.Prelude.{Bool, true, false, ◌&&◌, ℕ, eqb, leb, nat_abs}
+use Rattle.std.specs.Prelude.{Bool, true, false, ◌&&◌, ◌≡◌, ℕ, eqb, leb, nat_abs, Result, MatchResult}
 use Rattle.decimal.specs.Value.{signed, scale_max}
 use Rattle.sheet.specs.declared.kind.RowKind.{RowKind}
+use Rattle.sheet.specs.declared.kind.UnknownKind.{UnknownKind}
 use Rattle.sheet.specs.declared.kind.RowKind.TheVariants.{Null, False, True, Number, String, Array, Object}
 
 -- 01's number of each kind
@@ -60,3 +61,7 @@ number_max = 999_999_999
 -- a number's two words are within its bounds
 abbrev pub number_ok : ℕ → ℕ → Bool
 number_ok first count = leb (nat_abs (signed first)) number_max && leb count scale_max
+
+-- what a number is read as: the kind whose number it is, or that no kind has it
+abbrev pub KindRead : ℕ → Result RowKind UnknownKind → Type 0
+KindRead code r = MatchResult r (λ kind. (is_kind code ≡ true) × (kind ≡ kind_of code)) (λ e. (is_kind code ≡ false) × (e.0 ≡ code))

@@ -14,9 +14,7 @@ pub fn scalar_ok(kind: RowKind, size: usize, first: u32, count: u32) -> bool
     ensures { result ≡ scalar_ok kind size first count }
 {
     match kind {
-        RowKind::Null => (first == 0) & (count == 0),
-        RowKind::False => (first == 0) & (count == 0),
-        RowKind::True => (first == 0) & (count == 0),
+        RowKind::Null | RowKind::False | RowKind::True => (first == 0) & (count == 0),
         RowKind::Number => RowKind::number_ok(first, count),
         RowKind::String => {
             let range = Range {
@@ -25,7 +23,6 @@ pub fn scalar_ok(kind: RowKind, size: usize, first: u32, count: u32) -> bool
             };
             text::range_fits(size, range)
         }
-        RowKind::Array => false,
-        RowKind::Object => false,
+        RowKind::Array | RowKind::Object => false,
     }
 }

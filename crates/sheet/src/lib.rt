@@ -9,4 +9,5 @@
 pub mod kind;
 pub mod layout;
 pub mod record;
+pub mod record_rows;
 pub mod refusal;

@@ -110,13 +110,16 @@ pub fn children_of(words: &[u32], form: RecordForm, row: RecordRow) -> Children
     requires { Formed words.now form × (row.0 < form.rows) }
     ensures { ChildrenRead words.now row.0 result }
 {
-    let it = row_at(words, form, row);
-    if !RowKind::of(it.kind).holds_children() {
-        return Children { first: 0, count: 0 };
-    }
-    Children {
-        first: it.first,
-        count: it.count,
+    let Row {
+        kind,
+        first,
+        count,
+        ..
+    } = row_at(words, form, row);
+    if RowKind::of(kind).holds_children() {
+        Children { first, count }
+    } else {
+        Children { first: 0, count: 0 }
     }
 }
 

@@ -1,14 +1,14 @@
 -- What stands at a place of the text, by its first byte, and what is left behind white space, a comma or a word.
 -- Assumes nothing.
-use mathlib.Core.Bool.{Bool, true, false, cond}
-use mathlib.Core.List.{List, [], ◌∷◌, ◌++◌}
+use mathlib.Core.Bool.{Bool, true, false}
+use mathlib.Core.List.{List, [], ◌∷◌}
 use mathlib.Core.Logic.{◌≢◌}
-use mathlib.Core.Path.{◌≡◌, refl, sym, ap, ◌∙◌}
-use Prim.Native.Nat.{ℕ, zero, suc, ◌+◌, ◌-◌, ◌*◌, ◌≤◌, ◌<◌}
+use mathlib.Core.Path.{◌≡◌, refl, ap, ◌∙◌}
+use Prim.Native.Nat.{ℕ, ◌+◌, ◌≤◌, ◌<◌}
 use native.Mathlib.Omega.{arith}
 use lib.ListN.{length, get_or, drop, length-drop}
 use Rattle.sheet.specs.declared.kind.RowKind.TheVariants.{Null, False, True}
-use Rattle.jsontext.specs.Text.{Blank, space, tab, feed, return, blank, Digit, digit, digits, Whole, nought, from, whole, fraction, exponent, Number, minus_if, number, Str, pieces, Space, spaces}
+use Rattle.jsontext.specs.Text.{Blank, space, tab, feed, return, blank, digit, digits, Whole, nought, from, whole, fraction, exponent, Number, minus_if, number, pieces, spaces}
 use Rattle.jsontext.specs.Automaton.{square, curly}
 use Rattle.strings.proofs.Steps.{head_at}
 use Rattle.placing.specs.Lexemes.{Lexeme, gap, comma, a_null, a_true, a_false, num, str, nam, opens, shuts, spelled, spelling}

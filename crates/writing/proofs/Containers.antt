@@ -2,7 +2,7 @@
 -- Assumes nothing.
 use mathlib.Core.List.{List, [], ◌∷◌}
 use mathlib.Core.Path.{◌≡◌, refl}
-use Prim.Native.Nat.{ℕ, ◌+◌, ◌-◌, ◌≤◌, ◌<◌}
+use Prim.Native.Nat.{ℕ, ◌+◌, ◌<◌}
 use native.Mathlib.Omega.{arith}
 use lib.ListN.{length, get_or, drop}
 use Rattle.sheet.specs.declared.kind.RowKind.TheVariants.{Array, Object}
@@ -11,7 +11,7 @@ use Rattle.placing.specs.Lexemes.{Lexeme, gap, comma, a_null, a_true, a_false, n
 use Rattle.placing.specs.Desk.{Desk, levels, rowed, opened, shut, acts}
 use Rattle.placing.specs.Fair.{Fair}
 use Rattle.writing.specs.Reading.{Reading, Going}
-use Rattle.writing.proofs.Cases.{First, behind, first_is, nothing_left}
+use Rattle.writing.proofs.Cases.{behind, first_is, nothing_left}
 
 module _ (json : List ℕ) (i n : ℕ) (d : Desk) (s : Reading json i d.level) (inside : i < length json) where
   abbrev byte : ℕ

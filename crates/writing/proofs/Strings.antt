@@ -1,9 +1,8 @@
 -- A string, a name and a number at a place of the text, once they are read.
 -- Assumes nothing.
-use mathlib.Core.Bool.{true, false}
 use mathlib.Core.List.{List, [], ◌∷◌}
 use mathlib.Core.Logic.{◌≢◌}
-use mathlib.Core.Path.{◌≡◌, refl, sym, ap, ◌∙◌}
+use mathlib.Core.Path.{◌≡◌, refl, ap, ◌∙◌}
 use Prim.Native.Nat.{ℕ, ◌+◌, ◌-◌, ◌≤◌, ◌<◌}
 use native.Mathlib.Omega.{arith}
 use lib.ListN.{length, get_or, drop, set}
@@ -11,7 +10,7 @@ use lib.Seq.{sets}
 use Rattle.text.specs.declared.Range.{Range}
 use Rattle.sheet.specs.declared.kind.RowKind.TheVariants.{Number, String}
 use Rattle.jsontext.specs.Text.{Blank, space, tab, feed, return, blank, Str, pieces, string, spaces}
-use Rattle.jsontext.specs.Value.{decoded, decoded_after}
+use Rattle.jsontext.specs.Value.{decoded}
 use Rattle.jsontext.specs.Automaton.{square, curly}
 use Rattle.jsontext.proofs.Decoding.{NoneLone}
 use Rattle.strings.specs.Atoms.{Inside, Copied, read}
@@ -23,7 +22,7 @@ use Rattle.placing.specs.Desk.{Desk, rowed, written, named, acts}
 use Rattle.placing.specs.Fair.{Ends, at_end, at_gap, at_comma, at_shut, Fair}
 use Rattle.writing.specs.Reading.{blanks_of, Reading, Going}
 use Rattle.writing.proofs.Spaces.{to_colon, no_colon}
-use Rattle.writing.proofs.Cases.{First, first_is, nothing_left}
+use Rattle.writing.proofs.Cases.{first_is, nothing_left}
 
 -- ---- where a number stops
 

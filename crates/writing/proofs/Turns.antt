@@ -2,7 +2,7 @@
 -- Assumes nothing.
 use mathlib.Core.List.{List, [], ◌∷◌}
 use mathlib.Core.Logic.{◌≢◌}
-use mathlib.Core.Path.{◌≡◌, refl, sym, ap, ◌∙◌}
+use mathlib.Core.Path.{◌≡◌, refl, ◌∙◌}
 use Prim.Native.Nat.{ℕ, ◌+◌, ◌-◌, ◌≤◌, ◌<◌}
 use native.Mathlib.Omega.{arith}
 use lib.ListN.{length, get_or, drop, set, get_or-eq_default}
@@ -13,9 +13,10 @@ use Rattle.strings.proofs.Steps.{head_at}
 use Rattle.jsontext.specs.Automaton.{square, curly}
 use Rattle.placing.specs.Lexemes.{Lexeme, gap, comma, a_null, a_true, a_false, num, str, nam, opens, shuts, spelling}
 use Rattle.placing.specs.Desk.{Desk, levels, row_put, row_shut, owner_at, rowed, opened, shut, acts}
-use Rattle.writing.specs.Reading.{Reading, Going, Ready, desk_of}
+use Rattle.writing.specs.Reading.{Reading, Going, Ready, SameAreas, desk_of}
+use Rattle.writing.specs.declared.Areas.{Areas}
 use Rattle.writing.proofs.Cases.{first_is, nothing_left}
-use Rattle.writing.proofs.Ready.{ready_on, ready_level, ready_row, ready_shut}
+use Rattle.writing.proofs.Ready.{ready_level, ready_row, ready_shut}
 
 module _ (n i k start size : ℕ) (json rows bytes words text : List ℕ) (ok : Ready n i k rows bytes words) where
   abbrev d : Desk
@@ -110,3 +111,18 @@ module _ (n : ℕ) (json : List ℕ) (i : ℕ) (d : Desk) (s : Reading json i d.
       go (opens curly ∷ ls) f h = absurd (omega (arith, none, first_is json j (opens curly) (spelling ls) f))
       go (shuts square ∷ ls) f h = absurd (omega (arith, none, first_is json j (shuts square) (spelling ls) f))
       go (shuts curly ∷ ls) f h = absurd (omega (arith, none, first_is json j (shuts curly) (spelling ls) f))
+
+-- ---- the same areas all the time
+
+pub same_none : (a : Areas) → SameAreas a a
+same_none a = record { rows_same = (refl, refl); bytes_same = (refl, refl); words_same = (refl, refl); text_same = (refl, refl); many = refl }
+
+pub same_then : {a b e : Areas} → SameAreas a b → SameAreas b e → SameAreas a e
+same_then s t =
+    record {
+      rows_same = (t.rows_same.0 ∙ s.rows_same.0, t.rows_same.1 ∙ s.rows_same.1);
+      bytes_same = (t.bytes_same.0 ∙ s.bytes_same.0, t.bytes_same.1 ∙ s.bytes_same.1);
+      words_same = (t.words_same.0 ∙ s.words_same.0, t.words_same.1 ∙ s.words_same.1);
+      text_same = (t.text_same.0 ∙ s.text_same.0, t.text_same.1 ∙ s.text_same.1);
+      many = t.many ∙ s.many;
+    }

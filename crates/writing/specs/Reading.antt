@@ -1,7 +1,7 @@
 -- The second pass in code, lexeme by lexeme: what it may lean on at a place of the text, and that what is left to do there is what there was to do.
 -- Assumes nothing.
 use Rattle.std.specs.Prelude.{Bool, cond, ◌||◌, List, [], ◌∷◌, ◌++◌, ◌≡◌, ℕ, suc, ◌+◌, ◌*◌, ◌≤◌, ◌<◌, eqb, length, get_or, drop}
-use Rattle.text.specs.declared.Range.{Range}
+use Rattle.std.specs.Borrow.{MutBor}
 use Rattle.sheet.specs.Kinds.{number_max}
 use Rattle.sheet.specs.Record.{row_words}
 use Rattle.jsontext.specs.Datum.{Datum}
@@ -17,6 +17,8 @@ use Rattle.breadth.proofs.Tables.{Holds}
 use Rattle.placing.specs.Lexemes.{Lexeme, spelling}
 use Rattle.placing.specs.Desk.{Desk, levels, acts}
 use Rattle.placing.specs.Fair.{Sayable, Fair}
+use Rattle.writing.specs.declared.Spot.{Spot}
+use Rattle.writing.specs.declared.Areas.{Areas}
 
 -- ---- white space
 
@@ -58,6 +60,26 @@ pub record Ready (n i k : ℕ) (rows bytes words : List ℕ) : Type 0 where
 abbrev pub desk_of : ℕ → ℕ → ℕ → List ℕ → List ℕ → List ℕ → List ℕ → Desk
 desk_of k start size rows bytes words text =
     record { level = k; rows = rows; bytes = bytes; label = record { start = start; length = size }; words = words; text = text }
+
+-- the areas in code, with the spot
+abbrev pub desk_at : Spot → Areas → Desk
+desk_at spot a = desk_of spot.level spot.label.start spot.label.length a.rows.now a.bytes.now a.words.now a.text.now
+
+-- the areas are ready where the spot is
+abbrev pub ReadyAt : Spot → Areas → Type 0
+ReadyAt spot a = Ready a.n spot.at spot.level a.rows.now a.bytes.now a.words.now
+
+-- both lend the same places
+abbrev pub SamePlaces : MutBor (List ℕ) → MutBor (List ℕ) → Type 0
+SamePlaces a b = (b.ghost_name ≡ a.ghost_name) × (length b.now ≡ length a.now)
+
+-- and these the same areas, for as many rows
+pub record SameAreas (a b : Areas) : Type 0 where
+  pub rows_same : SamePlaces a.rows b.rows
+  pub bytes_same : SamePlaces a.bytes b.bytes
+  pub words_same : SamePlaces a.words b.words
+  pub text_same : SamePlaces a.text b.text
+  pub many : b.n ≡ a.n
 
 -- ---- the whole text
 

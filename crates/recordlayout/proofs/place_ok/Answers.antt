@@ -10,10 +10,10 @@ pub returns-then-j-eq0 : goal.returns-then-j-eq0
 unfolding place_ok
 returns-then-j-eq0 c = simp (eq-eqb _ _ c.if-j-eq0.true, c.root_ok.ensures)
 
-pub returns-then-form-owner : goal.returns-then-form-owner
+pub returns-then-rows-row : goal.returns-then-rows-row
 unfolding place_ok
-returns-then-form-owner c = simp (ne_eqb _ _ c.if-j-eq0.false, le-ltb c.args.row.owner (rows_word c.args.words.now) (omega (arith, form_rows c.args.words.now c.args.form c.requires.0)))
+returns-then-rows-row c = simp (ne_eqb _ _ c.if-j-eq0.false, le-ltb c.args.row.owner (rows_word c.args.rows.now.words.now) (omega (arith, form_rows c.args.rows.now.words.now c.args.rows.now.form c.args.rows.now.formed)))
 
 pub returns : goal.returns
 unfolding place_ok
-returns c = simp (ne_eqb _ _ c.if-j-eq0.false, lt-ltb c.args.row.owner (rows_word c.args.words.now) (omega (arith, form_rows c.args.words.now c.args.form c.requires.0)), c.placed_under.ensures, c.row_at.ensures, c.requires.1)
+returns c = simp (ne_eqb _ _ c.if-j-eq0.false, lt-ltb c.args.row.owner (rows_word c.args.rows.now.words.now) (omega (arith, form_rows c.args.rows.now.words.now c.args.rows.now.form c.args.rows.now.formed)), c.placed_under.ensures, c.row.ensures, c.args.rows.now.sized)

@@ -1,4 +1,4 @@
--- `placing::finish` meets its contract.
+-- `finish` meets its contract.
 -- Assumes nothing.
 use Rattle.setting.proofs.Cells.{trailer_put}
 use native.Mathlib.Omega.{arith}

@@ -1,4 +1,4 @@
--- `placing::shut_row` meets its contract.
+-- `shut_row` meets its contract.
 -- Assumes nothing.
 use Rattle.setting.proofs.Cells.{shut_out, shut_scalar, shut_none, shut_some}
 use native.Mathlib.Omega.{arith}
@@ -8,8 +8,8 @@ use Rattle.setting.proofs.shut_row.Goals as goal
 pub returns-then-r-n : goal.returns-then-r-n
 returns-then-r-n c = let a = c.args in shut_out a.words.now a.n a.r (omega arith) a.next
 
-pub returns-then-words-at-lt5 : goal.returns-then-words-at-lt5
-returns-then-words-at-lt5 c = let a = c.args in shut_scalar a.words.now a.n a.r (omega arith) a.next (omega arith)
+pub returns-then-words-at-lt-ARRAY : goal.returns-then-words-at-lt-ARRAY
+returns-then-words-at-lt-ARRAY c = let a = c.args in shut_scalar a.words.now a.n a.r (omega arith) a.next (omega arith)
 
 pub bounds-words-at-then-next-first-2 : goal.bounds-words-at-then-next-first-2
 bounds-words-at-then-next-first-2 c = simp length-set (omega arith)

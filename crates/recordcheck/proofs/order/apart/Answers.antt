@@ -1,41 +1,37 @@
 -- `apart` meets its contract: the rows' labels lie as the search for a repeated name asks. Assumes nothing.
-use mathlib.Core.Path.{refl, sym, ◌∙◌}
-use Prim.Native.Nat.{ℕ, ◌+◌, ◌*◌, ◌<◌}
+use mathlib.Core.Path.{◌≡◌, sym, ap, ◌∙◌}
+use Prim.Native.Nat.{ℕ, ◌+◌, ◌<◌}
 use native.Mathlib.Omega.{arith}
 use borrow.Author.Tests.{leb-true}
 use Rattle.laws.proofs.Searches.{clear_below}
 use Rattle.names.specs.declared.Names.{Names}
 use Rattle.names.specs.Names.{name_at, repeats_at}
 use Rattle.names.proofs.Repeats.{repeats_agree}
-use Rattle.sheet.specs.Record.{row_words, doc_of}
-use Rattle.sheet.proofs.Trailers.{rows_end}
+use Rattle.sheet.specs.Record.{doc_of}
 use Rattle.sheet.proofs.Labels.{labels_lie, label_name}
 use Rattle.recordcheck.proofs.order.apart.Goals as goal
 
-pub overflow_add-lying : goal.overflow_add-lying
-overflow_add-lying c =
-    omega (arith, c.wide-start.ensures, c.requires.formed.2, rows_end c.args.words.now c.args.form c.requires.formed.0)
-
-pub overflow_add-lying-2 : goal.overflow_add-lying-2
-overflow_add-lying-2 c =
-    omega (arith, c.wide-start.ensures, c.requires.formed.2, rows_end c.args.words.now c.args.form c.requires.formed.0)
-
 pub first_repeated-requires : goal.first_repeated-requires
 first_repeated-requires c =
-    let count_is = c.wide-all.ensures in
-    labels_lie c.args.words.now c.args.text.now c.args.form c.requires.formed.0 c.args.first _ (rw c.wide-start.ensures) refl c.requires.formed.1
-    (rw count_is c.requires.formed.2)
-    (λ i l. c.requires.by_index i (rw count_is at l))
+    let rows = c.args.sheet.now.rows in
+    let is = c.labels-labels.ensures in
+    let count : c.labels-labels.result.count ≡ c.args.children.count = ap (λ (n : Names). n.count) is in
+    labels_lie rows.words.now c.args.sheet.now.text.now rows.form rows.formed c.args.children.first c.labels-labels.result (ap (λ (n : Names). n.base) is) (ap (λ (n : Names). n.stride) is)
+    (c.args.sheet.now.whole ∙ rows.sized)
+    (omega (arith, c.requires.within))
+    (λ i l. c.requires.by_index i (omega (arith, count)))
 
 pub returns : goal.returns
 returns c t =
-    let names : Names = record { base = c.args.form.start + row_words * c.wide-start.result + 4; stride = row_words; count = c.wide-all.result } in
-    let past = leb-true c.wide-all.result c.first_repeated.result t in
-    let lowest_is = c.first_repeated.ensures in
+    let rows = c.args.sheet.now.rows in
+    let is = c.labels-labels.ensures in
+    let names = c.labels-labels.result in
+    let count : names.count ≡ c.args.children.count = ap (λ (n : Names). n.count) is in
+    let past = leb-true names.count c.first_repeated.result t in
     record {
       none_repeats =
-          λ (i : ℕ) (l : i < c.args.count).
-          repeats_agree (λ k. (doc_of c.args.words.now c.args.text.now).name (c.args.first + k)) (name_at c.args.words.now c.args.text.now names) i
-          (λ k g. sym (label_name c.args.words.now c.args.text.now c.args.form c.requires.formed.0 c.args.first names (rw c.wide-start.ensures) refl k))
-          ∙ clear_below (repeats_at c.args.words.now c.args.text.now names) c.wide-all.result 0 i (omega arith) (omega (arith, c.wide-all.ensures)) (omega (arith, c.wide-all.ensures));
+          λ (i : ℕ) (l : i < c.args.children.count).
+          repeats_agree (λ k. (doc_of rows.words.now c.args.sheet.now.text.now).name (c.args.children.first + k)) (name_at rows.words.now c.args.sheet.now.text.now names) i
+          (λ k g. sym (label_name rows.words.now c.args.sheet.now.text.now rows.form rows.formed c.args.children.first names (ap (λ (n : Names). n.base) is) (ap (λ (n : Names). n.stride) is) k))
+          ∙ clear_below (repeats_at rows.words.now c.args.sheet.now.text.now names) names.count 0 i (omega arith) (omega (arith, count)) (omega (arith, count, c.first_repeated.ensures));
     }

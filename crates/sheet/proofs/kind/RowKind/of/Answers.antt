@@ -1,32 +1,23 @@
--- `RowKind::of` meets its contract: arm by arm, and past the arms no kind's number. Assumes nothing.
-use borrow.Author.Tests.{ne_eqb}
-use Rattle.sheet.specs.Kinds.{kind_of}
+-- `RowKind::of` meets its contract: a number that is no kind's reads as `Null`. Assumes nothing.
+use Rattle.std.proofs.Common.{◌≡◌, ℕ, ◌<◌, false, sym, ◌∙◌, arith}
+use Rattle.std.specs.Prelude.{Result, Ok, Err}
+use Rattle.std.specs.Result.{result_unwrap_or}
+use borrow.Author.Tests.{ne_eqb, leb-false}
+use Rattle.sheet.specs.declared.kind.RowKind.{RowKind}
+use Rattle.sheet.specs.declared.kind.UnknownKind.{UnknownKind}
+use Rattle.sheet.specs.declared.kind.RowKind.TheVariants.{Null}
+use Rattle.sheet.specs.Kinds.{is_kind, kind_of, KindRead}
 use Rattle.sheet.proofs.kind.RowKind.of.Goals as goal
 
-pub returns-in-1 : goal.returns-in-1
+no_kind : (n : ℕ) → is_kind n ≡ false → kind_of n ≡ Null
 unfolding kind_of
-returns-in-1 c = rw c.in-1.is
+no_kind n h =
+    let past : 6 < n = leb-false n 6 h in
+    simp (ne_eqb n 1 (omega arith), ne_eqb n 2 (omega arith), ne_eqb n 3 (omega arith), ne_eqb n 4 (omega arith), ne_eqb n 5 (omega arith), ne_eqb n 6 (omega arith))
 
-pub returns-in-2 : goal.returns-in-2
-unfolding kind_of
-returns-in-2 c = rw c.in-2.is
+read_or : (n : ℕ) (r : Result RowKind UnknownKind) → KindRead n r → result_unwrap_or r Null ≡ kind_of n
+read_or n (Ok k) h = h.1
+read_or n (Err e) h = sym (no_kind n h.0)
 
-pub returns-in-3 : goal.returns-in-3
-unfolding kind_of
-returns-in-3 c = rw c.in-3.is
-
-pub returns-in-4 : goal.returns-in-4
-unfolding kind_of
-returns-in-4 c = rw c.in-4.is
-
-pub returns-in-5 : goal.returns-in-5
-unfolding kind_of
-returns-in-5 c = rw c.in-5.is
-
-pub returns-in-6 : goal.returns-in-6
-unfolding kind_of
-returns-in-6 c = rw c.in-6.is
-
-pub returns-in_default : goal.returns-in_default
-unfolding kind_of
-returns-in_default c = simp (ne_eqb _ _ c.in_default.in_default-own.rest.0.0.0.0.0.1, ne_eqb _ _ c.in_default.in_default-own.rest.0.0.0.0.1, ne_eqb _ _ c.in_default.in_default-own.rest.0.0.0.1, ne_eqb _ _ c.in_default.in_default-own.rest.0.0.1, ne_eqb _ _ c.in_default.in_default-own.rest.0.1, ne_eqb _ _ c.in_default.in_default-own.rest.1)
+pub returns : goal.returns
+returns c = c.unwrap_or.ensures ∙ read_or _ _ c.try_from.ensures
