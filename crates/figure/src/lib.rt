@@ -10,7 +10,8 @@ ghost use Rattle.figure.specs.Figure.{Fair, whole_more, part_more, power_back, p
 use numeral::{Kept, Written, digit_more, power_more, write_down};
 
 // The digits up to the last that is not 0 and how many zeros follow it, how many digits stand
-// behind the point, whether the exponent has a minus, and the exponent.
+// behind the point, whether the exponent has a minus, and the exponent. The first two are no `Kept`, so that who holds
+// a figure need not name crate `numeral`. `Fair` is no part of the type: the next digit need not keep it.
 #[derive(Clone, Copy)]
 pub struct Figure {
     pub kept: u64,

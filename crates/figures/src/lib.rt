@@ -57,7 +57,8 @@ fn digit_at(json: &[u8], i: usize) -> Option<u64>
 }
 
 // The digits from a place on, after those that `first` is kept of. The loop of an exponent's digits stays beside it:
-// one function for both needs a trait with the bound that each of the two keeps.
+// one function for both needs a trait with the bound that each of the two keeps. Nor is it a `for` over the text:
+// `start` may lie behind the end.
 fn digits_from(json: &[u8], start: usize, first: Kept) -> Read<Kept>
     requires { (Sound first start) × (start ≤ 65_536) × (length json.now ≤ 65_536) }
     ensures read { (q : DigitsAt json.now start) → DigitsRead json.now start first q result.to result.held }

@@ -13,7 +13,7 @@ ghost use Rattle.follow.specs.Following.{AroundAll, Shifted, Followed};
 use brackets::{Open, around, changed_by, popped};
 use grammar::{Bracket, Change, step};
 
-// How far a text goes, and whether it is one to its end.
+// How far a text goes, and whether it is one to its end. No `Result`: one clause (`Followed`) tells how far either way.
 #[derive(Clone, Copy)]
 pub struct End {
     pub at: usize,

@@ -40,7 +40,8 @@ fn watch_on(place: u8, depth: u32, byte: u8, left: usize, s: Watch) -> Watch
     s
 }
 
-// After the byte at a place of the text, if a text goes on so.
+// After the byte at a place of the text, if a text goes on so. The areas are five parameters: a struct of them would be
+// made in `first_pass`, whose signature stays, and taken apart here.
 fn next(
     json: &[u8],
     at: usize,
