@@ -1,38 +1,23 @@
--- The number that a step answers.
---     code_place, code_change     tells a place and a change
+-- The place that a step answers is one.
+--     code_place     its number is below 50
 -- Assumes nothing.
-use mathlib.Core.Option.{Option, none, some}
-use mathlib.Core.Path.{◌≡◌}
-use Prim.Native.Nat.{ℕ, ◌+◌, ◌/◌, ◌%◌, ◌<◌}
-use native.Mathlib.Omega.{arith}
-use Rattle.jsontext.specs.Automaton.{square, curly, Change, keep, pop, push, Move, moves, pick}
-use Rattle.grammar.specs.Codes.{dead, move_code, place_code, change_code, leads, bracket_at, place_at}
+use mathlib.Core.Option.{none, some}
+use mathlib.Core.Path.{◌≡◌, sym}
+use Prim.Native.Nat.{ℕ, ◌<◌}
+use Rattle.std.specs.Prelude.{Option, Some}
+use Rattle.std.proofs.Math.Option as Math
+use Rattle.std.proofs.lemmas.Option.{same_Some}
+use Rattle.jsontext.specs.Automaton as Auto
+use Rattle.jsontext.specs.Automaton.{moves, pick}
+use Rattle.grammar.specs.Codes.{move_code, step_of, leads, bracket_at, place_at}
+use Rattle.grammar.specs.declared.Bracket.{Bracket}
+use Rattle.grammar.specs.declared.Move.{Move}
 use Rattle.grammar.proofs.Places.{place_low}
 
-record Told (n : ℕ) : Type 0 where
-  place : n % 64 < 50
-  change : n / 64 < 4
-
-told : (m : Move) → Told (move_code (some m))
-told m = go m.change
+pub code_place : (n : Move) (place byte : ℕ) (r : Option Bracket) → leads (moves (place_at place) (bracket_at r)) byte ≡ Some n → n.place < 50
+unfolding leads
+code_place n place byte r e = go (pick (moves (place_at place) (bracket_at r)) byte) e
   where
-    go : (c : Change) → Told (place_code m.place + change_code c)
-    go keep = let l = place_low m.place in record { place = omega arith; change = omega arith }
-    go pop = let l = place_low m.place in record { place = omega arith; change = omega arith }
-    go (push square) = let l = place_low m.place in record { place = omega arith; change = omega arith }
-    go (push curly) = let l = place_low m.place in record { place = omega arith; change = omega arith }
-
-module _ (n place byte r : ℕ) (e : n ≡ leads (moves (place_at place) (bracket_at r)) byte) (alive : n ≡ dead → ⊥) where
-  code_told : Told n
-  unfolding leads
-  code_told = go (pick (moves (place_at place) (bracket_at r)) byte) e
-    where
-      go : (o : Option Move) → n ≡ move_code o → Told n
-      go none q = absurd (alive q)
-      go (some m) q = rw q (told m)
-
-  pub code_place : n % 64 < 50
-  code_place = code_told.place
-
-  pub code_change : n / 64 < 4
-  code_change = code_told.change
+    go : (o : Math.Option Auto.Move) → move_code o ≡ Some n → n.place < 50
+    go none q = cc
+    go (some m) q = rw (sym (same_Some (step_of m) n q)) (place_low m.place)

@@ -2,36 +2,50 @@
 // which contracts cite): the innermost one, and what a step of the automaton does to them.
 #![tactic(auto)]
 
-ghost use Rattle.std.specs.Prelude.{◌<◌, ◌+◌};
-ghost use Rattle.brackets.specs.Brackets.{Around, Fits, Turned};
+ghost use Rattle.std.specs.Prelude.{◌≡◌, ◌<◌};
+ghost use Rattle.grammar.specs.declared.Change.TheVariants.{Push, Pop};
+ghost use Rattle.brackets.specs.Brackets.{bit_of, Around, Fits, Turned};
 
-// The brackets that are open, the innermost lowest, and how many there are.
+use grammar::{Bracket, Change};
+
+// The brackets that are open, the innermost lowest, and how many there are. That no other bit is set (`Fits`) is no
+// part of the type, since `around` is for any number (docs/PROMISES.md).
 #[derive(Clone, Copy)]
 pub struct Open {
     pub bits: u64,
     pub depth: u32,
 }
 
-// The innermost bracket: 0 none, 1 square, 2 curly.
-pub fn around(o: Open) -> u8
+// The innermost bracket, if one is open.
+pub fn around(o: Open) -> Option<Bracket>
     ensures { Around o result }
 {
     if o.depth == 0 {
-        return 0;
+        None
+    } else if o.bits % 2 == 0 {
+        Some(Bracket::Square)
+    } else {
+        Some(Bracket::Curly)
     }
-    if o.bits % 2 == 0 {
-        return 1;
-    }
-    2
 }
 
-// A bracket more: 0 square, 1 curly.
-fn pushed(o: Open, bracket: u64) -> Open
-    requires { Fits o × (o.depth < 62) × (bracket < 2) }
-    ensures { Turned o (1 + bracket) result }
+// The bit of a bracket.
+fn bit_of(bracket: Bracket) -> u64
+    ensures { result ≡ bit_of bracket }
+{
+    match bracket {
+        Bracket::Square => 0,
+        Bracket::Curly => 1,
+    }
+}
+
+// A bracket more.
+fn pushed(o: Open, bracket: Bracket) -> Open
+    requires { Fits o × (o.depth < 62) }
+    ensures { Turned o (Push bracket) result }
 {
     Open {
-        bits: o.bits * 2 + bracket,
+        bits: o.bits * 2 + bit_of(bracket),
         depth: o.depth + 1,
     }
 }
@@ -39,7 +53,7 @@ fn pushed(o: Open, bracket: u64) -> Open
 // The innermost bracket is closed.
 pub fn popped(o: Open) -> Open
     requires { Fits o }
-    ensures { Turned o 3 result }
+    ensures { Turned o Pop result }
 {
     if o.depth == 0 {
         return o;
@@ -50,19 +64,14 @@ pub fn popped(o: Open) -> Open
     }
 }
 
-// The brackets after a change: 0 none, 1 and 2 one more, 3 one less.
-pub fn changed_by(o: Open, change: u8) -> Open
-    requires { Fits o × (o.depth < 62) × (change < 4) }
+// The brackets after a change.
+pub fn changed_by(o: Open, change: Change) -> Open
+    requires { Fits o × (o.depth < 62) }
     ensures { Turned o change result }
 {
-    if change == 0 {
-        return o;
+    match change {
+        Change::Keep => o,
+        Change::Push(bracket) => pushed(o, bracket),
+        Change::Pop => popped(o),
     }
-    if change == 1 {
-        return pushed(o, 0);
-    }
-    if change == 2 {
-        return pushed(o, 1);
-    }
-    popped(o)
 }

@@ -2,9 +2,9 @@
 // of surrogates, and how many bytes a character takes (`specs/Escapes.antt`, which contracts cite).
 #![tactic(auto)]
 
-ghost use Rattle.std.specs.Prelude.{◌≡◌, ◌+◌, ◌*◌, ◌≤◌, ◌<◌};
+ghost use Rattle.std.specs.Prelude.{◌≡◌, ◌+◌, ◌*◌, ◌≤◌, ◌<◌, IfSome};
 ghost use Rattle.jsontext.specs.Value.{joined};
-ghost use Rattle.escapes.specs.Escapes.{HexByte, hex_at, encoded_size};
+ghost use Rattle.escapes.specs.Escapes.{HexByte, hex_at, waiting, encoded_size};
 
 // What a hexadecimal digit is worth.
 pub fn hex_of(byte: u32) -> u32
@@ -29,14 +29,14 @@ pub fn unit_of(a: u32, b: u32, c: u32, d: u32) -> u32
 }
 
 // The character of a low surrogate for which a high one waits, or of the escape by itself where none does.
-pub fn character_of(waits: u32, code: u32) -> u32
-    requires { (waits < 0xDC00) × (code < 0x10000) × ((0 < waits) → (0xD800 ≤ waits) × (0xDC00 ≤ code)) }
-    ensures { result ≡ joined waits code }
+pub fn character_of(waits: Option<u32>, code: u32) -> u32
+    requires { (waiting waits < 0xDC00) × (code < 0x10000) × IfSome waits (λ high. (0xD800 ≤ high) × (0xDC00 ≤ code)) }
+    ensures { result ≡ joined (waiting waits) code }
 {
-    if waits == 0 {
-        return code;
+    match waits {
+        None => code,
+        Some(high) => 0x10000 + (high - 0xD800) * 0x400 + (code - 0xDC00),
     }
-    0x10000 + (waits - 0xD800) * 0x400 + (code - 0xDC00)
 }
 
 // How many bytes a character takes.

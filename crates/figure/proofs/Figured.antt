@@ -15,8 +15,7 @@ use Rattle.jsontext.specs.Text.{Digit, Digits, digit, digits, digits1, Whole, no
 use Rattle.jsontext.specs.Number.{Trimmed, trim_more, trim_after, trim, worth_after, worth, listed, whole_digits, part_digits, right_by, left_by, right_of, left_of, Exact, exact_of, wide}
 use Rattle.jsontext.proofs.Trimming.{by_zero, more_zero, more_tail, more_digit}
 use Rattle.numeral.specs.declared.Kept.{Kept}
-use Rattle.numeral.specs.declared.Written.{Written}
-use Rattle.numeral.specs.Numeral.{power_max, capped, kept_more, written_of}
+use Rattle.numeral.specs.Numeral.{Writing, power_max, capped, kept_more, written_of}
 use Rattle.numeral.proofs.Caps.{capped_most, capped_low, kept_none}
 use Rattle.numeral.proofs.Digits.{Held, held_more, power_held, kept_written, right_written, left_written}
 use Rattle.numeral.proofs.Writing.{written_wide_is}
@@ -168,7 +167,7 @@ figure_written n h =
     ∙ exponent_is t k (held_after ds (record { kept = 0; zeros = 0 }) none_kept (record { kept_is = sym (capped_low number_max 0 (omega arith)); zeros_are = refl })) (length (part_digits n.part)) (omega arith) (omega (arith, length-append (whole_digits n.integer) (part_digits n.part))) n.power
 
 pub figure_wide : (n : Number) → length (all_digits n) ≤ 65_536 → (figured (figure_of n)).wide ≡ wide number_max (exact_of n)
-figure_wide n h = ap (λ (w : Written). w.wide) (figure_written n h) ∙ written_wide_is (exact_of n)
+figure_wide n h = ap (λ (w : Writing). w.wide) (figure_written n h) ∙ written_wide_is (exact_of n)
 
 -- a number has no more digits than bytes
 digits_long : (ds : List Digit) (bs : List ℕ) → length (digits ds bs) ≡ length ds + length bs

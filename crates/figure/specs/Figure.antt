@@ -6,8 +6,7 @@ use Rattle.sheet.specs.Kinds.{number_max}
 use Rattle.jsontext.specs.Text.{Digit, Digits, Whole, nought, from, Fraction, Sign, unsigned, plus, minus, Exponent, Number}
 use Rattle.jsontext.specs.Number.{listed}
 use Rattle.numeral.specs.declared.Kept.{Kept}
-use Rattle.numeral.specs.declared.Written.{Written}
-use Rattle.numeral.specs.Numeral.{power_max, capped, kept_more, written_of}
+use Rattle.numeral.specs.Numeral.{power_max, capped, kept_more, Writing, written_of}
 use Rattle.figure.specs.declared.Figure.{Figure}
 
 -- before the first digit
@@ -35,7 +34,7 @@ abbrev pub power_more : Figure → ℕ → Figure
 power_more f d = record { kept = f.kept; zeros = f.zeros; places = f.places; back = f.back; power = capped power_max (f.power * 10 + d) }
 
 -- the digits and the scale of the number, or that no row can hold it
-unfoldable pub figured : Figure → Written
+unfoldable pub figured : Figure → Writing
 figured f = written_of f.kept (cond f.back 0 f.power + f.zeros) (f.places + cond f.back f.power 0)
 
 -- ---- all of a number

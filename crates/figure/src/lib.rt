@@ -4,12 +4,14 @@
 #![tactic(auto)]
 
 ghost use Rattle.std.specs.Prelude.{◌≡◌, ◌<◌};
+ghost use Rattle.numeral.specs.Numeral.{row_of};
 ghost use Rattle.figure.specs.Figure.{Fair, whole_more, part_more, power_back, power_more, figured};
 
 use numeral::{Kept, Written, digit_more, power_more, write_down};
 
 // The digits up to the last that is not 0 and how many zeros follow it, how many digits stand
-// behind the point, whether the exponent has a minus, and the exponent.
+// behind the point, whether the exponent has a minus, and the exponent. The first two are no `Kept`, so that who holds
+// a figure need not name crate `numeral`. `Fair` is no part of the type: the next digit need not keep it.
 #[derive(Clone, Copy)]
 pub struct Figure {
     pub kept: u64,
@@ -24,20 +26,12 @@ pub fn whole_more(f: Figure, digit: u64) -> Figure
     requires { Fair f × (digit < 10) }
     ensures { result ≡ whole_more f digit }
 {
-    let k = digit_more(
-        Kept {
-            kept: f.kept,
-            zeros: f.zeros,
-        },
-        digit,
-    );
-    Figure {
-        kept: k.kept,
-        zeros: k.zeros,
-        places: f.places,
-        back: f.back,
-        power: f.power,
-    }
+    let held = Kept {
+        kept: f.kept,
+        zeros: f.zeros,
+    };
+    let Kept { kept, zeros } = digit_more(held, digit);
+    Figure { kept, zeros, ..f }
 }
 
 // A digit behind the point.
@@ -45,19 +39,9 @@ pub fn part_more(f: Figure, digit: u64) -> Figure
     requires { Fair f × (digit < 10) }
     ensures { result ≡ part_more f digit }
 {
-    let k = digit_more(
-        Kept {
-            kept: f.kept,
-            zeros: f.zeros,
-        },
-        digit,
-    );
     Figure {
-        kept: k.kept,
-        zeros: k.zeros,
         places: f.places + 1,
-        back: f.back,
-        power: f.power,
+        ..whole_more(f, digit)
     }
 }
 
@@ -65,13 +49,7 @@ pub fn part_more(f: Figure, digit: u64) -> Figure
 pub fn power_back(f: Figure) -> Figure
     ensures { result ≡ power_back f }
 {
-    Figure {
-        kept: f.kept,
-        zeros: f.zeros,
-        places: f.places,
-        back: true,
-        power: f.power,
-    }
+    Figure { back: true, ..f }
 }
 
 // A digit of the exponent.
@@ -80,18 +58,15 @@ pub fn power_digit(f: Figure, digit: u64) -> Figure
     ensures { result ≡ power_more f digit }
 {
     Figure {
-        kept: f.kept,
-        zeros: f.zeros,
-        places: f.places,
-        back: f.back,
         power: power_more(f.power, digit),
+        ..f
     }
 }
 
-// The digits and the scale of the number, or that no row can hold it.
-pub fn written(f: Figure) -> Written
+// The digits and the scale of the number, if a row can hold it.
+pub fn written(f: Figure) -> Option<Written>
     requires { Fair f }
-    ensures { result ≡ figured f }
+    ensures { result ≡ row_of (figured f) }
 {
     if f.back {
         return write_down(f.kept, f.zeros, f.places + f.power as u32);

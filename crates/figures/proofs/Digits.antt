@@ -4,18 +4,20 @@ use mathlib.Core.Bool.{Bool, true, false, cond}
 use mathlib.Core.Logic.{⊎_elim}
 use mathlib.Core.List.{List, [], ◌∷◌}
 use mathlib.Core.Path.{◌≡◌, refl, sym, ap, ◌∙◌}
-use Prim.Native.Nat.{ℕ, zero, suc, ◌+◌, ◌*◌, ◌^◌, ◌≤◌, ◌<◌}
+use Prim.Native.Nat.{ℕ, zero, suc, ◌+◌, ◌-◌, ◌*◌, ◌^◌, ◌≤◌, ◌<◌}
 use native.Mathlib.Omega.{arith}
-use borrow.Author.Tests.{le-leb}
+use borrow.Author.Tests.{le-leb, leb-true}
 use lib.Dec.{eqb, leb}
 use lib.ListN.{length, get_or, drop, get_or-eq_default}
-use Rattle.laws.proofs.Tests.{le_or_lt, both}
+use Rattle.std.specs.Prelude.{Some, None}
+use Rattle.std.proofs.lemmas.Option.{cond_some}
+use Rattle.laws.proofs.Tests.{le_or_lt, both, left, right}
 use Rattle.jsontext.specs.Text.{Digit, digit, digits}
 use Rattle.jsontext.specs.Number.{Trimmed, trim_more}
-use Rattle.strings.proofs.Steps.{Head, head_at}
+use Rattle.strings.proofs.Steps.{head_at}
 use Rattle.numeral.specs.declared.Kept.{Kept}
 use Rattle.numeral.specs.Numeral.{kept_more}
-use Rattle.figures.specs.Figures.{is_digit, head_of, after, DigitsAt}
+use Rattle.figures.specs.Figures.{is_digit, digit_in, head_of, after, DigitsAt}
 
 abbrev trimmed : ℕ → ℕ → Trimmed
 trimmed k z = record { kept = k; zeros = z }
@@ -26,6 +28,22 @@ apart b p q = absurd (let z : ◌≡◌ {A = ℕ} 0 1 = cc in omega arith)
 
 pub digit_is : (d : Digit) → is_digit (digit d) ≡ true
 digit_is d = let l : d.worth < 10 = d.small in both (leb 0x30 (digit d)) (leb (digit d) 0x39) (le-leb 0x30 (digit d) (omega arith)) (le-leb (digit d) 0x39 (omega arith))
+
+-- what a byte tells that is worth something as a digit, and one that is not
+pub digit_told : (b w : ℕ) → digit_in b ≡ Some w → (is_digit b ≡ true) × (b ≡ 0x30 + w) × (w < 10)
+digit_told b w e =
+    let k = cond_some (is_digit b) (b - 0x30) w e in
+    let l = leb-true 0x30 b (left (leb 0x30 b) (leb b 0x39) k.0) in
+    let h = leb-true b 0x39 (right (leb 0x30 b) (leb b 0x39) k.0) in
+    let same = k.1 in
+    (k.0, omega arith, omega arith)
+
+pub digit_none : (b : ℕ) → digit_in b ≡ None → is_digit b ≡ false
+digit_none b e = go (is_digit b) e
+  where
+    go : (t : Bool) → cond t (Some (b - 0x30)) None ≡ None → t ≡ false
+    go true q = cc
+    go false q = refl
 
 -- the first byte from place i on
 pub head_is : (json : List ℕ) (i : ℕ) (l : List ℕ) → l ≡ drop i json → head_of l ≡ get_or json i 0

@@ -1,7 +1,7 @@
 -- A number as it is read: its parts come one after the other, and what is kept of them gives its words.
 --     number_read    the theorem
 -- Assumes nothing.
-use mathlib.Core.Bool.{Bool, true, false, cond, not, ◌&&◌, ◌||◌}
+use mathlib.Core.Bool.{Bool, true, false, cond, not, ◌&&◌}
 use mathlib.Core.List.{List, [], ◌∷◌, ◌++◌}
 use mathlib.Core.Logic.{◌≢◌}
 use mathlib.Core.Option.{none, some}
@@ -11,21 +11,18 @@ use native.Mathlib.Omega.{arith}
 use borrow.Author.Tests.{leb-true, eq-eqb, ne_eqb}
 use lib.Dec.{eqb, leb, lit<}
 use lib.ListN.{length, get_or, drop}
-use Rattle.laws.proofs.Tests.{right, either}
+use Rattle.laws.proofs.Tests.{right}
 use Rattle.decimal.specs.Value.{scale_max}
 use Rattle.sheet.specs.Kinds.{number_max}
-use Rattle.jsontext.specs.Text.{Digit, digit, digits, Whole, nought, from, whole, Fraction, fraction, Letter, capital, small, letter_e, Sign, unsigned, plus, minus, Power, Exponent, exponent, Number, minus_if, number}
-use Rattle.jsontext.specs.Number.{Trimmed, trim_more, trim_after, trim, worth, whole_digits, listed, part_digits, right_by, left_by, right_of, left_of, exact_of, digits_room, room_for, wide, billionths_of}
-use Rattle.strings.proofs.Steps.{head_at, not_both}
-use Rattle.breadth.specs.Number.{digits_word, scale_of}
+use Rattle.jsontext.specs.Text.{Digit, digit, digits, Whole, nought, from, whole, Fraction, fraction, Letter, capital, small, letter_e, Sign, unsigned, plus, minus, Exponent, exponent, Number, minus_if}
+use Rattle.jsontext.specs.Number.{Trimmed, trim_more, trim_after, trim, worth, whole_digits, listed, part_digits, right_by, left_by, right_of, left_of, exact_of, digits_room, room_for}
+use Rattle.strings.proofs.Steps.{head_at}
 use Rattle.numeral.specs.declared.Kept.{Kept}
-use Rattle.numeral.specs.declared.Written.{Written}
-use Rattle.numeral.specs.Numeral.{power_max, capped, kept_more, written_of, word_of}
+use Rattle.numeral.specs.Numeral.{Writing, power_max, capped, kept_more, written_of, word_of}
 use Rattle.numeral.proofs.Caps.{capped_most}
 use Rattle.numeral.proofs.Digits.{Held, held_more, kept_written, right_written, left_written}
 use Rattle.numeral.proofs.Writing.{written_words}
 use Rattle.figures.specs.Figures.{is_digit, Stops, head_of, after, kept_all, DigitsAt, DigitsRead, FractionAt, FractionRead, ExponentAt, ExponentRead, NumberAt, NumberRead}
-use Rattle.figures.proofs.Digits.{digit_is, head_is}
 
 -- ---- what is kept
 
@@ -77,7 +74,7 @@ unfolding written_of
 written_few kept up down = go (room_for number_max kept up down) (eqb kept 0) refl refl
   where
     go : (r z : Bool) → room_for number_max kept up down ≡ r → eqb kept 0 ≡ z
-        → (cond {A = Written} (not r) (record { wide = true; digits = 0; scale = 0 })
+        → (cond {A = Writing} (not r) (record { wide = true; digits = 0; scale = 0 })
         (cond z (record { wide = false; digits = 0; scale = 0 }) (record { wide = false; digits = kept * 10 ^ (up - down); scale = down - up }))).digits ≤ number_max
     go false z e f = omega arith
     go true true e f = omega arith
@@ -157,7 +154,7 @@ module _ (json : List ℕ) (start : ℕ) (q : NumberAt json start) where
   begun : (eqb (get_or json start 0) 0x2D ≡ fig.negative) × (whole fig.integer frac_rest ≡ drop (start + cond fig.negative 1 0) json)
   begun = minus_there json start fig.negative fig.integer frac_rest q.spelled
 
-  module _ (below : Bool) (first wto pto eto up down places : ℕ) (wk pk : Kept) (w : Written) (word : ℕ)
+  module _ (below : Bool) (first wto pto eto up down places : ℕ) (wk pk : Kept) (w : Writing) (word : ℕ)
       (below_is : below ≡ eqb (get_or json start 0) 0x2D) (first_is : first ≡ start + cond below 1 0)
       (whole_read : (p : DigitsAt json first) → DigitsRead json first no_digits p wto wk)
       (part_read : (p : FractionAt json wto) → FractionRead json wto wk p pto pk places)

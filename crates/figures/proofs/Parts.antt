@@ -1,23 +1,22 @@
 -- A fraction and an exponent as they are read.
 -- Assumes nothing.
-use mathlib.Core.Bool.{Bool, true, false, cond, ◌||◌}
+use mathlib.Core.Bool.{true, false}
 use mathlib.Core.List.{List, [], ◌∷◌}
 use mathlib.Core.Logic.{◌≢◌, ⊎_elim}
 use mathlib.Core.Option.{none, some}
 use mathlib.Core.Path.{◌≡◌, refl, sym, ap, ◌∙◌}
-use Prim.Native.Nat.{ℕ, suc, ◌+◌, ◌-◌, ◌*◌, ◌≤◌, ◌<◌}
+use Prim.Native.Nat.{ℕ, ◌+◌, ◌-◌, ◌*◌, ◌≤◌, ◌<◌}
 use native.Mathlib.Omega.{arith}
 use borrow.Author.Tests.{ne_eqb}
-use lib.Dec.{eqb}
 use lib.ListN.{length, get_or, drop, get_or-eq_default}
 use Rattle.laws.proofs.Tests.{le_or_lt}
 use Rattle.jsontext.specs.Text.{Digit, digit, digits, Fraction, fraction, Letter, capital, small, letter_e, Sign, unsigned, plus, minus, signed, Power, Exponent, exponent}
-use Rattle.jsontext.specs.Number.{worth_after, worth, listed, part_digits, right_of, left_of}
+use Rattle.jsontext.specs.Number.{worth_after, worth, listed}
 use Rattle.strings.proofs.Steps.{head_at, not_both}
 use Rattle.numeral.specs.declared.Kept.{Kept}
-use Rattle.numeral.specs.Numeral.{power_max, capped, kept_more}
+use Rattle.numeral.specs.Numeral.{power_max, capped}
 use Rattle.numeral.proofs.Digits.{power_held}
-use Rattle.figures.specs.Figures.{is_digit, is_letter, Stops, head_of, after, power_more, DigitsAt, DigitsRead, FractionAt, FractionRead, PowerRead, ExponentAt, ExponentRead}
+use Rattle.figures.specs.Figures.{is_letter, Stops, head_of, after, power_more, DigitsAt, DigitsRead, FractionAt, FractionRead, PowerRead, ExponentAt, ExponentRead}
 use Rattle.figures.proofs.Digits.{apart, head_is}
 
 -- a byte that is not 0 stands within the text

@@ -1,6 +1,6 @@
 -- A number of a JSON text, read from the text: its digits, its fraction and its exponent, one after the other. Where each part stands in the text, and what is
 -- read of it. Assumes nothing.
-use Rattle.std.specs.Prelude.{Bool, false, ◌&&◌, ◌||◌, List, [], ◌∷◌, ◌≢◌, ◌≡◌, ℕ, ◌+◌, ◌*◌, ◌≤◌, ◌<◌, eqb, leb, length, get_or, drop}
+use Rattle.std.specs.Prelude.{Bool, false, cond, ◌&&◌, ◌||◌, List, [], ◌∷◌, ◌≢◌, ◌≡◌, ℕ, ◌+◌, ◌-◌, ◌*◌, ◌≤◌, ◌<◌, eqb, leb, length, get_or, drop, Option, Some, None}
 use Rattle.sheet.specs.Kinds.{number_max}
 use Rattle.jsontext.specs.Text.{Digit, digits, Fraction, fraction, Exponent, exponent, Number, number}
 use Rattle.jsontext.specs.Number.{part_digits, right_of, left_of, exact_of, wide, billionths_of}
@@ -10,6 +10,10 @@ use Rattle.numeral.specs.Numeral.{power_max, capped, kept_more, Holding}
 
 abbrev pub is_digit : ℕ → Bool
 is_digit b = leb 0x30 b && leb b 0x39
+
+-- what a byte is worth as a digit
+abbrev pub digit_in : ℕ → Option ℕ
+digit_in b = cond (is_digit b) (Some (b - 0x30)) None
 
 -- the letter of an exponent
 abbrev pub is_letter : ℕ → Bool

@@ -2,32 +2,25 @@
 // them (`specs/Figures.antt`, which contracts cite).
 #![tactic(auto)]
 
-ghost use Rattle.std.specs.Prelude.{true, false, cond, ◌≡◌, ◌+◌, ◌≤◌, ◌<◌, suc, length, get_or};
+ghost use Rattle.std.specs.Prelude.{cond, ◌≡◌, ◌+◌, ◌≤◌, ◌<◌, suc, length, get_or};
 ghost use Rattle.numeral.specs.Numeral.{power_max};
-ghost use Rattle.figures.specs.Figures.{is_digit, is_letter, Sound, DigitsAt, DigitsRead, FractionAt, FractionRead, PowerRead, ExponentAt, ExponentRead, NumberAt, NumberRead};
+ghost use Rattle.figures.specs.Figures.{digit_in, is_letter, Sound, DigitsAt, DigitsRead, FractionAt, FractionRead, PowerRead, ExponentAt, ExponentRead, NumberAt, NumberRead};
 
-use numeral::{Kept, digit_more, power_more, word_of, write_down};
+use numeral::{Kept, Written, digit_more, power_more, word_of, write_down};
 
-// What is kept of digits up to a place of the text.
+// What was read up to a place of the text, and what is held of it.
 #[derive(Clone, Copy)]
-struct Run {
+struct Read<T> {
     to: usize,
-    kept: Kept,
+    held: T,
 }
 
-// The same of a number's whole part and its fraction, and how many digits the fraction has.
+// A number's whole part and its fraction up to a place of the text, and how many digits the fraction has.
 #[derive(Clone, Copy)]
 struct Part {
     to: usize,
     places: u32,
     kept: Kept,
-}
-
-// An exponent up to a place of the text.
-#[derive(Clone, Copy)]
-struct Power {
-    to: usize,
-    value: u64,
 }
 
 // By how much an exponent moves the point to the right, and to the left.
@@ -50,59 +43,49 @@ pub struct Figure {
 pub fn byte_at(json: &[u8], i: usize) -> u8
     ensures { result ≡ get_or json.now i 0 }
 {
-    if i < json.len() {
-        return json[i];
+    json.get(i).copied().unwrap_or(0)
+}
+
+// What the digit there is worth, if one stands there.
+fn digit_at(json: &[u8], i: usize) -> Option<u64>
+    ensures { result ≡ digit_in (get_or json.now i 0) }
+{
+    match byte_at(json, i) {
+        byte @ b'0'..=b'9' => Some(u64::from(byte - b'0')),
+        _ => None,
     }
-    0
 }
 
-// Whether a digit stands there.
-fn digit_at(json: &[u8], i: usize) -> bool
-    ensures { result ≡ is_digit (get_or json.now i 0) }
-{
-    let byte = byte_at(json, i);
-    byte >= 0x30 && byte <= 0x39
-}
-
-// What the digit there is worth.
-fn worth_at(json: &[u8], i: usize) -> u64
-    requires { is_digit (get_or json.now i 0) ≡ true }
-    ensures { (get_or json.now i 0 ≡ 0x30 + result) × (result < 10) }
-{
-    let byte = byte_at(json, i);
-    (byte - 0x30) as u64
-}
-
-// The digits from a place on, after those that `first` is kept of.
-fn digits_from(json: &[u8], start: usize, first: Kept) -> Run
+// The digits from a place on, after those that `first` is kept of. The loop of an exponent's digits stays beside it:
+// one function for both needs a trait with the bound that each of the two keeps. Nor is it a `for` over the text:
+// `start` may lie behind the end.
+fn digits_from(json: &[u8], start: usize, first: Kept) -> Read<Kept>
     requires { (Sound first start) × (start ≤ 65_536) × (length json.now ≤ 65_536) }
-    ensures read { (q : DigitsAt json.now start) → DigitsRead json.now start first q result.to result.kept }
-    ensures sound { (Sound result.kept result.to) × (start ≤ result.to) × (result.to ≤ 65_536) }
+    ensures read { (q : DigitsAt json.now start) → DigitsRead json.now start first q result.to result.held }
+    ensures sound { (Sound result.held result.to) × (start ≤ result.to) × (result.to ≤ 65_536) }
 {
     let mut i = start;
     let mut k = first;
-    while digit_at(json, i) {
-        let worth = worth_at(json, i);
+    while let Some(worth) = digit_at(json, i) {
         k = digit_more(k, worth);
         i += 1;
     }
-    Run { to: i, kept: k }
+    Read { to: i, held: k }
 }
 
 // The digits of an exponent from a place on.
-fn power_from(json: &[u8], start: usize) -> Power
+fn power_from(json: &[u8], start: usize) -> Read<u64>
     requires { (start ≤ 65_536) × (length json.now ≤ 65_536) }
-    ensures read { (q : DigitsAt json.now start) → PowerRead json.now start 0 q result.to result.value }
-    ensures sound { (result.value ≤ suc power_max) × (start ≤ result.to) × (result.to ≤ 65_536) }
+    ensures read { (q : DigitsAt json.now start) → PowerRead json.now start 0 q result.to result.held }
+    ensures sound { (result.held ≤ suc power_max) × (start ≤ result.to) × (result.to ≤ 65_536) }
 {
     let mut i = start;
     let mut p: u64 = 0;
-    while digit_at(json, i) {
-        let worth = worth_at(json, i);
+    while let Some(worth) = digit_at(json, i) {
         p = power_more(p, worth);
         i += 1;
     }
-    Power { to: i, value: p }
+    Read { to: i, held: p }
 }
 
 // The fraction from a place on, if one stands there, after the digits that `first` is kept of.
@@ -111,7 +94,7 @@ fn fraction_from(json: &[u8], start: usize, first: Kept) -> Part
     ensures read { (q : FractionAt json.now start) → FractionRead json.now start first q result.to result.kept result.places }
     ensures sound { (Sound result.kept result.to) × (start ≤ result.to) × (result.to ≤ 65_536) × (result.places ≤ 65_536) }
 {
-    if byte_at(json, start) != 0x2E {
+    if byte_at(json, start) != b'.' {
         return Part {
             to: start,
             places: 0,
@@ -120,11 +103,10 @@ fn fraction_from(json: &[u8], start: usize, first: Kept) -> Part
     }
     let run = digits_from(json, start + 1, first);
     let places = run.to - (start + 1);
-    let kept = run.kept;
     Part {
         to: run.to,
         places: places as u32,
-        kept: kept,
+        kept: run.held,
     }
 }
 
@@ -132,8 +114,7 @@ fn fraction_from(json: &[u8], start: usize, first: Kept) -> Part
 fn letter_at(json: &[u8], i: usize) -> bool
     ensures { result ≡ is_letter (get_or json.now i 0) }
 {
-    let byte = byte_at(json, i);
-    byte == 0x45 || byte == 0x65
+    matches!(byte_at(json, i), b'E' | b'e')
 }
 
 // The exponent from a place on, if one stands there.
@@ -142,34 +123,35 @@ fn exponent_from(json: &[u8], start: usize) -> Shift
     ensures read { (q : ExponentAt json.now start) → ExponentRead json.now start q result.to result.up result.down }
     ensures sound { (start ≤ result.to) × (result.up ≤ suc power_max) × (result.down ≤ suc power_max) }
 {
-    if letter_at(json, start) {
-        let sign = byte_at(json, start + 1);
-        if sign == 0x2D {
-            let p = power_from(json, start + 2);
-            return Shift {
-                to: p.to,
-                up: 0,
-                down: p.value as u32,
-            };
-        }
-        if sign == 0x2B {
-            let p = power_from(json, start + 2);
-            return Shift {
-                to: p.to,
-                up: p.value as u32,
-                down: 0,
-            };
-        }
-        let p = power_from(json, start + 1);
+    if !letter_at(json, start) {
         return Shift {
-            to: p.to,
-            up: p.value as u32,
+            to: start,
+            up: 0,
             down: 0,
         };
     }
+    match byte_at(json, start + 1) {
+        b'-' => {
+            let p = power_from(json, start + 2);
+            Shift {
+                to: p.to,
+                up: 0,
+                down: p.held as u32,
+            }
+        }
+        b'+' => to_the_right(power_from(json, start + 2)),
+        _ => to_the_right(power_from(json, start + 1)),
+    }
+}
+
+// An exponent without a minus.
+fn to_the_right(p: Read<u64>) -> Shift
+    requires { p.held ≤ suc power_max }
+    ensures { result ≡ record { to = p.to; up = p.held; down = 0 } }
+{
     Shift {
-        to: start,
-        up: 0,
+        to: p.to,
+        up: p.held as u32,
         down: 0,
     }
 }
@@ -187,21 +169,23 @@ pub fn read_number(json: &[u8], start: usize) -> Figure
     requires { (start < 65_536) × (length json.now ≤ 65_536) }
     ensures { (q : NumberAt json.now start) → NumberRead json.now start q result.to result.word result.scale }
 {
-    let below = byte_at(json, start) == 0x2D;
+    let below = byte_at(json, start) == b'-';
     let first = behind_minus(start, below);
     let none = Kept { kept: 0, zeros: 0 };
     let whole = digits_from(json, first, none);
-    let kept = whole.kept;
-    let part = fraction_from(json, whole.to, kept);
+    let part = fraction_from(json, whole.to, whole.held);
     let shift = exponent_from(json, part.to);
     let all = part.kept;
     let up = shift.up + all.zeros;
     let down = shift.down + part.places;
-    let written = write_down(all.kept, up, down);
+    let written = write_down(all.kept, up, down).unwrap_or(Written {
+        digits: 0,
+        scale: 0,
+    });
     let word = word_of(below, written.digits as u32);
     Figure {
         to: shift.to,
-        word: word,
+        word,
         scale: written.scale,
     }
 }

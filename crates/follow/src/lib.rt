@@ -2,16 +2,18 @@
 // goes if not (`specs/Following.antt`, which contracts cite). What else is at fault is not asked.
 #![tactic(auto)]
 
-ghost use Rattle.std.specs.Prelude.{◌&&◌, ◌≡◌, ◌≤◌, ◌<◌, eqb, length};
+ghost use Rattle.std.specs.Prelude.{◌&&◌, List, ◌≡◌, ◌≤◌, ◌<◌, eqb, length};
 ghost use Rattle.jsontext.specs.Automaton.{at, ended};
 ghost use Rattle.grammar.specs.Codes.{place_at};
+ghost use Rattle.grammar.specs.declared.Bracket.{Bracket};
+ghost use Rattle.grammar.specs.declared.Change.TheVariants.{Pop};
 ghost use Rattle.brackets.specs.Brackets.{brackets, Fits};
 ghost use Rattle.follow.specs.Following.{AroundAll, Shifted, Followed};
 
 use brackets::{Open, around, changed_by, popped};
-use grammar::step;
+use grammar::{Bracket, Change, step};
 
-// How far a text goes, and whether it is one to its end.
+// How far a text goes, and whether it is one to its end. No `Result`: one clause (`Followed`) tells how far either way.
 #[derive(Clone, Copy)]
 pub struct End {
     pub at: usize,
@@ -30,14 +32,7 @@ fn may_end(place: u8) -> bool
     requires { place < 50 }
     ensures { result ≡ ended (place_at place) }
 {
-    match place {
-        2 => true,
-        17 => true,
-        18 => true,
-        20 => true,
-        23 => true,
-        _ => false,
-    }
+    matches!(place, 2 | 17 | 18 | 20 | 23)
 }
 
 // The end of a text, where so many brackets are open.
@@ -48,46 +43,51 @@ fn at_end(place: u8, depth: u32) -> bool
     may_end(place) & (depth == 0)
 }
 
-// The innermost bracket: 0 none, 1 square, 2 curly.
-fn around_all(table: &[u8], s: Stack) -> u8
+// The innermost bracket, if one is open.
+fn around_all(table: &[Bracket], s: Stack) -> Option<Bracket>
     requires { s.more ≤ length table.now }
     ensures { AroundAll table.now s result }
 {
     if s.more == 0 {
-        return around(s.opened);
+        around(s.opened)
+    } else {
+        Some(table[s.more - 1])
     }
-    if table[s.more - 1] == 1 {
-        return 1;
-    }
-    2
 }
 
-// The brackets after a change: 0 none, 1 and 2 one more, 3 one less.
-fn shifted(table: &mut [u8], s: Stack, change: u8) -> Stack
-    requires { (s.more < length table.old) × Fits s.opened × (change < 4) }
+// The innermost bracket is closed, in the table or below it.
+fn fewer(s: Stack) -> Stack
+    requires { Fits s.opened }
+    ensures { (cells : List Bracket) → Shifted cells s Pop cells result }
+{
+    if s.more == 0 {
+        Stack {
+            opened: popped(s.opened),
+            ..s
+        }
+    } else {
+        Stack {
+            more: s.more - 1,
+            ..s
+        }
+    }
+}
+
+// The brackets after a change.
+fn shifted(table: &mut [Bracket], s: Stack, change: Change) -> Stack
+    requires { (s.more < length table.old) × Fits s.opened }
     ensures { Shifted table.old s change table.new result }
 {
-    let k = s.more;
-    let opened = s.opened;
-    if change == 0 {
-        return s;
-    }
-    if change != 3 {
-        table[k] = change;
-        return Stack {
-            opened: opened,
-            more: k + 1,
-        };
-    }
-    if k == 0 {
-        return Stack {
-            opened: popped(opened),
-            more: 0,
-        };
-    }
-    Stack {
-        opened: opened,
-        more: k - 1,
+    match change {
+        Change::Keep => s,
+        Change::Push(bracket) => {
+            table[s.more] = bracket;
+            Stack {
+                more: s.more + 1,
+                ..s
+            }
+        }
+        Change::Pop => fewer(s),
     }
 }
 
@@ -96,34 +96,25 @@ fn follow_deep(json: &[u8], from: usize, place: u8, opened: Open) -> End
     requires { (from ≤ length json.now) × (length json.now ≤ 65_536) × (place < 50) × Fits opened }
     ensures { Followed json.now from (at (place_at place) (brackets opened)) result }
 {
-    let mut table = [0u8; 65_536];
+    let mut table = [Bracket::Square; 65_536];
     let n = json.len();
-    let mut s = Stack {
-        opened: opened,
-        more: 0,
-    };
+    let mut s = Stack { opened, more: 0 };
     let mut p = place;
-    let mut at = from;
-    while at < n {
-        let code = step(p, around_all(&table, s), json[at]);
-        if code == 63 {
-            return End {
-                at: at,
-                whole: false,
-            };
-        }
-        p = code % 64;
-        s = shifted(&mut table, s, code / 64);
-        at += 1;
+    for at in from..n {
+        let Some(m) = step(p, around_all(&table, s), json[at]) else {
+            return End { at, whole: false };
+        };
+        p = m.place;
+        s = shifted(&mut table, s, m.change);
     }
-    let inner = s.opened;
     End {
-        at: at,
-        whole: at_end(p, inner.depth) & (s.more == 0),
+        at: n,
+        whole: at_end(p, s.opened.depth) & (s.more == 0),
     }
 }
 
-// From a place of the text on, with these brackets open around it.
+// From a place of the text on, with these brackets open around it. Its loop is not `follow_deep`'s: it has no table to
+// clear, and leaves where the brackets of a number are full.
 pub fn follow(json: &[u8], from: usize, place: u8, opened: Open) -> End
     requires { (from ≤ length json.now) × (length json.now ≤ 65_536) × (place < 50) × Fits opened }
     ensures { Followed json.now from (at (place_at place) (brackets opened)) result }
@@ -131,24 +122,18 @@ pub fn follow(json: &[u8], from: usize, place: u8, opened: Open) -> End
     let n = json.len();
     let mut o = opened;
     let mut p = place;
-    let mut at = from;
-    while at < n {
+    for at in from..n {
         if 62 <= o.depth {
             return follow_deep(json, at, p, o);
         }
-        let code = step(p, around(o), json[at]);
-        if code == 63 {
-            return End {
-                at: at,
-                whole: false,
-            };
-        }
-        p = code % 64;
-        o = changed_by(o, code / 64);
-        at += 1;
+        let Some(m) = step(p, around(o), json[at]) else {
+            return End { at, whole: false };
+        };
+        p = m.place;
+        o = changed_by(o, m.change);
     }
     End {
-        at: at,
+        at: n,
         whole: at_end(p, o.depth),
     }
 }

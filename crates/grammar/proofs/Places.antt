@@ -1,13 +1,12 @@
--- Numbers of places and of moves, read back.
+-- Numbers of places, and steps, read back.
 --     place_back, place_low      a place's number stands for it, and is below 50
---     move_place, move_change    a move's number tells the next place and the change
+--     move_place, move_change    a move's step tells the next place and the change
 -- Assumes nothing.
-use mathlib.Core.Option.{some}
-use mathlib.Core.Path.{◌≡◌, refl, ap, ◌∙◌}
-use Prim.Native.Nat.{ℕ, ◌+◌, ◌/◌, ◌%◌, ◌<◌}
+use mathlib.Core.Path.{◌≡◌, refl, ap}
+use Prim.Native.Nat.{◌<◌}
 use native.Mathlib.Omega.{arith}
-use Rattle.jsontext.specs.Automaton.{square, curly, as_value, as_name, one, two, three, after_e0, after_ed, after_f0, after_f4, hex1, hex2, hex3, hex4, n1, n2, n3, t1, t2, t3, f1, f2, f3, f4, Place, ahead, first_element, after, name, first_name, colon, word, minus, nought, whole, point, part, letter, sign, power, text, escape, unit, char, Change, keep, pop, push, Move}
-use Rattle.grammar.specs.Codes.{place_code, change_code, move_code, place_at, change_at}
+use Rattle.jsontext.specs.Automaton.{Bracket, square, curly, as_value, as_name, one, two, three, after_e0, after_ed, after_f0, after_f4, hex1, hex2, hex3, hex4, n1, n2, n3, t1, t2, t3, f1, f2, f3, f4, Place, ahead, first_element, after, name, first_name, colon, word, minus, nought, whole, point, part, letter, sign, power, text, escape, unit, char, Change, keep, pop, push, Move}
+use Rattle.grammar.specs.Codes.{place_code, bracket_code, bracket_of, change_code, change_at, step_of, place_at}
 
 pub place_back : (p : Place) → place_at (place_code p) ≡ p
 place_back ahead = refl
@@ -113,27 +112,17 @@ place_low (char after_f0 as_name) = omega arith
 place_low (char after_f4 as_value) = omega arith
 place_low (char after_f4 as_name) = omega arith
 
-pub change_back : (c : Change) → change_at (change_code c / 64) ≡ c
+pub bracket_back : (k : Bracket) → bracket_of (bracket_code k) ≡ k
+bracket_back square = refl
+bracket_back curly = refl
+
+pub change_back : (c : Change) → change_at (change_code c) ≡ c
 change_back keep = refl
 change_back pop = refl
-change_back (push square) = refl
-change_back (push curly) = refl
+change_back (push k) = ap push (bracket_back k)
 
--- a change is a multiple of 64
-whole_change : (c : Change) → change_code c % 64 ≡ 0
-whole_change keep = refl
-whole_change pop = refl
-whole_change (push square) = refl
-whole_change (push curly) = refl
+pub move_place : (m : Move) → place_at (step_of m).place ≡ m.place
+move_place m = place_back m.place
 
-place_part : (p c : ℕ) → p < 50 → c % 64 ≡ 0 → (p + c) % 64 ≡ p
-place_part p c l z = omega arith
-
-change_part : (p c : ℕ) → p < 50 → c % 64 ≡ 0 → (p + c) / 64 ≡ c / 64
-change_part p c l z = omega arith
-
-pub move_place : (m : Move) → place_at (move_code (some m) % 64) ≡ m.place
-move_place m = ap place_at (place_part (place_code m.place) (change_code m.change) (place_low m.place) (whole_change m.change)) ∙ place_back m.place
-
-pub move_change : (m : Move) → change_at (move_code (some m) / 64) ≡ m.change
-move_change m = ap change_at (change_part (place_code m.place) (change_code m.change) (place_low m.place) (whole_change m.change)) ∙ change_back m.change
+pub move_change : (m : Move) → change_at (step_of m).change ≡ m.change
+move_change m = change_back m.change

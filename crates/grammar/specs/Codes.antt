@@ -1,11 +1,20 @@
--- The places of the automaton as numbers, and what a move comes to: the next place, and 64 for each bracket of its change.
+-- The places of the automaton as numbers, and what a move comes to in code: the next place, and what is done to the open brackets.
 -- Assumes nothing.
-use Rattle.std.specs.Prelude.{Bool, cond, ◌&&◌, ◌||◌, List, [], ◌∷◌, ◌≡◌, ℕ, ◌+◌, ◌≤◌, ◌<◌, leb, get_or}
-use Rattle.std.proofs.Math.Option.{Option, none, some}
-use Rattle.jsontext.specs.Automaton.{Bracket, square, curly, Role, as_value, as_name, Char, one, two, three, after_e0, after_ed, after_f0, after_f4, Left, hex1, hex2, hex3, hex4, Word, n1, n2, n3, t1, t2, t3, f1, f2, f3, f4, Place, ahead, first_element, after, name, first_name, colon, word, minus, nought, whole, point, part, letter, sign, power, text, escape, unit, char, Change, keep, pop, push, Move, moves, pick}
+use Rattle.std.specs.Prelude.{Bool, cond, ◌&&◌, List, [], ◌∷◌, ◌≡◌, ℕ, ◌+◌, leb, get_or, Option, Some, None}
+use Rattle.std.proofs.Math.Option as Math
+use Rattle.std.proofs.Math.Option.{none, some}
+use Rattle.jsontext.specs.Automaton as Auto
+use Rattle.jsontext.specs.Automaton.{square, curly, as_value, as_name, Char, one, two, three, after_e0, after_ed, after_f0, after_f4, Left, hex1, hex2, hex3, hex4, Word, n1, n2, n3, t1, t2, t3, f1, f2, f3, f4, Place, ahead, first_element, after, name, first_name, colon, word, minus, nought, whole, point, part, letter, sign, power, text, escape, unit, char, keep, pop, push, moves, pick}
+use Rattle.grammar.specs.declared.Bracket.{Bracket}
+use Rattle.grammar.specs.declared.Bracket.TheVariants.{Square, Curly}
+use Rattle.grammar.specs.declared.Change.{Change}
+use Rattle.grammar.specs.declared.Change.TheVariants.{Keep, Push, Pop}
+use Rattle.grammar.specs.declared.Role.{Role}
+use Rattle.grammar.specs.declared.Role.TheVariants.{AsValue, AsName}
+use Rattle.grammar.specs.declared.Move.{Move}
 
 -- within a string, by how the string is used
-abbrev pub role_code : Role → ℕ
+abbrev pub role_code : Auto.Role → ℕ
 role_code as_value = 0
 role_code as_name = 1
 
@@ -57,45 +66,63 @@ place_code (escape r) = 26 + role_code r
 place_code (unit h r) = left_code h + role_code r
 place_code (char c r) = char_code c + role_code r
 
-abbrev pub change_code : Change → ℕ
-change_code keep = 0
-change_code (push square) = 64
-change_code (push curly) = 128
-change_code pop = 192
+abbrev pub bracket_code : Auto.Bracket → Bracket
+bracket_code square = Square
+bracket_code curly = Curly
 
--- no move
+abbrev pub change_code : Auto.Change → Change
+change_code keep = Keep
+change_code (push k) = Push (bracket_code k)
+change_code pop = Pop
+
+abbrev pub step_of : Auto.Move → Move
+step_of m = record { place = place_code m.place; change = change_code m.change }
+
+abbrev pub move_code : Math.Option Auto.Move → Option Move
+move_code none = None
+move_code (some m) = Some (step_of m)
+
+-- the number of no place, where no text goes on so
 abbrev pub dead : ℕ
 dead = 63
 
-abbrev pub move_code : Option Move → ℕ
-move_code none = dead
-move_code (some m) = place_code m.place + change_code m.change
-
 -- where the moves lead with a byte
-unfoldable pub leads : List Move → ℕ → ℕ
+unfoldable pub leads : List Auto.Move → ℕ → Option Move
 leads ms b = move_code (pick ms b)
 
 -- the byte is one of a range
 abbrev pub inside : ℕ → ℕ → ℕ → Bool
 inside low high b = leb low b && leb b high
 
-abbrev pub is_blank : ℕ → Bool
-is_blank b = ((inside 0x20 0x20 b || inside 0x09 0x09 b) || inside 0x0A 0x0A b) || inside 0x0D 0x0D b
+-- a step that leaves the brackets as they are
+abbrev pub goes : ℕ → Option Move
+goes next = Some (record { place = next; change = Keep })
 
 -- where a single move leads
-abbrev pub one_move : ℕ → ℕ → ℕ → ℕ → ℕ
-one_move low high next b = cond (inside low high b) next dead
+abbrev pub one_move : ℕ → ℕ → ℕ → ℕ → Option Move
+one_move low high next b = cond (inside low high b) (goes next) None
 
--- numbers read back
-abbrev pub role_at : ℕ → Role
-role_at n = get_or (as_value ∷ as_name ∷ []) n as_value
+-- read back
+abbrev pub role_of : Role → Auto.Role
+role_of AsValue = as_value
+role_of AsName = as_name
 
-abbrev pub bracket_at : ℕ → Option Bracket
-bracket_at n = get_or (none ∷ some square ∷ some curly ∷ []) n none
+abbrev pub bracket_of : Bracket → Auto.Bracket
+bracket_of Square = square
+bracket_of Curly = curly
+
+abbrev pub bracket_at : Option Bracket → Math.Option Auto.Bracket
+bracket_at None = none
+bracket_at (Some k) = some (bracket_of k)
+
+abbrev pub change_at : Change → Auto.Change
+change_at Keep = keep
+change_at (Push k) = push (bracket_of k)
+change_at Pop = pop
 
 -- the same of the three ranges of hexadecimal digits
-abbrev pub hex_move : ℕ → ℕ → ℕ
-hex_move next b = cond (inside 0x30 0x39 b) next (cond (inside 0x41 0x46 b) next (one_move 0x61 0x66 next b))
+abbrev pub hex_move : ℕ → ℕ → Option Move
+hex_move next b = cond (inside 0x30 0x39 b) (goes next) (cond (inside 0x41 0x46 b) (goes next) (one_move 0x61 0x66 next b))
 
 -- the place of a number
 abbrev pub places : List Place
@@ -113,16 +140,6 @@ places =
 abbrev pub place_at : ℕ → Place
 place_at n = get_or places n after
 
--- the change of a number
-abbrev pub change_at : ℕ → Change
-change_at n = get_or (keep ∷ push square ∷ push curly ∷ pop ∷ []) n keep
-
--- a place within a word, an escape's digits or a character
-pub record Inner (n : ℕ) : Type 0 where
-  pub low : 6 ≤ n
-  pub gap : 16 ≤ n → 28 ≤ n
-  pub high : n < 50
-
 -- r is where the byte leads from there, whatever the bracket
-abbrev pub LeadsWithin : ℕ → ℕ → ℕ → Type 0
-LeadsWithin place b r = (k : Option Bracket) → r ≡ leads (moves (place_at place) k) b
+abbrev pub LeadsWithin : ℕ → ℕ → Option Move → Type 0
+LeadsWithin place b r = (k : Math.Option Auto.Bracket) → r ≡ leads (moves (place_at place) k) b

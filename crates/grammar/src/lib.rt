@@ -1,12 +1,11 @@
-// One step of the automaton of JSON texts (`specs/Codes.antt`): a place and a byte are numbers, and
-// a contract says where the moves of the place lead with the byte. Each function asks the moves of
-// its place in their order.
+// One step of the automaton of JSON texts (`specs/Codes.antt`): a contract says where the moves of a
+// place lead with a byte. Each function is the table of its place.
 #![tactic(auto)]
 
 ghost use Rattle.std.proofs.Math.Option.{none};
 ghost use Rattle.std.specs.Prelude.{◌≡◌, ◌≤◌, ◌<◌};
 ghost use Rattle.jsontext.specs.Automaton.{moves};
-ghost use Rattle.grammar.specs.Codes.{leads, bracket_at, place_at, Inner, LeadsWithin};
+ghost use Rattle.grammar.specs.Codes.{leads, bracket_at, place_at, LeadsWithin};
 
 mod numbers;
 mod ranges;
@@ -18,28 +17,59 @@ use crate::ranges::{hex_move, one_move};
 use crate::strings::{escape, text};
 use crate::values::{ahead, at_end, colon, first_element, first_name, name};
 
+#[derive(Clone, Copy, PartialEq, Eq)]
+pub enum Bracket {
+    Square,
+    Curly,
+}
+
+// What a step does to the open brackets.
+#[derive(Clone, Copy, PartialEq, Eq)]
+pub enum Change {
+    Keep,
+    Push(Bracket),
+    Pop,
+}
+
+// Where a byte leads. Kept, a place is a number: `watching`, `tally` and `gathering` ask whether it is in a string by
+// its order, and in a name by its last bit, which is as fast as no enum.
+#[derive(Clone, Copy)]
+pub struct Move {
+    pub place: u8,
+    pub change: Change,
+}
+
+// What a string is used as.
+#[derive(Clone, Copy)]
+pub(crate) enum Role {
+    AsValue,
+    AsName,
+}
+
 // Within a word.
-fn spelled(place: u8, byte: u8) -> u8
+#[tactic(auto, using(crate::proofs::Leading::tables))]
+fn spelled(place: u8, byte: u8) -> Option<Move>
     requires { (6 ≤ place) × (place < 16) }
     ensures { LeadsWithin place byte result }
 {
     match place {
-        6 => one_move(0x75, 0x75, 7, byte),
-        7 => one_move(0x6C, 0x6C, 8, byte),
-        8 => one_move(0x6C, 0x6C, 2, byte),
-        9 => one_move(0x72, 0x72, 10, byte),
-        10 => one_move(0x75, 0x75, 11, byte),
-        11 => one_move(0x65, 0x65, 2, byte),
-        12 => one_move(0x61, 0x61, 13, byte),
-        13 => one_move(0x6C, 0x6C, 14, byte),
-        14 => one_move(0x73, 0x73, 15, byte),
-        _ => one_move(0x65, 0x65, 2, byte),
+        6 => one_move(b'u', b'u', 7, byte),
+        7 => one_move(b'l', b'l', 8, byte),
+        8 => one_move(b'l', b'l', 2, byte),
+        9 => one_move(b'r', b'r', 10, byte),
+        10 => one_move(b'u', b'u', 11, byte),
+        11 => one_move(b'e', b'e', 2, byte),
+        12 => one_move(b'a', b'a', 13, byte),
+        13 => one_move(b'l', b'l', 14, byte),
+        14 => one_move(b's', b's', 15, byte),
+        _ => one_move(b'e', b'e', 2, byte),
     }
 }
 
-// Within an escape's hexadecimal digits or a character.
-fn continued(place: u8, byte: u8) -> u8
-    requires { (28 ≤ place) × (place < 50) }
+// Within an escape's hexadecimal digits.
+#[tactic(auto, using(crate::proofs::Leading::tables))]
+fn escaped(place: u8, byte: u8) -> Option<Move>
+    requires { (28 ≤ place) × (place < 36) }
     ensures { LeadsWithin place byte result }
 {
     match place {
@@ -50,7 +80,17 @@ fn continued(place: u8, byte: u8) -> u8
         32 => hex_move(30, byte),
         33 => hex_move(31, byte),
         34 => hex_move(32, byte),
-        35 => hex_move(33, byte),
+        _ => hex_move(33, byte),
+    }
+}
+
+// Within a character of several bytes.
+#[tactic(auto, using(crate::proofs::Leading::tables))]
+fn character(place: u8, byte: u8) -> Option<Move>
+    requires { (36 ≤ place) × (place < 50) }
+    ensures { LeadsWithin place byte result }
+{
+    match place {
         36 => one_move(0x80, 0xBF, 24, byte),
         37 => one_move(0x80, 0xBF, 25, byte),
         38 => one_move(0x80, 0xBF, 36, byte),
@@ -68,19 +108,9 @@ fn continued(place: u8, byte: u8) -> u8
     }
 }
 
-// Within a word, an escape's hexadecimal digits or a character.
-fn inner(place: u8, byte: u8) -> u8
-    requires { Inner place }
-    ensures { LeadsWithin place byte result }
-{
-    if place < 16 {
-        return spelled(place, byte);
-    }
-    continued(place, byte)
-}
-
-// One step: where a byte leads from a place, with the innermost open bracket around it (0 none, 1 square, 2 curly).
-pub fn step(place: u8, around: u8, byte: u8) -> u8
+// One step: where a byte leads from a place, with the innermost open bracket around it; no step where no text goes on so.
+#[tactic(auto, using(crate::proofs::Leading::tables))]
+pub fn step(place: u8, around: Option<Bracket>, byte: u8) -> Option<Move>
     requires { place < 50 }
     ensures { result ≡ leads (moves (place_at place) (bracket_at around)) byte }
 {
@@ -91,18 +121,20 @@ pub fn step(place: u8, around: u8, byte: u8) -> u8
         3 => name(byte),
         4 => first_name(byte),
         5 => colon(byte),
+        6..=15 => spelled(place, byte),
         16 => minus(byte),
         17 => nought(around, byte),
         18 => whole(around, byte),
-        19 => one_move(0x30, 0x39, 20, byte),
+        19 => one_move(b'0', b'9', 20, byte),
         20 => part(around, byte),
         21 => letter(byte),
-        22 => one_move(0x30, 0x39, 23, byte),
+        22 => one_move(b'0', b'9', 23, byte),
         23 => power(around, byte),
-        24 => text(0, byte),
-        25 => text(1, byte),
-        26 => escape(0, byte),
-        27 => escape(1, byte),
-        _ => inner(place, byte),
+        24 => text(Role::AsValue, byte),
+        25 => text(Role::AsName, byte),
+        26 => escape(Role::AsValue, byte),
+        27 => escape(Role::AsName, byte),
+        28..=35 => escaped(place, byte),
+        _ => character(place, byte),
     }
 }

@@ -1,98 +1,60 @@
 // Within a string: its characters, the first byte of one that has several, and escapes.
+#![tactic(auto, using(crate::proofs::Leading::tables))]
+
 ghost use Rattle.std.proofs.Math.Option.{none};
-ghost use Rattle.std.specs.Prelude.{◌≡◌, ◌<◌};
+ghost use Rattle.std.specs.Prelude.{◌≡◌};
 ghost use Rattle.jsontext.specs.Automaton as Auto;
 ghost use Rattle.jsontext.specs.Automaton.{moves};
-ghost use Rattle.grammar.specs.Codes.{leads, role_at};
+ghost use Rattle.grammar.specs.Codes.{leads, role_of, place_code, goes};
 
-use crate::ranges::within;
+use crate::ranges::{to, within};
+use crate::{Move, Role};
 
 // The first byte of a character of several bytes.
-pub(crate) fn several(role: u8, byte: u8) -> u8
-    requires { role < 2 }
-    ensures { result ≡ leads (Auto.several (role_at role)) byte }
+pub(crate) fn several(role: Role, byte: u8) -> Option<Move>
+    ensures { result ≡ leads (Auto.several (role_of role)) byte }
 {
-    if within(0xC2, 0xDF, byte) {
-        return 36 + role;
+    match byte {
+        0xC2..=0xDF => within(36, role),
+        0xE0 => within(42, role),
+        0xE1..=0xEC | 0xEE..=0xEF => within(38, role),
+        0xED => within(44, role),
+        0xF0 => within(46, role),
+        0xF1..=0xF3 => within(40, role),
+        0xF4 => within(48, role),
+        _ => None,
     }
-    if within(0xE0, 0xE0, byte) {
-        return 42 + role;
+}
+
+// At the closing quote.
+fn closed(role: Role) -> Option<Move>
+    ensures { result ≡ goes (place_code (Auto.closed (role_of role))) }
+{
+    match role {
+        Role::AsValue => to(2),
+        Role::AsName => to(5),
     }
-    if within(0xE1, 0xEC, byte) {
-        return 38 + role;
-    }
-    if within(0xED, 0xED, byte) {
-        return 44 + role;
-    }
-    if within(0xEE, 0xEF, byte) {
-        return 38 + role;
-    }
-    if within(0xF0, 0xF0, byte) {
-        return 46 + role;
-    }
-    if within(0xF1, 0xF3, byte) {
-        return 40 + role;
-    }
-    if within(0xF4, 0xF4, byte) {
-        return 48 + role;
-    }
-    63
 }
 
 // Within a string.
-pub(crate) fn text(role: u8, byte: u8) -> u8
-    requires { role < 2 }
-    ensures { result ≡ leads (moves (Auto.text (role_at role)) none) byte }
+pub(crate) fn text(role: Role, byte: u8) -> Option<Move>
+    ensures { result ≡ leads (moves (Auto.text (role_of role)) none) byte }
 {
-    if within(0x22, 0x22, byte) {
-        return 2 + 3 * role;
+    match byte {
+        b'"' => closed(role),
+        b'\\' => within(26, role),
+        b' '..=0x7F => within(24, role),
+        _ => several(role, byte),
     }
-    if within(0x5C, 0x5C, byte) {
-        return 26 + role;
-    }
-    if within(0x20, 0x21, byte) {
-        return 24 + role;
-    }
-    if within(0x23, 0x5B, byte) {
-        return 24 + role;
-    }
-    if within(0x5D, 0x7F, byte) {
-        return 24 + role;
-    }
-    several(role, byte)
 }
 
 // After a backslash.
-pub(crate) fn escape(role: u8, byte: u8) -> u8
-    requires { role < 2 }
-    ensures { result ≡ leads (moves (Auto.escape (role_at role)) none) byte }
+pub(crate) fn escape(role: Role, byte: u8) -> Option<Move>
+    ensures { result ≡ leads (moves (Auto.escape (role_of role)) none) byte }
 {
-    if within(0x22, 0x22, byte) {
-        return 24 + role;
+    match byte {
+        b'"' | b'\\' | b'/' | b'b' | b'f' | b'n' | b'r' | b't' => within(24, role),
+        b'u' => within(34, role),
+        _ => None,
     }
-    if within(0x5C, 0x5C, byte) {
-        return 24 + role;
-    }
-    if within(0x2F, 0x2F, byte) {
-        return 24 + role;
-    }
-    if within(0x62, 0x62, byte) {
-        return 24 + role;
-    }
-    if within(0x66, 0x66, byte) {
-        return 24 + role;
-    }
-    if within(0x6E, 0x6E, byte) {
-        return 24 + role;
-    }
-    if within(0x72, 0x72, byte) {
-        return 24 + role;
-    }
-    if within(0x74, 0x74, byte) {
-        return 24 + role;
-    }
-    if within(0x75, 0x75, byte) {
-        return 34 + role;
-    }
-    63
 }

@@ -18,8 +18,7 @@ use Rattle.sheet.specs.Kinds.{number_max}
 use Rattle.jsontext.specs.Number.{digits_room}
 use Rattle.jsontext.proofs.Trimming.{more_zero, more_tail, more_digit}
 use Rattle.numeral.specs.declared.Kept.{Kept}
-use Rattle.numeral.specs.declared.Written.{Written}
-use Rattle.numeral.specs.Numeral.{capped, trimmed_of, kept_more, written_of, word_of}
+use Rattle.numeral.specs.Numeral.{Writing, capped, trimmed_of, kept_more, written_of, word_of}
 
 module _ (most n : ℕ) where
   pub capped_low : n ≤ most → capped most n ≡ n
@@ -70,7 +69,7 @@ module _ (k : Kept) (d : ℕ) where
 
 -- ---- writing
 
-abbrev too_wide : Written
+abbrev too_wide : Writing
 too_wide = record { wide = true; digits = 0; scale = 0 }
 
 module _ (kept up down : ℕ) where

@@ -3,7 +3,7 @@
 --     power_held     the same of an exponent
 --     kept_written, right_written, left_written    the number is written in the same way
 -- Assumes nothing.
-use mathlib.Core.Logic.{◌⊎◌, ⊎_elim}
+use mathlib.Core.Logic.{⊎_elim}
 use mathlib.Core.Path.{◌≡◌, refl, sym, ap, ◌∙◌}
 use Prim.Native.Nat.{ℕ, suc, ◌+◌, ◌-◌, ◌*◌, ◌^◌, ◌≤◌, ◌<◌}
 use native.Mathlib.Nat.{one-le-pow, mul-le-mul_left, mul-one}

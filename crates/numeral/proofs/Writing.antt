@@ -3,7 +3,7 @@
 --     written_words        and if not, the word of its digits and its scale are those of its value
 -- Assumes nothing.
 use mathlib.Core.Bool.{Bool, true, false, cond, not}
-use mathlib.Core.Logic.{◌⊎◌, ⊎_elim}
+use mathlib.Core.Logic.{⊎_elim}
 use mathlib.Core.Path.{◌≡◌, refl, sym, ap, ◌∙◌}
 use Prim.Native.Nat.{ℕ, zero, suc, ◌+◌, ◌-◌, ◌*◌, ◌^◌, ◌%◌, ◌≤◌, ◌<◌}
 use native.Mathlib.Nat.{one-le-pow, eq_of_mul-eq-mul_right}
@@ -22,8 +22,7 @@ use Rattle.jsontext.proofs.Widths.{split_ten, fewer_tens}
 use Rattle.breadth.specs.Number.{scale_of, size_of, digits_word}
 use Rattle.breadth.proofs.Digits as B
 use Rattle.breadth.proofs.Digits.{scale_small, size_back, smallest_scale}
-use Rattle.numeral.specs.declared.Written.{Written}
-use Rattle.numeral.specs.Numeral.{written_of, word_of}
+use Rattle.numeral.specs.Numeral.{Writing, written_of, word_of}
 use Rattle.numeral.proofs.Caps.{word_zero, word_below, word_above}
 
 -- the word of a number's digits
@@ -44,7 +43,7 @@ module _ (e : Exact) where
   z = billionths_of number_max e
 
   -- by whether there is room, and whether anything is kept
-  abbrev answer : Bool → Bool → Written
+  abbrev answer : Bool → Bool → Writing
   answer r s =
       cond (not r) (record { wide = true; digits = 0; scale = 0 })
       (cond s (record { wide = false; digits = 0; scale = 0 }) (record { wide = false; digits = kept * 10 ^ (up - e.down); scale = e.down - up }))
@@ -135,15 +134,15 @@ module _ (e : Exact) where
         let w = none_written k in
         let v = none_value k in
         record {
-          word = ap (λ (x : Written). word_of e.below x.digits) w ∙ word_zero e.below 0 refl ∙ sym (ap digits_word v ∙ zero_word);
-          scale = ap (λ (x : Written). x.scale) w ∙ sym (ap scale_of v ∙ zero_scale);
+          word = ap (λ (x : Writing). word_of e.below x.digits) w ∙ word_zero e.below 0 refl ∙ sym (ap digits_word v ∙ zero_word);
+          scale = ap (λ (x : Writing). x.scale) w ∙ sym (ap scale_of v ∙ zero_scale);
         })
         (λ (k : kept ≡ 0 → ⊥).
         let w = some_written k in
         record {
           word =
-              ap (λ (x : Written). word_of e.below x.digits) w ∙ ap (word_of e.below) (sym (digits_are k))
+              ap (λ (x : Writing). word_of e.below x.digits) w ∙ ap (word_of e.below) (sym (digits_are k))
               ∙ ap (λ (x : ℤ). word_of e.below (size_of x)) signed ∙ word_is e.below (nat_abs z) ∙ ap digits_word (sym signed);
-          scale = ap (λ (x : Written). x.scale) w ∙ sym (scale_is k);
+          scale = ap (λ (x : Writing). x.scale) w ∙ sym (scale_is k);
         })
         (by_zero kept)

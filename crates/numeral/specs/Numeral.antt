@@ -1,7 +1,7 @@
 -- A number of a JSON text as it is read, digit by digit. What is over a bound is held as one more than the bound: a number with more digits than a row can hold, and
 -- an exponent that no text of the greatest length could make up for, are told apart from nothing else.
 -- Assumes nothing.
-use Rattle.std.specs.Prelude.{Bool, true, false, cond, not, ◌&&◌, ◌≡◌, ℕ, suc, ◌-◌, ◌*◌, ◌^◌, ◌≤◌, eqb, leb}
+use Rattle.std.specs.Prelude.{Bool, true, false, cond, not, ◌&&◌, ◌≡◌, ℕ, suc, ◌-◌, ◌*◌, ◌^◌, ◌≤◌, eqb, leb, Option, Some, None}
 use Rattle.sheet.specs.Kinds.{number_max}
 use Rattle.jsontext.specs.Number.{Trimmed, trim_more, room_for}
 use Rattle.numeral.specs.declared.Kept.{Kept}
@@ -28,8 +28,18 @@ pub record Holding (k : Kept) : Type 0 where
   pub no_zeros : k.kept ≡ 0 → k.zeros ≡ 0
   pub few : k.zeros ≤ power_max
 
+-- the digits and the scale of a number, or that no row can hold it
+pub record Writing : Type 0 where
+  pub wide : Bool
+  pub digits : ℕ
+  pub scale : ℕ
+
+-- as code has it
+abbrev pub row_of : Writing → Option Written
+row_of w = cond w.wide None (Some (record { digits = w.digits; scale = w.scale }))
+
 -- kept × 10 ^ up / 10 ^ down as digits and scale, the smallest, or that it is too wide
-unfoldable pub written_of : ℕ → ℕ → ℕ → Written
+unfoldable pub written_of : ℕ → ℕ → ℕ → Writing
 written_of kept up down =
     cond (not (room_for number_max kept up down)) (record { wide = true; digits = 0; scale = 0 })
     (cond (eqb kept 0) (record { wide = false; digits = 0; scale = 0 })

@@ -1,11 +1,11 @@
 // A number of a JSON text, digit by digit: what is kept of its digits, its exponent, and in the end
-// the digits and the scale that a row holds, or that it is too wide (`specs/Numeral.antt`, which
+// the digits and the scale that a row holds, if one can (`specs/Numeral.antt`, which
 // contracts cite). No number of digits and no exponent overflows anything.
 #![tactic(auto)]
 
 ghost use Rattle.std.specs.Prelude.{◌≡◌, suc, ◌+◌, ◌*◌, ◌^◌, ◌≤◌, ◌<◌};
 ghost use Rattle.sheet.specs.Kinds.{number_max};
-ghost use Rattle.numeral.specs.Numeral.{power_max, capped, kept_more, Holding, written_of, word_of};
+ghost use Rattle.numeral.specs.Numeral.{power_max, capped, kept_more, Holding, row_of, written_of, word_of};
 
 use decimal::{Decimal, power};
 use sheet::kind::RowKind;
@@ -17,10 +17,9 @@ pub struct Kept {
     pub zeros: u32,
 }
 
-// The digits and the scale of a number, or that no row can hold it.
+// The digits and the scale of a number that a row can hold.
 #[derive(Clone, Copy)]
 pub struct Written {
-    pub wide: bool,
     pub digits: u64,
     pub scale: u32,
 }
@@ -55,8 +54,8 @@ pub fn digit_more(k: Kept, digit: u64) -> Kept
         return Kept { kept: 0, zeros: 0 };
     }
     Kept {
-        kept: k.kept,
         zeros: k.zeros + 1,
+        ..k
     }
 }
 
@@ -72,69 +71,47 @@ pub fn power_more(held: u64, digit: u64) -> u64
     all
 }
 
-// kept × 10^up / 10^down as digits and scale, the smallest, or that it is too wide.
-pub fn write_down(kept: u64, up: u32, down: u32) -> Written
+// kept × 10^up / 10^down as digits and scale, the smallest, if a row can hold it.
+pub fn write_down(kept: u64, up: u32, down: u32) -> Option<Written>
     requires { kept ≤ suc number_max }
-    ensures { result ≡ written_of kept up down }
+    ensures { result ≡ row_of (written_of kept up down) }
 {
     if kept == 0 {
-        return Written {
-            wide: false,
+        return Some(Written {
             digits: 0,
             scale: 0,
-        };
+        });
     }
     if up < down {
         return lowered(kept, up, down);
     }
     let by = up - down;
     if by >= Decimal::SCALE_MAX {
-        return Written {
-            wide: true,
-            digits: 0,
-            scale: 0,
-        };
+        return None;
     }
-    let all = kept * power(by);
-    if all > RowKind::NUMBER_MAX {
-        return Written {
-            wide: true,
-            digits: 0,
-            scale: 0,
-        };
+    let digits = kept * power(by);
+    if digits > RowKind::NUMBER_MAX {
+        return None;
     }
-    Written {
-        wide: false,
-        digits: all,
-        scale: 0,
-    }
+    Some(Written { digits, scale: 0 })
 }
 
 // The same where the point moves to the left.
-fn lowered(kept: u64, up: u32, down: u32) -> Written
+fn lowered(kept: u64, up: u32, down: u32) -> Option<Written>
     requires { (0 < kept) × (up < down) }
-    ensures { result ≡ written_of kept up down }
+    ensures { result ≡ row_of (written_of kept up down) }
 {
     let by = down - up;
     if by > Decimal::SCALE_MAX {
-        return Written {
-            wide: true,
-            digits: 0,
-            scale: 0,
-        };
+        return None;
     }
     if kept > RowKind::NUMBER_MAX {
-        return Written {
-            wide: true,
-            digits: 0,
-            scale: 0,
-        };
+        return None;
     }
-    Written {
-        wide: false,
+    Some(Written {
         digits: kept,
         scale: by,
-    }
+    })
 }
 
 // Digits with their sign as a word, in two's complement.

@@ -5,7 +5,8 @@
 ghost use Rattle.std.specs.Prelude.{◌≡◌, set};
 ghost use Rattle.putting.specs.Letters.{short_at};
 
-// A byte at a place of the area, if it has that place.
+// A byte at a place of the area, if it has that place. By an index: of a slice lent through `get_mut` nothing but its
+// length is known afterwards.
 pub fn put(area: &mut [u8], at: usize, byte: u8)
     ensures { area.new ≡ set area.old at byte }
 {
@@ -15,23 +16,16 @@ pub fn put(area: &mut [u8], at: usize, byte: u8)
 }
 
 // The character of the byte after a backslash.
+#[tactic(auto, unfolding(crate::specs::Letters::short_at))]
 pub fn short_of(byte: u8) -> u8
     ensures { result ≡ short_at byte }
 {
-    if byte == 0x62 {
-        return 0x08;
+    match byte {
+        b'b' => 0x08,
+        b'f' => 0x0C,
+        b'n' => b'\n',
+        b'r' => b'\r',
+        b't' => b'\t',
+        _ => byte,
     }
-    if byte == 0x66 {
-        return 0x0C;
-    }
-    if byte == 0x6E {
-        return 0x0A;
-    }
-    if byte == 0x72 {
-        return 0x0D;
-    }
-    if byte == 0x74 {
-        return 0x09;
-    }
-    byte
 }

@@ -15,9 +15,11 @@ use native.Mathlib.Omega.{arith}
 use borrow.Author.Tests.{eq-eqb, eqb-true}
 use lib.Dec.{eqb}
 use lib.ListN.{length, get_or, drop, length-drop}
+use Rattle.std.specs.Prelude.{Option, Some, None}
+use Rattle.std.proofs.lemmas.Option.{none-some, same_Some}
 use Rattle.laws.proofs.Tests.{left, right}
 use Rattle.jsontext.specs.Automaton.{Place, step}
-use Rattle.grammar.specs.Codes.{place_at, dead}
+use Rattle.grammar.specs.Codes.{place_at}
 use Rattle.brackets.specs.declared.Open.{Open}
 use Rattle.brackets.specs.Brackets.{brackets_of, brackets}
 use Rattle.figure.proofs.Bounds.{kin_none}
@@ -130,9 +132,9 @@ not_at_rest fault false e = go (eqb fault 0) refl e
     go false q f = absurd (true≢false f)
 
 module _ (json : List ℕ) (a₀ : Areas) (i : ℕ) (p : Scan) (a : Areas) (short : length json ≤ 65_536) (h : Held json a₀ i p a) (more : i < length json) where
-  pub stops : (r : Scan) (z : Areas) → Stepped json i p a r z → r.place ≡ dead → step (state_of p) (get_or json i 0) ≡ none
+  pub stops : (r : Option Scan) (z : Areas) → Stepped json i p a r z → r ≡ None → step (state_of p) (get_or json i 0) ≡ none
   stops r z (dies e n) d = n
-  stops r z (goes m) d = absurd (omega (arith, m.known))
+  stops r z (goes e m) d = absurd (none-some _ (sym d ∙ e))
 
   carry : (r : Scan) (z : Areas) → get_or json i 0 < 256 → (p.watch.fault ≡ 0) ⊎ (p.gathered.on ≡ true) → Moved json i p a r z → Held json a₀ (i + 1) r z
   carry r z byte further m =
@@ -164,6 +166,6 @@ module _ (json : List ℕ) (a₀ : Areas) (i : ℕ) (p : Scan) (a : Areas) (shor
         names_low = sound_gathered i c.kept.names h.names_low 0 P (brackets p.opened) (get_or json i 0) (drop (suc i) json);
       })
 
-  pub on : (r : Scan) (z : Areas) → get_or json i 0 < 256 → (p.watch.fault ≡ 0) ⊎ (p.gathered.on ≡ true) → Stepped json i p a r z → r.place ≢ dead → Held json a₀ (i + 1) r z
-  on r z byte further (dies e n) d = absurd (d e)
-  on r z byte further (goes m) d = carry r z byte further m
+  pub on : (r : Option Scan) (z : Areas) → get_or json i 0 < 256 → (p.watch.fault ≡ 0) ⊎ (p.gathered.on ≡ true) → Stepped json i p a r z → (q : Scan) → r ≡ Some q → Held json a₀ (i + 1) q z
+  on r z byte further (dies e n) q d = absurd (none-some q (sym e ∙ d))
+  on r z byte further (goes {q = x} e m) q d = rw (same_Some q x (sym d ∙ e)) (carry x z byte further m)

@@ -1,7 +1,7 @@
 -- The first pass over a JSON text, byte by byte, as the code has it: the automaton's state, what is kept of faults, the counters, and the gathered names. What it has
 -- come to is a `Trail` (crate `trail`).
 -- Assumes nothing.
-use Rattle.std.specs.Prelude.{false, List, ◌≢◌, ◌≡◌, ℕ, suc, ◌≤◌, ◌<◌, length, get_or, drop, replicate}
+use Rattle.std.specs.Prelude.{false, List, ◌≢◌, ◌≡◌, ℕ, suc, ◌≤◌, ◌<◌, length, get_or, drop, replicate, Option, Some, None}
 use Rattle.std.proofs.Math.Option.{none, some}
 use Rattle.jsontext.specs.Automaton.{State, at, step}
 use Rattle.grammar.specs.Codes.{place_at, dead}
@@ -75,9 +75,9 @@ module _ (json : List ℕ) (i : ℕ) (p : Scan) (a : Areas) where
     pub tallied : tally_in r z ≡ tallying (place_at p.place) (brackets p.opened) byte behind (tally_in p a)
     pub gathered : Names.Within json i p.place (brackets p.opened) a.names a.words a.objects p.gathered z.names z.words z.objects r.gathered
 
-  pub data Stepped (r : Scan) (z : Areas) : Type 0 where
-    dies : r.place ≡ dead → step (state_of p) byte ≡ none → Stepped r z
-    goes : Moved r z → Stepped r z
+  pub data Stepped (r : Option Scan) (z : Areas) : Type 0 where
+    dies : r ≡ None → step (state_of p) byte ≡ none → Stepped r z
+    goes : {q : Scan} → r ≡ Some q → Moved q z → Stepped r z
 
 -- after i bytes of a text, where a₀ are the areas before the first
 pub record Carried (json : List ℕ) (a₀ : Areas) (i : ℕ) (p : Scan) (a : Areas) : Type 0 where

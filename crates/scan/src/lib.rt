@@ -40,7 +40,8 @@ fn watch_on(place: u8, depth: u32, byte: u8, left: usize, s: Watch) -> Watch
     s
 }
 
-// The byte at a place of the text.
+// After the byte at a place of the text, if a text goes on so. The areas are five parameters: a struct of them would be
+// made in `first_pass`, whose signature stays, and taken apart here.
 fn next(
     json: &[u8],
     at: usize,
@@ -50,35 +51,23 @@ fn next(
     names: &mut [u8],
     words: &mut [u32],
     objects: &mut [u32],
-) -> Scan
+) -> Option<Scan>
     requires at_in_bounds { (at < length json.now) × (length json.now ≤ 65536) }
     requires ready { Ready at p (areas values.old texts.old names.old words.old objects.old) }
     ensures { Stepped json.now at p (areas values.old texts.old names.old words.old objects.old) result (areas values.new texts.new names.new words.new objects.new) }
 {
     let byte = json[at];
-    let opened = p.opened;
-    let watch = p.watch;
-    let units = p.units;
-    let gathered = p.gathered;
-    let place = p.place;
-    let depth = opened.depth;
-    let code = step(place, around(opened), byte);
-    if code == 63 {
-        return Scan {
-            place: 63,
-            opened: opened,
-            watch: watch,
-            units: units,
-            gathered: gathered,
-        };
-    }
-    Scan {
-        place: code % 64,
-        opened: changed_by(opened, code / 64),
-        watch: watch_on(place, depth, byte, json.len() - at, watch),
-        units: count(place, depth, byte, units, values, texts),
-        gathered: gather_byte(json, at, place, depth, gathered, names, words, objects),
-    }
+    let depth = p.opened.depth;
+    let Some(m) = step(p.place, around(p.opened), byte) else {
+        return None;
+    };
+    Some(Scan {
+        place: m.place,
+        opened: changed_by(p.opened, m.change),
+        watch: watch_on(p.place, depth, byte, json.len() - at, p.watch),
+        units: count(p.place, depth, byte, p.units, values, texts),
+        gathered: gather_byte(json, at, p.place, depth, p.gathered, names, words, objects),
+    })
 }
 
 // Where the pass halts, and what it has come to there.
@@ -154,23 +143,18 @@ pub fn first_pass(
 {
     let n = json.len();
     let mut p = begin();
-    let mut at = 0;
-    while at < n {
-        let watch = p.watch;
-        let opened = p.opened;
-        let gathered = p.gathered;
-        if (watch.fault != 0) & !gathered.on {
-            return Halt { at: at, scan: p };
+    for at in 0..n {
+        if (p.watch.fault != 0) & !p.gathered.on {
+            return Halt { at, scan: p };
         }
-        if opened.depth >= 62 {
-            return Halt { at: at, scan: p };
+        if p.opened.depth >= 62 {
+            return Halt { at, scan: p };
         }
-        let q = next(json, at, p, values, texts, names, words, objects);
-        if q.place == 63 {
-            return Halt { at: at, scan: q };
-        }
+        let Some(q) = next(json, at, p, values, texts, names, words, objects) else {
+            let scan = Scan { place: 63, ..p };
+            return Halt { at, scan };
+        };
         p = q;
-        at += 1;
     }
-    Halt { at: at, scan: p }
+    Halt { at: n, scan: p }
 }

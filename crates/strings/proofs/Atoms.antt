@@ -3,7 +3,7 @@
 -- Assumes nothing.
 use mathlib.Core.Bool.{Bool, true, false, cond, ◌&&◌, not, ◌||◌}
 use mathlib.Core.List.{List, [], ◌∷◌}
-use mathlib.Core.Logic.{◌≢◌, ⊎_elim}
+use mathlib.Core.Logic.{⊎_elim}
 use mathlib.Core.Path.{◌≡◌, refl, sym, ap, ◌∙◌}
 use Prim.Native.Nat.{ℕ, ◌+◌, ◌/◌, ◌%◌, ◌≤◌, ◌<◌}
 use native.Mathlib.Omega.{arith}
@@ -12,7 +12,7 @@ use lib.Dec.{eqb, leb}
 use Rattle.laws.proofs.Tests.{le_or_lt, left, right}
 use Rattle.jsontext.specs.Utf8.{encode}
 use Rattle.jsontext.specs.Text.{Plain, Short, quote, backslash, slash, backspace, form_feed, line_feed, carriage_return, tabulator, short, plain, escape, unit, Str, pieces}
-use Rattle.jsontext.specs.Value.{short_code, unit_code, is_high, is_low, low_next, is_lone, waiting, joined, decoded_after, decoded}
+use Rattle.jsontext.specs.Value.{short_code, unit_code, is_high, is_low, low_next, is_lone, joined, decoded_after}
 use Rattle.jsontext.proofs.Strings.{encode_1, encode_2, encode_3, encode_4}
 use Rattle.jsontext.proofs.Decoding.{NoneLone}
 use Rattle.strings.specs.Atoms.{Atom, raw, esc, uni, spelled, read, Paired, waits}

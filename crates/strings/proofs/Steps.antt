@@ -3,24 +3,21 @@
 --     raw-read, short-read, high-read, code-read    an atom of each kind
 --     still, then    reading on is composed
 -- Assumes nothing.
-use mathlib.Core.Bool.{Bool, true, false, cond}
 use mathlib.Core.List.{List, [], ◌∷◌, ◌++◌}
 use mathlib.Core.Logic.{◌≢◌, ⊎_elim}
 use mathlib.Core.Path.{◌≡◌, refl, sym, ap, ◌∙◌}
-use Prim.Native.Nat.{ℕ, zero, suc, ◌+◌, ◌-◌, ◌*◌, ◌/◌, ◌%◌, ◌≤◌, ◌<◌}
+use Prim.Native.Nat.{ℕ, zero, suc, ◌+◌, ◌≤◌, ◌<◌}
 use native.Mathlib.Numerals.{add-one}
 use native.Mathlib.Omega.{arith}
-use lib.ListN.{length, get_or, drop, set, length-append}
+use lib.ListN.{length, get_or, drop, set}
 use lib.Seq.{sets}
 use Rattle.laws.proofs.Tests.{le_or_lt}
 use Rattle.jsontext.specs.Utf8.{encode}
-use Rattle.jsontext.specs.Text.{Short, quote, backslash, slash, backspace, form_feed, line_feed, carriage_return, tabulator, short, Hex, hex}
-use Rattle.jsontext.specs.Value.{short_code, hex_worth, unit_code, is_high, joined}
+use Rattle.jsontext.specs.Text.{Short, quote, backslash, slash, backspace, form_feed, line_feed, carriage_return, tabulator, short, hex}
+use Rattle.jsontext.specs.Value.{short_code}
 use Rattle.jsontext.proofs.Strings.{encode_1, encode_2, encode_3, encode_4}
-use Rattle.escapes.specs.Escapes.{HexByte, hex_at}
-use Rattle.escapes.proofs.Escaped.{hex_read, hex_byte}
 use Rattle.putting.specs.Letters.{short_at}
-use Rattle.strings.specs.Atoms.{Atom, raw, esc, uni, spelled, read, waits, Finds, Paired, Inside, Onward, Copied}
+use Rattle.strings.specs.Atoms.{Atom, raw, esc, uni, spelled, read, Paired, Inside, Onward, Copied}
 
 -- ---- lists
 

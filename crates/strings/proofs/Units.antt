@@ -4,19 +4,18 @@
 -- Assumes nothing.
 use mathlib.Core.Bool.{Bool, true, false, cond}
 use mathlib.Core.List.{List, [], ◌∷◌, ◌++◌}
-use mathlib.Core.Logic.{◌≢◌}
 use mathlib.Core.Path.{◌≡◌, refl, sym, ap, ◌∙◌}
-use Prim.Native.Nat.{ℕ, zero, suc, ◌+◌, ◌-◌, ◌*◌, ◌≤◌, ◌<◌}
+use Prim.Native.Nat.{ℕ, ◌+◌, ◌-◌, ◌*◌, ◌≤◌, ◌<◌}
 use native.Mathlib.Omega.{arith}
 use borrow.Author.Tests.{leb-true}
 use lib.Dec.{eqb, leb, ltb}
 use lib.ListN.{length, get_or, drop, length-append}
 use lib.Seq.{sets}
-use Rattle.laws.proofs.Tests.{left, right}
+use Rattle.laws.proofs.Tests.{right}
 use Rattle.jsontext.specs.Utf8.{encode}
-use Rattle.jsontext.specs.Text.{Short, short, Hex, decimal, letter, hex}
+use Rattle.jsontext.specs.Text.{short, Hex, decimal, letter, hex}
 use Rattle.jsontext.specs.Value.{hex_worth, unit_code, is_high, joined}
-use Rattle.escapes.specs.Escapes.{HexByte, hex_at, encoded_size}
+use Rattle.escapes.specs.Escapes.{encoded_size}
 use Rattle.escapes.proofs.Escaped.{hex_read, hex_byte, size_is}
 use Rattle.strings.specs.Atoms.{Atom, raw, esc, uni, spelled, code_at, HexAt, read, waits, Finds, Paired, Inside, Onward}
 use Rattle.strings.proofs.Steps.{sets_append, Head, head_at, not_both, encode_append, short_at_lem}

@@ -1,7 +1,7 @@
 -- The inside of a string as it is read: a byte as it stands, a short escape, or the escape of a number. And what reading one on does: what is left to write is
 -- the rest of what there was.
 -- Assumes nothing.
-use Rattle.std.specs.Prelude.{cond, ◌&&◌, List, [], ◌∷◌, ◌≢◌, ◌≡◌, ℕ, ◌+◌, ◌*◌, ◌≤◌, ◌<◌, length, get_or, drop}
+use Rattle.std.specs.Prelude.{cond, List, [], ◌∷◌, ◌≢◌, ◌≡◌, ℕ, ◌+◌, ◌*◌, ◌≤◌, ◌<◌, length, get_or, drop}
 use Rattle.std.proofs.lemmas.List.Edits.{sets}
 use Rattle.jsontext.specs.Utf8.{encode}
 use Rattle.jsontext.specs.Text.{Short, short, Hex, hex}

@@ -2,20 +2,23 @@
 // stands, escapes as the characters they are of (`specs/Atoms.antt`, which contracts cite).
 #![tactic(auto)]
 
-ghost use Rattle.std.specs.Prelude.{true, false, ◌≢◌, ◌≡◌, ◌+◌, ◌≤◌, ◌<◌, length, get_or};
+ghost use Rattle.std.proofs.Props.{props};
+ghost use Rattle.std.specs.Prelude.{IfSome, ◌≢◌, ◌≡◌, ◌+◌, ◌≤◌, ◌<◌, length, get_or};
 ghost use Rattle.jsontext.specs.Value.{is_high};
+ghost use Rattle.escapes.specs.Escapes.{waiting};
 ghost use Rattle.strings.specs.Atoms.{code_at, HexAt, Inside, Onward, Copied};
 
 use characters::append;
 use escapes::{character_of, hex_of, unit_of};
 use putting::{put, short_of};
 
-// How far a string was read and written, and the high surrogate that waits for its low one, or 0.
+// How far a string was read and written, and the high surrogate that waits for its low one.
 #[derive(Clone, Copy)]
 struct Spot {
     to: usize,
     at: usize,
-    waits: u32,
+    waits: Option<u32>,
+    ghost not_nought: { IfSome waits (λ high. 0 < high) } by { Prim.hlevel props },
 }
 
 // Where a string ends in the text, behind its quote, and in the area.
@@ -29,14 +32,7 @@ pub struct Ended {
 fn is_high(code: u32) -> bool
     ensures { result ≡ is_high code }
 {
-    code >= 0xD800 && code <= 0xDBFF
-}
-
-// A byte as a number.
-fn number_of(byte: u8) -> u32
-    ensures { result ≡ byte }
-{
-    byte as u32
+    matches!(code, 0xD800..=0xDBFF)
 }
 
 // The number of the escape at place i.
@@ -44,51 +40,52 @@ fn code_at(json: &[u8], i: usize) -> u32
     requires { (HexAt json.now (i + 2)) × (HexAt json.now (i + 3)) × (HexAt json.now (i + 4)) × (HexAt json.now (i + 5)) }
     ensures { result ≡ code_at json.now i }
 {
-    let a = hex_of(number_of(json[i + 2]));
-    let b = hex_of(number_of(json[i + 3]));
-    let c = hex_of(number_of(json[i + 4]));
-    let d = hex_of(number_of(json[i + 5]));
+    let a = hex_of(u32::from(json[i + 2]));
+    let b = hex_of(u32::from(json[i + 3]));
+    let c = hex_of(u32::from(json[i + 4]));
+    let d = hex_of(u32::from(json[i + 5]));
     unit_of(a, b, c, d)
 }
 
-// One atom of a string, from place i of the text to place `at` of the area.
-fn atom(json: &[u8], i: usize, area: &mut [u8], at: usize, waits: u32) -> Spot
-    requires inside { Inside json.now i waits }
-    requires not_at_quote { (get_or json.now i 0 ≢ 0x22) × (at < 1_000_000_000_000) }
-    ensures onward { (s : Inside json.now i waits) → Onward json.now i waits at area.old s result.to result.waits result.at area.new }
-    ensures further { i < result.to }
+// One atom of a string, from a spot of the text and of the area to the next.
+fn atom(json: &[u8], area: &mut [u8], spot: Spot) -> Spot
+    requires inside { Inside json.now spot.to (waiting spot.waits) }
+    requires not_at_quote { (get_or json.now spot.to 0 ≢ 0x22) × (spot.at < 1_000_000_000_000) }
+    ensures onward { (s : Inside json.now spot.to (waiting spot.waits)) → Onward json.now spot.to (waiting spot.waits) spot.at area.old s result.to (waiting result.waits) result.at area.new }
+    ensures further { spot.to < result.to }
 {
+    let Spot { to: i, at, waits } = spot;
     let byte = json[i];
-    if byte != 0x5C {
+    if byte != b'\\' {
         put(area, at, byte);
         return Spot {
             to: i + 1,
             at: at + 1,
-            waits: 0,
+            waits: None,
         };
     }
     let next = json[i + 1];
-    if next != 0x75 {
+    if next != b'u' {
         put(area, at, short_of(next));
         return Spot {
             to: i + 2,
             at: at + 1,
-            waits: 0,
+            waits: None,
         };
     }
     let code = code_at(json, i);
     if is_high(code) {
         return Spot {
             to: i + 6,
-            at: at,
-            waits: code,
+            at,
+            waits: Some(code),
         };
     }
     let end = append(area, at, character_of(waits, code));
     Spot {
         to: i + 6,
         at: end,
-        waits: 0,
+        waits: None,
     }
 }
 
@@ -99,14 +96,16 @@ pub fn copy_string(json: &[u8], start: usize, area: &mut [u8], from: usize) -> E
     requires sizes_bounded { (from < 100_000_000_000) × (length json.now < 100_000_000_000) }
     ensures { (s : Inside json.now start 0) → Copied json.now start from area.old s result.to result.at area.new }
 {
-    let mut i = start;
-    let mut at = from;
-    let mut waits: u32 = 0;
-    while json[i] != 0x22 {
-        let next = atom(json, i, area, at, waits);
-        i = next.to;
-        at = next.at;
-        waits = next.waits;
+    let mut spot = Spot {
+        to: start,
+        at: from,
+        waits: None,
+    };
+    while json[spot.to] != b'"' {
+        spot = atom(json, area, spot);
     }
-    Ended { to: i + 1, at: at }
+    Ended {
+        to: spot.to + 1,
+        at: spot.at,
+    }
 }

@@ -26,9 +26,7 @@ pub fn number_ends(depth: u32, s: Watch) -> Watch
     requires { (depth < 100) × Fair s.figure }
     ensures { result ≡ ended depth s }
 {
-    let figure = s.figure;
-    let row = written(figure);
-    if row.wide {
+    if written(s.figure).is_none() {
         return at_fault(23, s.start, s);
     }
     if depth + 1 == 33 {

@@ -21,6 +21,6 @@ digits_from-run-requires c =
 pub returns : goal.returns
 returns c =
     let a = c.args in let json = a.json.now in let i = a.start in let b : get_or json i 0 ≡ 0x2E = sym c.byte_at.ensures ∙ c.if-byte_at-ne46.false in let r = c.digits_from-run.result in record {
-      read = (λ (q : FractionAt json i). point_read json i a.first q r.to r.kept b c.digits_from-run.ensures.read);
+      read = (λ (q : FractionAt json i). point_read json i a.first q r.to r.held b c.digits_from-run.ensures.read);
       sound = (c.digits_from-run.ensures.sound.0, omega (arith, c.digits_from-run.ensures.sound.1), c.digits_from-run.ensures.sound.2, omega (arith, c.digits_from-run.ensures.sound.2));
     }

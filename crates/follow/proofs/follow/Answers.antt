@@ -1,15 +1,15 @@
 use mathlib.Core.Bool.{Bool, ◌&&◌}
 use mathlib.Core.List.{List}
 use mathlib.Core.Option.{some}
-use mathlib.Core.Path.{refl, sym, ap, ◌∙◌}
-use Prim.Native.Nat.{ℕ, ◌-◌, ◌%◌}
+use mathlib.Core.Path.{sym, ap, ◌∙◌}
+use Prim.Native.Nat.{ℕ}
 use native.Mathlib.Omega.{arith}
-use lib.ListN.{get_or}
+use lib.ListN.{length, get_or}
 use Rattle.jsontext.specs.Automaton.{Bracket, at, ended}
 use Rattle.grammar.specs.Codes.{place_at}
 use Rattle.brackets.specs.Brackets.{brackets}
 use Rattle.brackets.proofs.Bits.{stepped_none, stepped_some}
-use Rattle.brackets.proofs.Moving.{code_place, code_change}
+use Rattle.brackets.proofs.Moving.{code_place}
 use Rattle.follow.proofs.Stacking.{none_below}
 use Rattle.follow.proofs.Going.{sets_out, on, breaks, ends, then}
 use Rattle.follow.proofs.follow.Goals as goal
@@ -30,40 +30,35 @@ returns-then-o-ge62 c =
     let a = c.args in
     then a.json.now a.from (at (place_at a.place) (brackets a.opened)) l.at (at (place_at l.p) (brackets l.o)) l.invariant.0 c.follow_deep.result c.follow_deep.ensures
 
-pub step-code-requires : goal.step-code-requires
-step-code-requires c = c.loop-at.invariant.1
+pub step-requires : goal.step-requires
+step-requires c = c.loop-at.invariant.1
 
-pub returns-then-code-eq63 : goal.returns-then-code-eq63
-returns-then-code-eq63 c =
+pub returns-in_default : goal.returns-in_default
+returns-in_default c =
     let l = c.loop-at in
     let a = c.args in
-    let r = c.around.result in
     let ks : List Bracket = brackets l.o in
-    let dies = stepped_none l.p (get_or a.json.now l.at 0) r ks c.around.ensures (sym c.step-code.ensures ∙ c.if-code-eq63.true) in
+    let dies = stepped_none l.p (get_or a.json.now l.at 0) c.around.result ks c.around.ensures (sym c.step.ensures ∙ c.in_default.is) in
     breaks a.json.now a.from (at (place_at a.place) (brackets a.opened)) l.at (at (place_at l.p) ks) l.invariant.0 (omega arith) dies
 
 pub changed_by-o-requires : goal.changed_by-o-requires
-changed_by-o-requires c =
-    let l = c.loop-at in
-    let a = c.args in
-    let r = c.around.result in
-    (l.invariant.2, omega arith, code_change c.step-code.result l.p (get_or a.json.now l.at 0) r c.step-code.ensures c.if-code-eq63.false)
+changed_by-o-requires c = (c.loop-at.invariant.2, omega arith)
 
 pub loop-at-preserved : goal.loop-at-preserved
 loop-at-preserved c =
     let l = c.loop-at in
     let a = c.args in
-    let r = c.around.result in
-    let n : ℕ = c.step-code.result in
     let ks : List Bracket = brackets l.o in
     let b : ℕ = get_or a.json.now l.at 0 in
-    let is = c.step-code.ensures in
-    let alive = c.if-code-eq63.false in
+    let m = c.in-Some.m in
+    let leads = sym c.step.ensures ∙ c.in-Some.is in
     let turned = c.changed_by-o.ensures in
-    let leads = stepped_some l.p b r ks c.around.ensures n is alive ∙ ap (λ (x : List Bracket). some (at (place_at (n % 64)) x)) (sym turned.brackets_are) in (
+    let steps =
+    stepped_some l.p b c.around.result ks c.around.ensures m leads
+    ∙ ap (λ (x : List Bracket). some (at (place_at m.place) x)) (sym turned.brackets_are) in (
       on a.json.now a.from (at (place_at a.place) (brackets a.opened)) l.at (at (place_at l.p) ks) l.invariant.0 (omega arith)
-          (at (place_at (n % 64)) (brackets c.changed_by-o.result)) leads,
-      code_place n l.p b r is alive,
+          (at (place_at m.place) (brackets c.changed_by-o.result)) steps,
+      code_place m l.p b c.around.result leads,
       turned.fits,
     )
 
@@ -76,4 +71,4 @@ returns c =
     let a = c.args in
     let e = ended (place_at l.p) in
     ends a.json.now a.from (at (place_at a.place) (brackets a.opened)) l.at (at (place_at l.p) (brackets l.o)) l.invariant.0 (omega arith)
-    (record { at = l.at; whole = c.at_end.result }) refl (c.at_end.ensures ∙ ap (λ (x : Bool). e && x) (sym (none_below l.o.bits l.o.depth)))
+    (record { at = length a.json.now; whole = c.at_end.result }) (omega (arith, l.invariant.0.inside)) (c.at_end.ensures ∙ ap (λ (x : Bool). e && x) (sym (none_below l.o.bits l.o.depth)))

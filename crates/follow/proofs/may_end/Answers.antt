@@ -1,9 +1,9 @@
 -- `follow::may_end` meets its contract. Assumes nothing.
 use mathlib.Core.Path.{sym}
+use native.Mathlib.Omega.{arith}
 use Rattle.follow.proofs.Ends.{other_places}
 use Rattle.follow.proofs.may_end.Goals as goal
 
-pub returns-in_default : goal.returns-in_default
-returns-in_default c =
-    let r = c.in_default.in_default-own.rest in
-    sym (other_places c.args.place c.requires r.0.0.0.0.1 r.0.0.0.1 r.0.0.1 r.0.1 r.1)
+pub returns-in_default-2 : goal.returns-in_default-2
+returns-in_default-2 c =
+    sym (other_places c.args.place c.requires (λ e. grind arith) (λ e. grind arith) (λ e. grind arith) (λ e. grind arith) (λ e. grind arith))

@@ -1,5 +1,4 @@
--- `putting::put` meets its contract.
--- Assumes nothing.
+-- `putting::put` meets its contract. Assumes nothing.
 use mathlib.Core.Path.{sym}
 use native.Mathlib.Omega.{arith}
 use lib.Seq.{set_out}

@@ -2,7 +2,6 @@
 use mathlib.Core.List.{List}
 use mathlib.Core.Option.{some}
 use mathlib.Core.Path.{refl, sym, ap, ◌∙◌}
-use Prim.Native.Nat.{ℕ, ◌%◌}
 use lib.ListN.{get_or}
 use Rattle.jsontext.specs.Automaton.{Bracket, Place, at}
 use Rattle.grammar.specs.Codes.{place_at}
@@ -13,9 +12,11 @@ use Rattle.brackets.proofs.Moving.{code_place}
 use Rattle.scan.proofs.Carrying.{how_many, watches, counts}
 use Rattle.scan.proofs.next.Goals as goal
 
-pub returns-then-code-eq63 : goal.returns-then-code-eq63
-returns-then-code-eq63 c =
-    let a = c.args in let b = get_or a.json.now a.at 0 in dies refl (stepped_none a.p.place b c.around.result (brackets a.p.opened) c.around.ensures (sym c.step-code.ensures ∙ c.if-code-eq63.true))
+pub returns-in_default : goal.returns-in_default
+returns-in_default c =
+    let a = c.args in
+    let b = get_or a.json.now a.at 0 in
+    dies refl (stepped_none a.p.place b c.around.result (brackets a.p.opened) c.around.ensures (sym c.step.ensures ∙ c.in_default.is))
 
 pub count-requires : goal.count-requires
 count-requires c =
@@ -33,16 +34,15 @@ returns c =
     let P : Place = place_at a.p.place in
     let ks : List Bracket = brackets a.p.opened in
     let r = c.around.result in
-    let n : ℕ = c.step-code.result in
-    let is = c.step-code.ensures in
-    let alive = c.if-code-eq63.false in
+    let m = c.in-Some.m in
+    let leads = sym c.step.ensures ∙ c.in-Some.is in
     let turned = c.changed_by.ensures in
     let more = c.requires.at_in_bounds.0 in
-    goes
+    goes refl
     (record {
-      known = code_place n a.p.place b r is alive;
+      known = code_place m a.p.place b r leads;
       fits = turned.fits;
-      steps = stepped_some a.p.place b r ks c.around.ensures n is alive ∙ ap (λ (x : List Bracket). some (at (place_at (n % 64)) x)) (sym turned.brackets_are);
+      steps = stepped_some a.p.place b r ks c.around.ensures m leads ∙ ap (λ (x : List Bracket). some (at (place_at m.place) x)) (sym turned.brackets_are);
       watched = c.watch_on.ensures ∙ sym (watches json a.at more P a.p.opened a.p.watch);
       tallied = c.count.ensures ∙ sym (counts json a.at more P a.p.opened (tally_in a.p (areas a.values.now a.texts.now a.names.now a.words.now a.objects.now)));
       gathered = c.gather_byte.ensures ks (how_many a.p.opened.bits a.p.opened.depth);

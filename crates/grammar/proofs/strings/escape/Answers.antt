@@ -1,145 +1,25 @@
--- `grammar::strings::escape` meets its contract: each move is asked in its turn.
+-- `grammar::strings::escape` meets its contract: each letter of a short escape leads back into the string.
 -- Assumes nothing.
-use mathlib.Core.Bool.{true, false}
-use mathlib.Core.Option.{none}
+use mathlib.Core.Logic.{◌⊎◌, inl, inr}
 use mathlib.Core.Path.{◌≡◌, sym, ◌∙◌}
-use Prim.Native.Nat.{◌+◌}
-use native.Mathlib.Omega.{arith}
+use Prim.Native.Nat.{ℕ, ◌+◌}
 use Rattle.jsontext.specs.Automaton as Auto
-use Rattle.jsontext.specs.Automaton.{moves, pick}
-use Rattle.grammar.specs.Codes.{leads, inside, role_at}
-use Rattle.grammar.proofs.Leading.{role_back}
+use Rattle.jsontext.specs.Automaton.{pick}
+use Rattle.grammar.specs.Codes.{leads, goes, role_of, role_code}
 use Rattle.grammar.proofs.strings.escape.Goals as goal
 
-pub returns-then-within : goal.returns-then-within
+back : (r : Auto.Role) (b : ℕ)
+    → (b ≡ 34) ⊎ ((b ≡ 47) ⊎ ((b ≡ 92) ⊎ ((b ≡ 98) ⊎ ((b ≡ 102) ⊎ ((b ≡ 110) ⊎ ((b ≡ 114) ⊎ (b ≡ 116)))))))
+    → leads (Auto.shorts r) b ≡ goes (24 + role_code r)
 unfolding leads pick
-returns-then-within c =
-    let s = c.args in
-    let e1 : inside 0x22 0x22 s.byte ≡ true = sym c.within.ensures ∙ c.if-within.true in
-    let back = role_back s.role c.requires in
-    let rest : leads (moves (Auto.escape (role_at s.role)) none) s.byte ≡ 24 + s.role = rw (e1) (omega (arith, back)) in
-    sym (rest)
+back r b (inl e) = rw e
+back r b (inr (inl e)) = rw e
+back r b (inr (inr (inl e))) = rw e
+back r b (inr (inr (inr (inl e)))) = rw e
+back r b (inr (inr (inr (inr (inl e))))) = rw e
+back r b (inr (inr (inr (inr (inr (inl e)))))) = rw e
+back r b (inr (inr (inr (inr (inr (inr (inl e))))))) = rw e
+back r b (inr (inr (inr (inr (inr (inr (inr e))))))) = rw e
 
-pub returns-then-within-2 : goal.returns-then-within-2
-unfolding leads pick
-returns-then-within-2 c =
-    let s = c.args in
-    let e1 : inside 0x22 0x22 s.byte ≡ false = sym c.within.ensures ∙ c.if-within.false in
-    let e2 : inside 0x5C 0x5C s.byte ≡ true = sym c.within-2.ensures ∙ c.if-within-2.true in
-    let back = role_back s.role c.requires in
-    let rest : leads (moves (Auto.escape (role_at s.role)) none) s.byte ≡ 24 + s.role = rw (e1, e2) (omega (arith, back)) in
-    sym (rest)
-
-pub returns-then-within-3 : goal.returns-then-within-3
-unfolding leads pick
-returns-then-within-3 c =
-    let s = c.args in
-    let e1 : inside 0x22 0x22 s.byte ≡ false = sym c.within.ensures ∙ c.if-within.false in
-    let e2 : inside 0x5C 0x5C s.byte ≡ false = sym c.within-2.ensures ∙ c.if-within-2.false in
-    let e3 : inside 0x2F 0x2F s.byte ≡ true = sym c.within-3.ensures ∙ c.if-within-3.true in
-    let back = role_back s.role c.requires in
-    let rest : leads (moves (Auto.escape (role_at s.role)) none) s.byte ≡ 24 + s.role = rw (e1, e2, e3) (omega (arith, back)) in
-    sym (rest)
-
-pub returns-then-within-4 : goal.returns-then-within-4
-unfolding leads pick
-returns-then-within-4 c =
-    let s = c.args in
-    let e1 : inside 0x22 0x22 s.byte ≡ false = sym c.within.ensures ∙ c.if-within.false in
-    let e2 : inside 0x5C 0x5C s.byte ≡ false = sym c.within-2.ensures ∙ c.if-within-2.false in
-    let e3 : inside 0x2F 0x2F s.byte ≡ false = sym c.within-3.ensures ∙ c.if-within-3.false in
-    let e4 : inside 0x62 0x62 s.byte ≡ true = sym c.within-4.ensures ∙ c.if-within-4.true in
-    let back = role_back s.role c.requires in
-    let rest : leads (moves (Auto.escape (role_at s.role)) none) s.byte ≡ 24 + s.role = rw (e1, e2, e3, e4) (omega (arith, back)) in
-    sym (rest)
-
-pub returns-then-within-5 : goal.returns-then-within-5
-unfolding leads pick
-returns-then-within-5 c =
-    let s = c.args in
-    let e1 : inside 0x22 0x22 s.byte ≡ false = sym c.within.ensures ∙ c.if-within.false in
-    let e2 : inside 0x5C 0x5C s.byte ≡ false = sym c.within-2.ensures ∙ c.if-within-2.false in
-    let e3 : inside 0x2F 0x2F s.byte ≡ false = sym c.within-3.ensures ∙ c.if-within-3.false in
-    let e4 : inside 0x62 0x62 s.byte ≡ false = sym c.within-4.ensures ∙ c.if-within-4.false in
-    let e5 : inside 0x66 0x66 s.byte ≡ true = sym c.within-5.ensures ∙ c.if-within-5.true in
-    let back = role_back s.role c.requires in
-    let rest : leads (moves (Auto.escape (role_at s.role)) none) s.byte ≡ 24 + s.role = rw (e1, e2, e3, e4, e5) (omega (arith, back)) in
-    sym (rest)
-
-pub returns-then-within-6 : goal.returns-then-within-6
-unfolding leads pick
-returns-then-within-6 c =
-    let s = c.args in
-    let e1 : inside 0x22 0x22 s.byte ≡ false = sym c.within.ensures ∙ c.if-within.false in
-    let e2 : inside 0x5C 0x5C s.byte ≡ false = sym c.within-2.ensures ∙ c.if-within-2.false in
-    let e3 : inside 0x2F 0x2F s.byte ≡ false = sym c.within-3.ensures ∙ c.if-within-3.false in
-    let e4 : inside 0x62 0x62 s.byte ≡ false = sym c.within-4.ensures ∙ c.if-within-4.false in
-    let e5 : inside 0x66 0x66 s.byte ≡ false = sym c.within-5.ensures ∙ c.if-within-5.false in
-    let e6 : inside 0x6E 0x6E s.byte ≡ true = sym c.within-6.ensures ∙ c.if-within-6.true in
-    let back = role_back s.role c.requires in
-    let rest : leads (moves (Auto.escape (role_at s.role)) none) s.byte ≡ 24 + s.role = rw (e1, e2, e3, e4, e5, e6) (omega (arith, back)) in
-    sym (rest)
-
-pub returns-then-within-7 : goal.returns-then-within-7
-unfolding leads pick
-returns-then-within-7 c =
-    let s = c.args in
-    let e1 : inside 0x22 0x22 s.byte ≡ false = sym c.within.ensures ∙ c.if-within.false in
-    let e2 : inside 0x5C 0x5C s.byte ≡ false = sym c.within-2.ensures ∙ c.if-within-2.false in
-    let e3 : inside 0x2F 0x2F s.byte ≡ false = sym c.within-3.ensures ∙ c.if-within-3.false in
-    let e4 : inside 0x62 0x62 s.byte ≡ false = sym c.within-4.ensures ∙ c.if-within-4.false in
-    let e5 : inside 0x66 0x66 s.byte ≡ false = sym c.within-5.ensures ∙ c.if-within-5.false in
-    let e6 : inside 0x6E 0x6E s.byte ≡ false = sym c.within-6.ensures ∙ c.if-within-6.false in
-    let e7 : inside 0x72 0x72 s.byte ≡ true = sym c.within-7.ensures ∙ c.if-within-7.true in
-    let back = role_back s.role c.requires in
-    let rest : leads (moves (Auto.escape (role_at s.role)) none) s.byte ≡ 24 + s.role = rw (e1, e2, e3, e4, e5, e6, e7) (omega (arith, back)) in
-    sym (rest)
-
-pub returns-then-within-8 : goal.returns-then-within-8
-unfolding leads pick
-returns-then-within-8 c =
-    let s = c.args in
-    let e1 : inside 0x22 0x22 s.byte ≡ false = sym c.within.ensures ∙ c.if-within.false in
-    let e2 : inside 0x5C 0x5C s.byte ≡ false = sym c.within-2.ensures ∙ c.if-within-2.false in
-    let e3 : inside 0x2F 0x2F s.byte ≡ false = sym c.within-3.ensures ∙ c.if-within-3.false in
-    let e4 : inside 0x62 0x62 s.byte ≡ false = sym c.within-4.ensures ∙ c.if-within-4.false in
-    let e5 : inside 0x66 0x66 s.byte ≡ false = sym c.within-5.ensures ∙ c.if-within-5.false in
-    let e6 : inside 0x6E 0x6E s.byte ≡ false = sym c.within-6.ensures ∙ c.if-within-6.false in
-    let e7 : inside 0x72 0x72 s.byte ≡ false = sym c.within-7.ensures ∙ c.if-within-7.false in
-    let e8 : inside 0x74 0x74 s.byte ≡ true = sym c.within-8.ensures ∙ c.if-within-8.true in
-    let back = role_back s.role c.requires in
-    let rest : leads (moves (Auto.escape (role_at s.role)) none) s.byte ≡ 24 + s.role = rw (e1, e2, e3, e4, e5, e6, e7, e8) (omega (arith, back)) in
-    sym (rest)
-
-pub returns-then-within-9 : goal.returns-then-within-9
-unfolding leads pick
-returns-then-within-9 c =
-    let s = c.args in
-    let e1 : inside 0x22 0x22 s.byte ≡ false = sym c.within.ensures ∙ c.if-within.false in
-    let e2 : inside 0x5C 0x5C s.byte ≡ false = sym c.within-2.ensures ∙ c.if-within-2.false in
-    let e3 : inside 0x2F 0x2F s.byte ≡ false = sym c.within-3.ensures ∙ c.if-within-3.false in
-    let e4 : inside 0x62 0x62 s.byte ≡ false = sym c.within-4.ensures ∙ c.if-within-4.false in
-    let e5 : inside 0x66 0x66 s.byte ≡ false = sym c.within-5.ensures ∙ c.if-within-5.false in
-    let e6 : inside 0x6E 0x6E s.byte ≡ false = sym c.within-6.ensures ∙ c.if-within-6.false in
-    let e7 : inside 0x72 0x72 s.byte ≡ false = sym c.within-7.ensures ∙ c.if-within-7.false in
-    let e8 : inside 0x74 0x74 s.byte ≡ false = sym c.within-8.ensures ∙ c.if-within-8.false in
-    let e9 : inside 0x75 0x75 s.byte ≡ true = sym c.within-9.ensures ∙ c.if-within-9.true in
-    let back = role_back s.role c.requires in
-    let rest : leads (moves (Auto.escape (role_at s.role)) none) s.byte ≡ 34 + s.role = rw (e1, e2, e3, e4, e5, e6, e7, e8, e9) (omega (arith, back)) in
-    sym (rest)
-
-pub returns : goal.returns
-unfolding leads pick
-returns c =
-    let s = c.args in
-    let e1 : inside 0x22 0x22 s.byte ≡ false = sym c.within.ensures ∙ c.if-within.false in
-    let e2 : inside 0x5C 0x5C s.byte ≡ false = sym c.within-2.ensures ∙ c.if-within-2.false in
-    let e3 : inside 0x2F 0x2F s.byte ≡ false = sym c.within-3.ensures ∙ c.if-within-3.false in
-    let e4 : inside 0x62 0x62 s.byte ≡ false = sym c.within-4.ensures ∙ c.if-within-4.false in
-    let e5 : inside 0x66 0x66 s.byte ≡ false = sym c.within-5.ensures ∙ c.if-within-5.false in
-    let e6 : inside 0x6E 0x6E s.byte ≡ false = sym c.within-6.ensures ∙ c.if-within-6.false in
-    let e7 : inside 0x72 0x72 s.byte ≡ false = sym c.within-7.ensures ∙ c.if-within-7.false in
-    let e8 : inside 0x74 0x74 s.byte ≡ false = sym c.within-8.ensures ∙ c.if-within-8.false in
-    let e9 : inside 0x75 0x75 s.byte ≡ false = sym c.within-9.ensures ∙ c.if-within-9.false in
-    let rest : leads (moves (Auto.escape (role_at s.role)) none) s.byte ≡ 63 = rw (e1, e2, e3, e4, e5, e6, e7, e8, e9) in
-    sym (rest)
+pub returns-in-34 : goal.returns-in-34
+returns-in-34 c = c.within.ensures ∙ sym (back (role_of c.args.role) c.args.byte c.in-34.is)
