@@ -4,12 +4,32 @@
 ghost use Rattle.std.specs.Prelude.{◌⊎◌, ◌≡◌, ◌+◌, ◌*◌, ◌≤◌, ◌<◌, length};
 ghost use Rattle.reader.specs.Call.{Reads};
 ghost use Rattle.laying.specs.Laying.{outcome_of};
+ghost use Rattle.refusing.specs.Refusing.{Lent};
 
 use laying::{Refused, write};
 use refusing::refusal_of;
 
-// Reads a text with areas for so many bytes of names, and for so many words of where they lie.
-fn read_with<const NAMES: usize, const RANGES: usize>(
+// Reads a text with areas for its names.
+fn read_with(
+    json: &[u8],
+    names: &mut [u8],
+    ranges: &mut [u32],
+    words: &mut [u32],
+    text: &mut [u8],
+) -> Result<u32, Refused>
+    requires { (length json.now ≤ 65_536) × Lent json.now names.old ranges.old }
+    ensures { Reads json.now words.old text.old (record { outcome = outcome_of result; words = words.new; room = text.new }) }
+{
+    let mut values = [0u32; 32];
+    let mut texts = [0u32; 32];
+    let mut objects = [0u32; 33];
+    refusal_of(json, &mut values, &mut texts, names, ranges, &mut objects)?;
+    write(json, &values, &texts, words, text)
+}
+
+// Reads a text with areas for so many bytes of names, and for so many words of where they lie. What
+// is long stands in `read_with`, once for all sizes: in copies of it a byte takes a tenth longer.
+fn read_sized<const NAMES: usize, const RANGES: usize>(
     json: &[u8],
     words: &mut [u32],
     text: &mut [u8],
@@ -19,20 +39,9 @@ fn read_with<const NAMES: usize, const RANGES: usize>(
     requires ranges_long { (3_072 ≡ RANGES) ⊎ ((3 * length json.now + 3 ≤ 2 * RANGES) × (RANGES ≤ 3_072)) }
     ensures { Reads json.now words.old text.old (record { outcome = outcome_of result; words = words.new; room = text.new }) }
 {
-    let mut values = [0u32; 32];
-    let mut texts = [0u32; 32];
     let mut names = [0u8; NAMES];
     let mut ranges = [0u32; RANGES];
-    let mut objects = [0u32; 33];
-    refusal_of(
-        json,
-        &mut values,
-        &mut texts,
-        &mut names,
-        &mut ranges,
-        &mut objects,
-    )?;
-    write(json, &values, &texts, words, text)
+    read_with(json, &mut names, &mut ranges, words, text)
 }
 
 // Reads JSON, whatever the bytes and the areas: the record sheet and its text are written to the
@@ -42,8 +51,8 @@ pub fn read(json: &[u8], words: &mut [u32], text: &mut [u8]) -> Result<u32, Refu
     ensures { Reads json.now words.old text.old (record { outcome = outcome_of result; words = words.new; room = text.new }) }
 {
     match json.len() {
-        ..=1_024 => read_with::<1_025, 1_538>(json, words, text),
-        ..=65_536 => read_with::<65_537, 3_072>(json, words, text),
+        ..=1_024 => read_sized::<1_025, 1_538>(json, words, text),
+        ..=65_536 => read_sized::<65_537, 3_072>(json, words, text),
         _ => Err(Refused {
             number: 20,
             place: 0,
