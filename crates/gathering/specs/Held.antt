@@ -42,10 +42,7 @@ abbrev pub Does : (Gather → Gather) → List ℕ → List ℕ → List ℕ →
 Does f text words objects n text' words' objects' r =
     (text₀ words₀ : List ℕ) (g : Gather) → Held text₀ words₀ text words objects n g → Held text₀ words₀ text' words' objects' r (f g)
 
--- the same where only the numbers, or besides them only one of the slices, are changed
-abbrev pub OnNumbers : (Gather → Gather) → Gathered → Gathered → Type 0
-OnNumbers f n r = (text words objects : List ℕ) → Does f text words objects n text words objects r
-
+-- the same where besides the numbers only one of the slices is changed
 abbrev pub OnText : (Gather → Gather) → List ℕ → Gathered → List ℕ → Gathered → Type 0
 OnText f text n text' r = (words objects : List ℕ) → Does f text words objects n text' words objects r
 

@@ -8,15 +8,13 @@ ghost use Rattle.naming.specs.Gathering.{text_more, escape_more, escaped};
 ghost use Rattle.gathering.specs.Held.{Small, Sound, Does, OnText, Within, Gathers};
 
 use putting::short_of;
-use watching::escaping::high;
+use watching::escaping::{hex_more, high};
 
 mod holding;
 mod units;
 
-use crate::holding::{
-    object_at, open_name, say_byte, say_code, shut_name, start_value, with_unit, with_waits,
-};
-use crate::units::{character, digit_more, low_ahead};
+use crate::holding::{object_at, open_name, say_byte, say_code, shut_name, start_value};
+use crate::units::{character, low_ahead};
 
 // How many bytes and words are gathered; how many values have started; whether a name is being
 // gathered, where it begins and how many bytes of text are left from its quote on; the number of an
@@ -38,10 +36,10 @@ fn in_text(byte: u8, n: Gathered, text: &mut [u8], words: &mut [u32]) -> Gathere
     requires { Small n }
     ensures { (objects : List ℕ) → Does (text_more as_name byte) text.old words.old objects n text.new words.new objects result }
 {
-    if byte == 0x22 {
+    if byte == b'"' {
         return shut_name(n, words);
     }
-    if byte == 0x5C {
+    if byte == b'\\' {
         return n;
     }
     say_byte(byte, n, text)
@@ -52,8 +50,8 @@ fn in_escape(byte: u8, n: Gathered, text: &mut [u8]) -> Gathered
     requires { Small n }
     ensures { OnText (escape_more as_name byte) text.old n text.new result }
 {
-    if byte == 0x75 {
-        return with_unit(0, n);
+    if byte == b'u' {
+        return Gathered { unit: 0, ..n };
     }
     say_byte(short_of(byte), n, text)
 }
@@ -64,7 +62,7 @@ fn escape_whole(json: &[u8], at: usize, code: u32, n: Gathered, text: &mut [u8])
     ensures { OnText (escaped code (drop (suc at) json.now)) text.old n text.new result }
 {
     if high(code) & low_ahead(json, at + 1) {
-        return with_waits(code, n);
+        return Gathered { waits: code, ..n };
     }
     say_code(character(n.waits, code), n, text)
 }
@@ -91,11 +89,11 @@ fn name_moves(
     if place >= 37 {
         return say_byte(byte, n, text);
     }
-    let code = digit_more(n.unit, byte);
+    let unit = hex_more(n.unit, byte);
     if place == 29 {
-        return escape_whole(json, at, code, n, text);
+        return escape_whole(json, at, unit, n, text);
     }
-    with_unit(code, n)
+    Gathered { unit, ..n }
 }
 
 // Where a value or a name may start.
@@ -112,14 +110,14 @@ fn outer_moves(
     ensures { (ks : List Bracket) → length ks ≡ depth → (words : List ℕ) → Within json.now at place ks text.old words objects.old n text.new words objects.new result }
 {
     let byte = json[at];
-    if byte <= 0x20 {
+    if byte <= b' ' {
         return n;
     }
     if place == 0 {
         return start_value(depth, byte, n, objects);
     }
     if place == 1 {
-        if byte == 0x5D {
+        if byte == b']' {
             return n;
         }
         return start_value(depth, byte, n, objects);
@@ -127,7 +125,7 @@ fn outer_moves(
     if place == 2 {
         return n;
     }
-    if byte != 0x22 {
+    if byte != b'"' {
         return n;
     }
     let object = object_at(objects, depth);

@@ -21,8 +21,7 @@ use outcomes::{number_of_kind, number_of_queued, number_of_read};
 pub extern "C" fn amphorust_read(json: &[u8], words: &mut [u32], text: &mut [u8]) -> u64
     ensures { ReadCalled json.now words.old text.old words.new text.new result }
 {
-    let answer = reading::read(json, words, text);
-    number_of_read(answer)
+    number_of_read(reading::read(json, words, text))
 }
 
 // Checks a sheet, whatever the words and the text. The number's lowest byte is 0 for a sheet in

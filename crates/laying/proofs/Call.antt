@@ -17,7 +17,8 @@ use Rattle.reader.specs.Call.{input_max, Reads, is_text}
 use Rattle.tally.specs.declared.Units.{Units}
 use Rattle.tally.specs.Tallying.{no_tally, tally_of, tallying}
 use Rattle.tally.proofs.Tallied.{Tallied, tallied}
-use Rattle.laying.specs.declared.Answer.{Answer}
+use Rattle.std.specs.Prelude.{Result}
+use Rattle.laying.specs.declared.Refused.{Refused}
 use Rattle.laying.specs.Laying.{outcome_of, Countable, Laid}
 
 pub countable : (t : Text) {json : List ℕ} → bytes t ≡ json → first_fault 0 (text_starts number_max t) ≡ none
@@ -31,6 +32,6 @@ countable t e clean u values texts h =
       counted = subst (Tallied t) h (rw e at (tallied t));
     }
 
-pub reads : (t : Text) {json words room words' room' : List ℕ} {r : Answer} → length json ≤ input_max → bytes t ≡ json → Laid t words room r words' room'
+pub reads : (t : Text) {json words room words' room' : List ℕ} {r : Result ℕ Refused} → length json ≤ input_max → bytes t ≡ json → Laid t words room r words' room'
     → Reads json words room (record { outcome = outcome_of r; words = words'; room = room' })
 reads t {words = words} {room = room} l e h = rw (h.answered, h.words_are, h.room_is) (is_text t l e)

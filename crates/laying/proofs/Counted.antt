@@ -23,7 +23,7 @@ use Rattle.reader.proofs.Clean.{clean_text}
 use Rattle.reader.proofs.Sayable.{text_sayable}
 use Rattle.reader.proofs.Lengths.{made_short}
 use Rattle.tally.specs.Tallying.{levels}
-use Rattle.laying.specs.declared.Answer.TheVariants.{Made}
+use Rattle.std.specs.Prelude.{Ok}
 use Rattle.laying.specs.Laying.{start_at, Started, Countable, Laid}
 use Rattle.laying.proofs.Starts.{start_begins, starts_hold}
 use Rattle.laying.proofs.Outcomes.{all_made}
@@ -80,6 +80,6 @@ module _ (json values texts : List ℕ) (c : Countable json values texts) where
         }
 
     pub laid : (words' room' : List ℕ) → ((w : Writable json n m row_starts byte_starts words room) → Stands w.of words room words' room')
-        → Laid c.of words room (Made n) words' room'
+        → Laid c.of words room (Ok n) words' room'
     unfolding writable
     laid words' room' s = all_made c.of c.clean words room n m (rows_sum ∙ rows_all) (bytes_sum ∙ bytes_all) words_fit text_fits (s writable)

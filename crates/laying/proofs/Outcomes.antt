@@ -22,7 +22,7 @@ use Rattle.breadth.proofs.Theorems.{words_needed}
 use Rattle.writing.specs.Reading.{Stands}
 use Rattle.reader.specs.Faults.{first_fault}
 use Rattle.reader.specs.Call.{datum_of, text_made, words_made, text_outcome, area_after}
-use Rattle.laying.specs.declared.Answer.TheVariants.{Made, Refused}
+use Rattle.std.specs.Prelude.{Ok, Err}
 use Rattle.laying.specs.Laying.{Laid}
 
 module _ (t : Text) (clean : first_fault 0 (text_starts number_max t) ≡ none) (words room : List ℕ) where
@@ -35,7 +35,7 @@ module _ (t : Text) (clean : first_fault 0 (text_starts number_max t) ≡ none) 
   outcome_is b c p q = rw (clean, p, q)
 
   -- nothing is written
-  refusal : (number place : ℕ) → outcome ≡ refused number place → Laid t words room (Refused number place) words room
+  refusal : (number place : ℕ) → outcome ≡ refused number place → Laid t words room (Err (record { number = number; place = place })) words room
   refusal number place e =
       record {
         answered = sym e;
@@ -50,17 +50,17 @@ module _ (t : Text) (clean : first_fault 0 (text_starts number_max t) ≡ none) 
     words_fit : row_words * n + 4 ≤ length words → ltb (length words) (length (words_made t)) ≡ false
     words_fit h = le-ltb (length words) (length (words_made t)) (omega (arith, needed))
 
-    pub words_short : length words < row_words * n + 4 → Laid t words room (Refused 27 (row_words * n + 4)) words room
+    pub words_short : length words < row_words * n + 4 → Laid t words room (Err (record { number = 27; place = row_words * n + 4 })) words room
     words_short l =
         refusal 27 (row_words * n + 4)
         (outcome_is true (ltb (length room) (length (text_made t))) (lt-ltb (length words) (length (words_made t)) (omega (arith, needed))) refl ∙ ap (refused 27) needed)
 
-    pub room_short : row_words * n + 4 ≤ length words → length room < size → Laid t words room (Refused 28 size) words room
+    pub room_short : row_words * n + 4 ≤ length words → length room < size → Laid t words room (Err (record { number = 28; place = size })) words room
     room_short h l =
         refusal 28 size
         (outcome_is false true (words_fit h) (lt-ltb (length room) (length (text_made t)) (omega arith)) ∙ ap (refused 28) (sym long))
 
-    pub all_made : row_words * n + 4 ≤ length words → size ≤ length room → {words' room' : List ℕ} → Stands t words room words' room' → Laid t words room (Made n) words' room'
+    pub all_made : row_words * n + 4 ≤ length words → size ≤ length room → {words' room' : List ℕ} → Stands t words room words' room' → Laid t words room (Ok n) words' room'
     all_made h l s =
         let e : outcome ≡ accepted (length (rows (tree (datum_of t)))) =
         outcome_is false false (words_fit h) (le-ltb (length room) (length (text_made t)) (omega arith)) in

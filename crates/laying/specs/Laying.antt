@@ -1,7 +1,7 @@
 -- A text without fault, whose levels are counted, is written if the areas are long enough: lines 27 and 28 of the call (02, #101) and its success, as
 -- reader/specs/Call.antt has them.
 -- Assumes nothing.
-use Rattle.std.specs.Prelude.{List, ◌≡◌, ℕ, zero, suc, ◌+◌, ◌<◌, length, get_or}
+use Rattle.std.specs.Prelude.{Result, Ok, Err, List, ◌≡◌, ℕ, zero, suc, ◌+◌, ◌<◌, length, get_or}
 use Rattle.std.proofs.Math.Option.{none}
 use Rattle.sheet.specs.Kinds.{number_max}
 use Rattle.sheet.specs.Refusals.{Outcome, accepted, refused}
@@ -12,8 +12,7 @@ use Rattle.reader.specs.Call.{text_made, words_made, text_outcome, area_after}
 use Rattle.tally.specs.Tallying.{tally_of}
 use Rattle.tally.specs.declared.Units.{Units}
 use Rattle.tally.proofs.Tallied.{Tallied}
-use Rattle.laying.specs.declared.Answer.{Answer}
-use Rattle.laying.specs.declared.Answer.TheVariants.{Made, Refused}
+use Rattle.laying.specs.declared.Refused.{Refused}
 
 -- ---- where the levels start
 
@@ -29,9 +28,9 @@ Started counters cells k = (j : ℕ) → j < k → get_or cells j 0 ≡ start_at
 -- ---- the call
 
 -- an answer, as reader/specs/Call.antt has it
-abbrev pub outcome_of : Answer → Outcome
-outcome_of (Made rows) = accepted rows
-outcome_of (Refused number place) = refused number place
+abbrev pub outcome_of : Result ℕ Refused → Outcome
+outcome_of (Ok rows) = accepted rows
+outcome_of (Err r) = refused r.number r.place
 
 -- these bytes are of a text without fault, and the counters are its levels'
 pub record Countable (json values texts : List ℕ) : Type 0 where
@@ -42,7 +41,7 @@ pub record Countable (json values texts : List ℕ) : Type 0 where
   pub counted : Tallied of (tally_of units values texts)
 
 -- the answer for a text, and the areas at the end
-pub record Laid (t : Text) (words room : List ℕ) (r : Answer) (words' room' : List ℕ) : Type 0 where
+pub record Laid (t : Text) (words room : List ℕ) (r : Result ℕ Refused) (words' room' : List ℕ) : Type 0 where
   pub answered : outcome_of r ≡ text_outcome t (length words) (length room)
   pub words_are : words' ≡ area_after (text_outcome t (length words) (length room)) (words_made t) words
   pub room_is : room' ≡ area_after (text_outcome t (length words) (length room)) (text_made t) room

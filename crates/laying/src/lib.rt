@@ -7,11 +7,11 @@ ghost use Rattle.laying.specs.Laying.{start_at, Started, Countable, Laid};
 
 use writing::write_sheet;
 
-// What the call that reads JSON answers: the number of rows, or a refusal's number and place.
+// A text is refused: the refusal's number, and its place.
 #[derive(Clone, Copy)]
-pub enum Answer {
-    Made(u32),
-    Refused(u32, u32),
+pub struct Refused {
+    pub number: u32,
+    pub place: u32,
 }
 
 // Where each level starts, from how many there are on each; and how many there are in all, which is
@@ -21,13 +21,11 @@ fn start_levels(counters: &[u32], starts: &mut [u32]) -> u32
     ensures { (result ≡ start_at counters.now (length counters.now)) × Started counters.now starts.new (suc (length counters.now)) }
 {
     let mut sum = 0;
-    let mut k = 0;
-    while k < counters.len() {
+    for (k, counter) in counters.iter().enumerate() {
         starts[k] = sum;
-        sum = sum + counters[k];
-        k += 1;
+        sum += *counter;
     }
-    starts[k] = sum;
+    starts[counters.len()] = sum;
     sum
 }
 
@@ -40,7 +38,7 @@ pub fn write(
     texts: &[u32],
     words: &mut [u32],
     text: &mut [u8],
-) -> Answer
+) -> Result<u32, Refused>
     requires countable { Countable json.now values.now texts.now }
     requires json_len_bound { length json.now ≤ 65_536 }
     ensures { (c : Countable json.now values.now texts.now) → Laid c.of words.old text.old result words.new text.new }
@@ -51,11 +49,17 @@ pub fn write(
     let size = start_levels(texts, &mut bytes);
     let needed = 6 * n + 4;
     if words.len() < needed as usize {
-        return Answer::Refused(27, needed);
+        return Err(Refused {
+            number: 27,
+            place: needed,
+        });
     }
     if text.len() < size as usize {
-        return Answer::Refused(28, size);
+        return Err(Refused {
+            number: 28,
+            place: size,
+        });
     }
     write_sheet(json, n, size, &mut rows, &mut bytes, words, text);
-    Answer::Made(n)
+    Ok(n)
 }

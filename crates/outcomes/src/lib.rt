@@ -12,19 +12,19 @@ ghost use Rattle.listing.specs.Listing.{queued_outcome};
 ghost use Rattle.meaning.specs.Answer.{number_for_c};
 ghost use Rattle.number.specs.Called.{outcome_answer};
 
-use laying::Answer;
+use laying::Refused;
 use listing::Queued;
 use number::{number_of_count, number_of_refusal};
 use sheet::refusal::Checked;
 use sheetcheck::ByKind;
 
 // The number of what reading gives.
-pub fn number_of_read(answer: Answer) -> u64
+pub fn number_of_read(answer: Result<u32, Refused>) -> u64
     ensures { result ≡ number_for_c (outcome_answer (read_outcome answer)) }
 {
     match answer {
-        Answer::Made(rows) => number_of_count(rows),
-        Answer::Refused(number, place) => number_of_refusal(number, place),
+        Ok(rows) => number_of_count(rows),
+        Err(refused) => number_of_refusal(refused.number, refused.place),
     }
 }
 

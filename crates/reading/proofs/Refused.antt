@@ -2,16 +2,16 @@
 --     told_refused     a text that is refused
 --     told_fine        a text without fault
 -- Assumes nothing.
-use mathlib.Core.Bool.{Bool, true, false, cond}
+use mathlib.Core.Bool.{false}
 use mathlib.Core.List.{List}
 use mathlib.Core.Logic.{◌≢◌}
-use mathlib.Core.Option.{Option, none, some}
-use mathlib.Core.Path.{◌≡◌, refl, sym, ap, ◌∙◌, subst}
+use mathlib.Core.Option.{some}
+use mathlib.Core.Path.{◌≡◌, sym, ap, ◌∙◌, subst}
 use Prim.Native.Nat.{ℕ, ◌-◌, ◌≤◌}
 use native.Mathlib.Omega.{arith}
 use lib.ListN.{length}
 use Rattle.sheet.specs.Kinds.{number_max}
-use Rattle.sheet.specs.Refusals.{Outcome, accepted, refused, first_line}
+use Rattle.sheet.specs.Refusals.{Outcome, refused, first_line}
 use Rattle.jsontext.specs.Text.{Text, bytes}
 use Rattle.jsontext.specs.Automaton.{start, accepts}
 use Rattle.jsontext.specs.Starts.{text_starts}

@@ -8,8 +8,10 @@ use Prim.Native.Nat.{ℕ, ◌-◌, ◌/◌, ◌≤◌}
 use lib.ListN.{length}
 use Rattle.names.specs.Names.{Lying}
 use Rattle.jsontext.specs.Text.{Text, bytes}
-use Rattle.jsontext.specs.Automaton.{accepts}
+use Rattle.jsontext.specs.Automaton.{start, accepts}
 use Rattle.jsontext.proofs.Sound.{accepts_json}
+use Rattle.follow.specs.declared.End.{End}
+use Rattle.follow.specs.Following.{Followed}
 use Rattle.survey.specs.declared.Watch.{Watch}
 use Rattle.naming.proofs.Lying.{in_threes}
 use Rattle.scan.specs.declared.Halt.{Halt}
@@ -45,6 +47,10 @@ module _ {a₀ : Areas} {r : Halt} {a : Areas} where
 
   whole_of : {json : List ℕ} → Called json a₀ r a → Whole json a₀ r a
   whole_of {json} c = whole json a₀ r a c.halted c.accepted
+
+  -- what `refusal_of` has come to where the text goes on to its end
+  pub called : {json : List ℕ} {e : End} → (length json ≤ 65_536) × Lent json a₀.names a₀.words → Halted json a₀ r a → Followed json 0 start e → not e.whole ≡ false → Called json a₀ r a
+  called {e = e} p h f n = record { short = p.0; lent = p.1; halted = h; accepted = sym f.whole_is ∙ upheld e.whole n }
 
   pub called_end : {json : List ℕ} → Called json a₀ r a → Endable r.scan.place r.scan.opened.depth r.scan.watch
   called_end {json} c = Telling.endable json a₀ r a (whole_of c)

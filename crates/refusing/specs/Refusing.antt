@@ -1,7 +1,7 @@
 -- Refusals 21 to 26 of a JSON text in code (02, #101): from where the first pass halts, whether the text is JSON, and if it is, the fault that starts first.
 -- Assumes nothing.
-use Rattle.std.specs.Prelude.{true, false, cond, List, ◌≢◌, ◌⊎◌, ◌≡◌, ℕ, ◌+◌, ◌*◌, ◌-◌, ◌≤◌, ◌<◌, eqb, ltb, length, get_or}
-use Rattle.std.proofs.Math.Option.{none, some}
+use Rattle.std.specs.Prelude.{Option, Some, None, Result, Ok, Err, ⊤, true, false, cond, List, ◌≢◌, ◌⊎◌, ◌≡◌, ℕ, ◌+◌, ◌*◌, ◌-◌, ◌≤◌, ◌<◌, eqb, ltb, length, get_or}
+use Rattle.std.proofs.Math.Option.{some}
 use Rattle.laws.specs.Lowest.{lowest}
 use Rattle.names.specs.Names.{repeats_at}
 use Rattle.sheet.specs.Kinds.{number_max}
@@ -20,6 +20,7 @@ use Rattle.survey.specs.declared.Watch.{Watch}
 use Rattle.survey.specs.Watching.{moved}
 use Rattle.survey.specs.Bounds.{Sound}
 use Rattle.naming.proofs.Lying.{in_threes}
+use Rattle.laying.specs.declared.Refused.{Refused}
 use Rattle.laying.specs.Laying.{Countable}
 use Rattle.refusing.specs.declared.Amiss.{Amiss}
 
@@ -44,6 +45,11 @@ first_one_of words names count w =
     let k = lowest (repeats_at words names (in_threes count)) count in
     cond (ltb k count) (record { number = 25; left = get_or words (3 * k + 2) 0 }) (record { number = w.fault; left = w.left })
 
+-- what is returned for it: none has the number 0
+abbrev pub Finds : Option Amiss → Amiss → Type 0
+Finds None a = a.number ≡ 0
+Finds (Some x) a = (x ≡ a) × (x.number ≢ 0)
+
 -- the areas for names have room: a byte more than the text has, and three words for each name
 pub record Lent (json names words : List ℕ) : Type 0 where
   pub names_long : length json < length names
@@ -55,3 +61,8 @@ pub data Told (json : List ℕ) (number place : ℕ) (values texts : List ℕ) :
   faulty : (t : Text) (f : Fault) → bytes t ≡ json → first_fault 0 (text_starts number_max t) ≡ some f → number ≡ f.number → number ≢ 0 → place ≡ length json - length f.behind
       → Told json number place values texts
   fine : number ≡ 0 → Countable json values texts → Told json number place values texts
+
+-- the same of what is returned
+abbrev pub Answers : List ℕ → Result ⊤ Refused → List ℕ → List ℕ → Type 0
+Answers json (Ok u) values texts = Told json 0 0 values texts
+Answers json (Err r) values texts = Told json r.number r.place values texts × (r.number ≢ 0)

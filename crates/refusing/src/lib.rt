@@ -8,34 +8,22 @@ ghost use Rattle.follow.specs.Following.{Followed};
 ghost use Rattle.names.specs.Names.{Lying};
 ghost use Rattle.naming.proofs.Lying.{in_threes};
 ghost use Rattle.scan.specs.Scanning.{areas, Blank};
-ghost use Rattle.refusing.specs.Refusing.{Come, Ended, Endable, first_one_of, Lent, Told};
+ghost use Rattle.refusing.specs.Refusing.{Come, Ended, Endable, first_one_of, Finds, Lent, Answers};
 
 use brackets::Open;
 use follow::{End, follow};
+use laying::Refused;
 use names::Names;
 use namesakes::first_repeated;
 use scan::first_pass;
 use survey::Watch;
 use watching::numbers::number_ends;
 
-// A fault's number, or 0 where there is none, and how many bytes are left from its start on.
+// A fault: its number, and how many bytes are left from its start on.
 #[derive(Clone, Copy)]
 struct Amiss {
     number: u32,
     left: usize,
-}
-
-// A refusal's number, or 0 where there is none, and its place.
-#[derive(Clone, Copy)]
-pub struct Refusal {
-    pub number: u32,
-    pub place: u32,
-}
-
-fn wide(x: u32) -> usize
-    ensures { result ≡ x }
-{
-    x as usize
 }
 
 // Whether the text is JSON, and how far it goes if not.
@@ -44,10 +32,7 @@ fn whole_text(json: &[u8], at: usize, place: u8, opened: Open) -> End
     ensures { Followed json.now 0 start result }
 {
     if place == 63 {
-        return End {
-            at: at,
-            whole: false,
-        };
+        return End { at, whole: false };
     }
     follow(json, at, place, opened)
 }
@@ -60,42 +45,41 @@ fn last_watch(place: u8, depth: u32, watch: Watch) -> Watch
     if watch.fault != 0 {
         return watch;
     }
-    if place < 16 {
-        return watch;
+    match place {
+        16..=23 => number_ends(depth, watch),
+        _ => watch,
     }
-    if 23 < place {
-        return watch;
-    }
-    number_ends(depth, watch)
 }
 
 // The first name that an earlier one repeats, of those that lie in three words each, or else the
 // fault that was watched.
-fn first_amiss(words: &[u32], names: &[u8], filled: usize, watch: Watch) -> Amiss
+fn first_amiss(words: &[u32], names: &[u8], filled: usize, watch: Watch) -> Option<Amiss>
     requires { (Lying words.now names.now (in_threes (filled / 3))) × (filled ≤ length words.now) }
-    ensures { result ≡ first_one_of words.now names.now (filled / 3) watch }
+    ensures { Finds result (first_one_of words.now names.now (filled / 3) watch) }
 {
     let count = filled / 3;
     let all = Names {
         base: 0,
         stride: 3,
-        count: count,
+        count,
     };
     let k = first_repeated(words, names, all);
     if k < count {
-        let left = words[3 * k + 2];
-        return Amiss {
+        return Some(Amiss {
             number: 25,
-            left: wide(left),
-        };
+            left: words[3 * k + 2] as usize,
+        });
     }
-    Amiss {
+    if watch.fault == 0 {
+        return None;
+    }
+    Some(Amiss {
         number: watch.fault,
         left: watch.left,
-    }
+    })
 }
 
-// The refusal of a text, or none: then the counters are those of its value.
+// Refuses a text, or finds no fault: then the counters are those of its value.
 pub fn refusal_of(
     json: &[u8],
     values: &mut [u32],
@@ -103,33 +87,29 @@ pub fn refusal_of(
     names: &mut [u8],
     words: &mut [u32],
     objects: &mut [u32],
-) -> Refusal
+) -> Result<(), Refused>
     requires short_and_lent { (length json.now ≤ 65_536) × Lent json.now names.old words.old }
     requires blank { Blank (areas values.old texts.old names.old words.old objects.old) }
-    ensures { Told json.now result.number result.place values.new texts.new }
+    ensures { Answers json.now result values.new texts.new }
 {
     let halt = first_pass(json, values, texts, names, words, objects);
     let scan = halt.scan;
     let opened = scan.opened;
     let end = whole_text(json, halt.at, scan.place, opened);
     if !end.whole {
-        return Refusal {
+        return Err(Refused {
             number: 21,
             place: end.at as u32,
-        };
+        });
     }
     let gathered = scan.gathered;
     let watch = scan.watch;
     let last = last_watch(scan.place, opened.depth, watch);
-    let amiss = first_amiss(words, names, gathered.filled, last);
-    if amiss.number == 0 {
-        return Refusal {
-            number: 0,
-            place: 0,
-        };
-    }
-    Refusal {
-        number: amiss.number,
-        place: (json.len() - amiss.left) as u32,
+    match first_amiss(words, names, gathered.filled, last) {
+        Some(Amiss { number, left }) => Err(Refused {
+            number,
+            place: (json.len() - left) as u32,
+        }),
+        None => Ok(()),
     }
 }

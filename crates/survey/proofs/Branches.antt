@@ -1,8 +1,8 @@
 -- What is done, branch by branch, as the code asks.
 -- Assumes nothing.
-use mathlib.Core.Bool.{Bool, true, false, cond, ◌&&◌, ◌||◌, not, and-false}
+use mathlib.Core.Bool.{true, false, ◌&&◌, not}
 use mathlib.Core.Logic.{◌≢◌}
-use mathlib.Core.Path.{◌≡◌, refl, sym, ◌∙◌, ap}
+use mathlib.Core.Path.{◌≡◌}
 use Prim.Native.Nat.{ℕ, suc, ◌+◌, ◌-◌, ◌≤◌, ◌<◌}
 use native.Mathlib.Omega.{arith}
 use borrow.Author.Tests.{eq-eqb, ne_eqb, leb-true}
@@ -13,8 +13,13 @@ use Rattle.sheet.specs.Record.{rows_max}
 use Rattle.sheet.specs.Faults.{level_refused}
 use Rattle.figure.specs.declared.Figure.{Figure}
 use Rattle.figure.specs.Figure.{figured}
+use Rattle.survey.specs.declared.Escapes.{Escapes}
 use Rattle.survey.specs.declared.Watch.{Watch}
-use Rattle.survey.specs.Watching.{found, with_figure, with_escapes, is_digit, numeric, counted, begun, ended, digited, parted, wait_for, coded}
+use Rattle.survey.specs.Watching.{found, with_figure, with_escapes, no_escapes, is_digit, numeric, counted, begun, ended, digited, parted, wait_for, coded}
+
+-- what `Escapes::default` gives
+pub blank : (e : Escapes) → (e.code ≡ 0) × ((e.here ≡ 0) × ((e.waits ≡ 0) × (e.waiting ≡ 0))) → e ≡ no_escapes
+blank e h = rw (h.0, h.1.0, h.1.1.0, h.1.1.1)
 
 pub digit_low : (b : ℕ) → is_digit b ≡ true → 0x30 ≤ b
 digit_low b e = leb-true 0x30 b (left (leb 0x30 b) (leb b 0x39) e)

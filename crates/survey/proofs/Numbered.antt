@@ -2,15 +2,15 @@
 --     number_figure    after its bytes the number is the one of the text
 --     number_told      so it is found too wide exactly if it is
 -- Assumes nothing.
-use mathlib.Core.Bool.{Bool, true, false, cond, ◌&&◌, ◌||◌, not, and-false}
+use mathlib.Core.Bool.{Bool, true, false, cond, and-false}
 use mathlib.Core.List.{List, [], ◌∷◌}
 use mathlib.Core.Logic.{◌≢◌, ◌⊎◌, inl, inr, ⊎_elim}
 use mathlib.Core.Option.{none, some}
-use mathlib.Core.Path.{◌≡◌, refl, sym, ◌∙◌, ap}
-use Prim.Native.Nat.{ℕ, suc, ◌+◌, ◌-◌, ◌≤◌, ◌<◌}
+use mathlib.Core.Path.{◌≡◌, refl, ◌∙◌, ap}
+use Prim.Native.Nat.{ℕ, suc, ◌-◌, ◌≤◌, ◌<◌}
 use native.Mathlib.Omega.{arith}
 use borrow.Author.Tests.{eq-eqb, ne_eqb, eqb-true, eqb-false, le-leb, le-ltb, lt-ltb}
-use lib.Dec.{eqb, leb}
+use lib.Dec.{eqb}
 use lib.ListN.{length}
 use Rattle.jsontext.specs.Text as T
 use Rattle.jsontext.specs.Text.{Digit, digit, digits, Digits, digits1, Whole, from, Fraction, fraction, Letter, capital, small, letter_e, Sign, unsigned, plus, signed, Exponent, exponent, Number, minus_if, number}
@@ -18,19 +18,19 @@ use Rattle.jsontext.specs.Number.{listed, exact_of, wide}
 use Rattle.jsontext.specs.Automaton.{Bracket, Place, ahead, minus, nought, whole, point, part, letter, sign, power}
 use Rattle.jsontext.specs.Sightings.{a_value}
 use Rattle.jsontext.specs.Starts.{Start, starting}
-use Rattle.jsontext.proofs.Doing.{digits_do, digits1_do, whole_does, whole_end, fraction_does, fraction_end, signed_does, exponent_does, tail_does, minus_does, number_does}
+use Rattle.jsontext.proofs.Doing.{digits_do, digits1_do, whole_does, whole_end, signed_does, exponent_does, tail_does, minus_does, number_does}
 use Rattle.sheet.specs.Kinds.{number_max}
 use Rattle.sheet.specs.Record.{rows_max}
 use Rattle.sheet.specs.Faults.{level_refused}
 use Rattle.figure.specs.declared.Figure.{Figure}
-use Rattle.figure.specs.Figure.{no_figure, whole_more, part_more, power_back, power_more, figured, digits_more, whole_figure, part_figure, sign_figure, power_figure, figure_of}
+use Rattle.figure.specs.Figure.{no_figure, whole_more, part_more, power_back, power_more, digits_more, whole_figure, part_figure, sign_figure, power_figure, figure_of}
 use Rattle.figure.proofs.Figured.{figure_wide, few_digits}
 use Rattle.reader.specs.Faults.{value_fault, or_else, first_fault}
 use Rattle.survey.specs.declared.Watch.{Watch}
-use Rattle.survey.specs.Watching.{no_escapes, found, with_figure, numeric, first_figure, counted, begun, ended, digited, digit_or, moved, watching}
+use Rattle.survey.specs.Watching.{no_escapes, found, with_figure, numeric, first_figure, begun, ended, digited, digit_or, moved, watching}
 use Rattle.survey.specs.Told.{told, unnamed}
 use Rattle.survey.proofs.Orders.{stopping, going, stopped, stays, stays_stopped}
-use Rattle.survey.proofs.Strung.{verdict, frozen, still}
+use Rattle.survey.proofs.Strung.{verdict}
 use Rattle.survey.proofs.Still.{ending_still, whole_still, digits_still}
 
 pub eq_or_not : (a b : ℕ) → (a ≡ b) ⊎ (a ≢ b)

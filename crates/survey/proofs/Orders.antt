@@ -3,24 +3,24 @@
 --     stays          and after it
 --     orderly        the theorem
 -- Assumes nothing.
-use mathlib.Core.Bool.{Bool, true, false, cond, ◌&&◌, ◌||◌, not, and-false}
-use mathlib.Core.List.{List, [], ◌∷◌}
+use mathlib.Core.Bool.{Bool, true, false, cond}
+use mathlib.Core.List.{List}
 use mathlib.Core.Logic.{◌≢◌, inl, inr}
-use mathlib.Core.Path.{◌≡◌, refl, sym, ◌∙◌, ap}
-use Prim.Native.Nat.{ℕ, suc, ◌-◌, ◌<◌}
+use mathlib.Core.Path.{◌≡◌, refl, sym}
+use Prim.Native.Nat.{ℕ, suc, ◌<◌}
 use native.Mathlib.Omega.{arith}
-use borrow.Author.Tests.{eq-eqb, ne_eqb, le-ltb, lt-ltb, lt-leb, le-leb}
-use lib.Dec.{eqb, leb, ltb}
+use borrow.Author.Tests.{eq-eqb, ne_eqb, le-ltb, lt-ltb}
+use lib.Dec.{eqb}
 use lib.ListN.{length}
-use Rattle.jsontext.specs.Text.{Blank, blank}
-use Rattle.jsontext.specs.Automaton.{Bracket, Place, ahead, first_element, after, name, first_name, colon, nought, whole, part, power}
+use Rattle.jsontext.specs.Text.{blank}
+use Rattle.jsontext.specs.Automaton.{Bracket, Place}
 use Rattle.jsontext.proofs.Spaces.{blank_low}
 use Rattle.jsontext.proofs.Numbers.{Ending, Stops, at_nought, at_whole, at_part, at_power}
 use Rattle.jsontext.proofs.Doing.{Waits, waits_ahead, waits_first, waits_after, waits_name, waits_first_name, waits_colon, Orderly}
 use Rattle.figure.specs.declared.Figure.{Figure}
 use Rattle.figure.specs.Figure.{whole_more, part_more, power_more}
 use Rattle.survey.specs.declared.Watch.{Watch}
-use Rattle.survey.specs.Watching.{with_figure, begun, ended, opened, digit_or, moved, watching}
+use Rattle.survey.specs.Watching.{ended, digit_or, moved, watching}
 
 -- a number ends, if no fault was found
 unfoldable pub stopping : List Bracket → Watch → Watch

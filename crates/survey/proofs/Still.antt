@@ -9,7 +9,7 @@ use Prim.Native.Nat.{ℕ}
 use Rattle.jsontext.specs.Utf8.{encode}
 use Rattle.jsontext.specs.Text as T
 use Rattle.jsontext.specs.Text.{spaces, Digit, digit, digits, Digits, digits1, Whole, from, Fraction, fraction, letter_e, Sign, unsigned, plus, signed, Exponent, exponent, Number, short, hex, plain, Str, pieces, Value, null, truth, falsity, num, str, empty_array, array, empty_object, object, Elements, last, more, Members, last_m, more_m, value, elements, members}
-use Rattle.jsontext.specs.Automaton.{Bracket, square, curly, Role, as_value, as_name, one, hex1, hex2, hex3, hex4, Place, ahead, after, name, minus, nought, whole, point, part, letter, sign, power, text, escape, unit, char}
+use Rattle.jsontext.specs.Automaton.{Bracket, square, curly, Role, as_value, as_name, one, hex1, hex2, hex3, hex4, Place, ahead, after, name, minus, whole, point, part, letter, sign, power, text, escape, unit, char}
 use Rattle.jsontext.specs.Along.{Act}
 use Rattle.jsontext.proofs.Doing.{digits_do, digits1_do, whole_does, whole_end, fraction_does, fraction_end, signed_does, exponent_does, minus_does, tail_does, number_does, tails_do, char_does, pieces_do, string_does, value_does, elements_do, members_do}
 

@@ -7,7 +7,7 @@ use mathlib.Core.Bool.{Bool, true, false, cond, ◌&&◌, ◌||◌, not, and-fal
 use mathlib.Core.List.{List, [], ◌∷◌, ◌++◌, append-nil}
 use mathlib.Core.Logic.{◌≢◌, ◌⊎◌, inl, inr, ⊎_elim}
 use mathlib.Core.Path.{◌≡◌, refl, sym, ◌∙◌, ap}
-use Prim.Native.Nat.{ℕ, suc, ◌+◌, ◌*◌, ◌%◌, ◌≤◌, ◌<◌}
+use Prim.Native.Nat.{ℕ, suc, ◌+◌, ◌*◌, ◌%◌}
 use native.Mathlib.Omega.{arith}
 use borrow.Author.Tests.{eq-eqb, ne_eqb, eqb-true, leb-true, lt-leb}
 use lib.Dec.{eqb, leb}
@@ -16,9 +16,9 @@ use Rattle.laws.proofs.Tests.{left}
 use Rattle.jsontext.specs.Utf8.{encode}
 use Rattle.jsontext.specs.Text as T
 use Rattle.jsontext.specs.Text.{Short, quote, backslash, slash, backspace, form_feed, line_feed, carriage_return, tabulator, short, Hex, hex, Plain, plain, Str, pieces}
-use Rattle.jsontext.specs.Value.{hex_worth, unit_code, is_high, is_low, low_next, waiting, is_lone}
+use Rattle.jsontext.specs.Value.{hex_worth, unit_code, is_high, is_low, low_next}
 use Rattle.jsontext.specs.Automaton.{Bracket, Role, hex1, hex2, hex3, hex4, one, text, escape, unit, char}
-use Rattle.jsontext.specs.Sightings.{a_value, an_escape}
+use Rattle.jsontext.specs.Sightings.{an_escape}
 use Rattle.jsontext.specs.Starts.{Start, starting, string_starts}
 use Rattle.jsontext.proofs.Strings.{spelled}
 use Rattle.jsontext.proofs.Trimming.{by_zero}
@@ -26,9 +26,8 @@ use Rattle.jsontext.proofs.Doing.{tails_do, char_does, pieces_do, string_does}
 use Rattle.escapes.specs.Escapes.{hex_at}
 use Rattle.escapes.proofs.Escaped.{hex_read, hex_small, no_u}
 use Rattle.reader.specs.Faults.{first_fault}
-use Rattle.survey.specs.declared.Escapes.{Escapes}
 use Rattle.survey.specs.declared.Watch.{Watch}
-use Rattle.survey.specs.Watching.{found, with_escapes, parted, wait_for, coded, slashed, code_more, hexed, watching}
+use Rattle.survey.specs.Watching.{found, with_escapes, parted, wait_for, coded, slashed, watching}
 use Rattle.survey.specs.Told.{Told, told, unnamed}
 use Rattle.survey.proofs.Orders.{stopping, going, stays, stays_stopped, calm}
 use Rattle.survey.proofs.Still.{string_still}

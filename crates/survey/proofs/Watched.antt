@@ -2,14 +2,14 @@
 --     value_told    of a value
 --     watched       the theorem
 -- Assumes nothing.
-use mathlib.Core.Bool.{Bool, true, false, cond, ◌&&◌, not}
+use mathlib.Core.Bool.{Bool, true, false, cond, ◌&&◌}
 use mathlib.Core.List.{List, [], ◌∷◌}
 use mathlib.Core.Logic.{◌≢◌, ◌⊎◌, inl, inr, ⊎_elim}
 use mathlib.Core.Option.{none, some}
-use mathlib.Core.Path.{◌≡◌, refl, sym, ◌∙◌, ap}
-use Prim.Native.Nat.{ℕ, suc, ◌+◌, ◌≤◌, ◌<◌}
+use mathlib.Core.Path.{◌≡◌, refl, ◌∙◌, ap}
+use Prim.Native.Nat.{ℕ, suc, ◌≤◌, ◌<◌}
 use native.Mathlib.Omega.{arith}
-use borrow.Author.Tests.{eq-eqb, ne_eqb, lt-ltb}
+use borrow.Author.Tests.{eq-eqb, lt-ltb}
 use lib.Dec.{eqb}
 use lib.ListN.{length}
 use Rattle.jsontext.specs.Text.{spaces, Str, pieces, Value, null, truth, falsity, num, str, empty_array, array, empty_object, object, Elements, last, more, Members, last_m, more_m, value, elements, members, Text, bytes}
@@ -19,16 +19,16 @@ use Rattle.jsontext.specs.Along.{along}
 use Rattle.jsontext.specs.Sightings.{a_value}
 use Rattle.jsontext.specs.Starts.{Start, starting, string_starts, value_starts, element_starts, member_starts, text_starts}
 use Rattle.jsontext.proofs.Trimming.{by_zero}
-use Rattle.jsontext.proofs.Doing.{string_does, value_does, elements_do, members_do, text_does}
+use Rattle.jsontext.proofs.Doing.{string_does, value_does, elements_do, members_do}
 use Rattle.jsontext.proofs.AlongValues.{text_along}
 use Rattle.sheet.specs.Kinds.{number_max}
 use Rattle.sheet.specs.Record.{rows_max}
 use Rattle.sheet.specs.Faults.{level_refused}
 use Rattle.reader.specs.Faults.{value_fault, or_else, first_fault}
-use Rattle.reader.proofs.Lengths.{spaces_long, decoded_short, value_short, elements_short, members_short}
+use Rattle.reader.proofs.Lengths.{spaces_long, decoded_short, value_short}
 use Rattle.survey.specs.declared.Watch.{Watch}
-use Rattle.survey.specs.Watching.{watch, no_escapes, found, with_escapes, numeric, first_figure, counted, begun, watching}
-use Rattle.survey.specs.Told.{Told, told, unnamed}
+use Rattle.survey.specs.Watching.{watch, no_escapes, found, numeric, first_figure, counted, begun, watching}
+use Rattle.survey.specs.Told.{told, unnamed}
 use Rattle.survey.proofs.Orders.{stopping, going, stays, stays_stopped, calm, orderly}
 use Rattle.survey.proofs.Still.{value_still}
 use Rattle.survey.proofs.Strung.{verdict, frozen, string_told}

@@ -1,6 +1,6 @@
 -- What is kept is within bounds, whatever the bytes are.
 -- Assumes nothing.
-use Rattle.std.specs.Prelude.{ℕ, ◌≤◌, ◌<◌}
+use Rattle.std.specs.Prelude.{◌≤◌, ◌<◌}
 use Rattle.sheet.specs.Record.{rows_max}
 use Rattle.figure.specs.Figure.{Fair}
 use Rattle.survey.specs.declared.Watch.{Watch}

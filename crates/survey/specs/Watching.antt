@@ -1,9 +1,9 @@
 -- The first pass over a JSON text, as far as it looks for faults (02, #101: 22, 23, 24 and 26; 25 is not asked here). What is kept is moved on by each byte
 -- beside the automaton (`along`), until a fault is found: the first that is found is the one that starts first. A place is told by how many bytes are left from there on.
 -- Assumes nothing.
-use Rattle.std.specs.Prelude.{Bool, true, false, cond, ◌&&◌, ◌||◌, not, List, [], ◌∷◌, ℕ, suc, ◌+◌, ◌-◌, ◌*◌, ◌%◌, eqb, leb, ltb, length}
+use Rattle.std.specs.Prelude.{Bool, cond, ◌&&◌, ◌||◌, not, ℕ, suc, ◌+◌, ◌-◌, ◌*◌, ◌%◌, eqb, leb, ltb, length}
 use Rattle.jsontext.specs.Value.{is_high, is_low}
-use Rattle.jsontext.specs.Automaton.{Bracket, Left, hex1, hex2, hex3, hex4, Role, Char, Word, Place, ahead, first_element, after, name, first_name, colon, word, minus, nought, whole, point, part, letter, sign, power, text, escape, unit, char}
+use Rattle.jsontext.specs.Automaton.{Left, hex1, hex2, hex3, hex4, Place, ahead, first_element, after, name, first_name, colon, word, minus, nought, whole, point, part, letter, sign, power, text, escape, unit, char}
 use Rattle.jsontext.specs.Along.{Act}
 use Rattle.escapes.specs.Escapes.{hex_at}
 use Rattle.sheet.specs.Record.{rows_max}

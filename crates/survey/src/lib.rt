@@ -7,7 +7,7 @@ use figure::Figure;
 
 // The escape under way and the high surrogate that waits for its low one, or 0; each place is told
 // by how many bytes are left from there on.
-#[derive(Clone, Copy)]
+#[derive(Clone, Copy, Default)]
 pub struct Escapes {
     pub code: u32,
     pub here: usize,

@@ -3,27 +3,26 @@
 --     orderly         the act keeps to the order of a text
 --     number_adds, string_adds
 -- Assumes nothing.
-use mathlib.Core.Bool.{Bool, true, false, cond, ◌&&◌, not}
-use mathlib.Core.List.{List, [], ◌∷◌, ◌++◌, append-nil}
-use mathlib.Core.Logic.{◌≢◌}
+use mathlib.Core.Bool.{Bool, true, false, cond}
+use mathlib.Core.List.{List, [], ◌∷◌, append-nil}
 use mathlib.Core.Option.{none, some}
 use mathlib.Core.Path.{◌≡◌, refl, sym, ◌∙◌, ap}
-use Prim.Native.Nat.{ℕ, suc, ◌+◌, ◌*◌, ◌%◌, ◌≤◌, ◌<◌}
+use Prim.Native.Nat.{ℕ, ◌+◌, ◌*◌, ◌%◌, ◌<◌}
 use native.Mathlib.Omega.{arith}
-use borrow.Author.Tests.{eq-eqb, ne_eqb, eqb-true, eqb-false, le-ltb, lt-ltb}
-use lib.Dec.{eqb, ltb}
-use lib.ListN.{length, get_or, set, length-set, length-append}
+use borrow.Author.Tests.{ne_eqb, eqb-true, eqb-false, le-ltb, lt-ltb}
+use lib.Dec.{eqb}
+use lib.ListN.{length, get_or, set, length-set}
 use lib.Seq.{get_or-set_same, get_or-set_other}
 use Rattle.jsontext.specs.Utf8.{encode}
 use Rattle.jsontext.specs.Text as T
 use Rattle.jsontext.specs.Text.{Blank, blank, Digit, digit, digits, Digits, digits1, Whole, from, whole, Fraction, fraction, letter_e, Sign, unsigned, plus, signed, Exponent, exponent, Number, number, Short, quote, backslash, slash, backspace, form_feed, line_feed, carriage_return, tabulator, short, Hex, hex, Plain, plain, Str, pieces}
-use Rattle.jsontext.specs.Value.{hex_worth, unit_code, is_high}
+use Rattle.jsontext.specs.Value.{unit_code, is_high}
 use Rattle.jsontext.specs.Automaton as A
 use Rattle.jsontext.specs.Automaton.{Bracket, Role, one, hex1, hex2, hex3, hex4, Place, ahead, first_element, after, name, first_name, colon, minus, nought, point, part, letter, sign, power, text, escape, unit, char}
 use Rattle.jsontext.proofs.Spaces.{blank_low}
 use Rattle.jsontext.proofs.Strings.{spelled}
-use Rattle.jsontext.proofs.Numbers.{Ending, Stops, at_nought, at_whole, at_part, at_power}
-use Rattle.jsontext.proofs.Doing.{Waits, waits_ahead, waits_first, waits_after, waits_name, waits_first_name, waits_colon, Orderly, digits_do, digits1_do, whole_does, whole_end, fraction_does, fraction_end, signed_does, exponent_does, tail_does, minus_does, number_does, tails_do, char_does, pieces_do, string_does}
+use Rattle.jsontext.proofs.Numbers.{Stops, at_nought, at_whole, at_part, at_power}
+use Rattle.jsontext.proofs.Doing.{Waits, waits_ahead, waits_first, waits_after, waits_name, waits_first_name, waits_colon, Orderly, digits_do, digits1_do, whole_end, signed_does, exponent_does, tail_does, minus_does, number_does, tails_do, char_does, pieces_do}
 use Rattle.escapes.specs.Escapes.{hex_at, encoded_size}
 use Rattle.escapes.proofs.Escaped.{hex_read, hex_small, no_u, size_is}
 use Rattle.tally.specs.Tallying.{Tally, add_at, value_more, name_more, bytes_more, with_code, unit_size, counting, tallying}

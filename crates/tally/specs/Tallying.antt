@@ -1,7 +1,7 @@
 -- The first pass over a JSON text, as far as it counts (02, #101): for each level how many values start on it, and how many bytes of text its labels and strings
 -- take. What is kept is moved on by each byte beside the automaton (`along`); the root is on level 0.
 -- Assumes nothing.
-use Rattle.std.specs.Prelude.{Bool, true, false, cond, ◌&&◌, List, ℕ, ◌+◌, ◌*◌, ◌%◌, eqb, ltb, length, get_or, set, replicate}
+use Rattle.std.specs.Prelude.{Bool, false, cond, ◌&&◌, List, ℕ, ◌+◌, ◌*◌, ◌%◌, eqb, ltb, length, get_or, set, replicate}
 use Rattle.jsontext.specs.Value.{is_high, is_low}
 use Rattle.jsontext.specs.Automaton.{Left, hex1, hex2, hex3, hex4, Place, ahead, first_element, after, name, first_name, colon, word, minus, nought, whole, point, part, letter, sign, power, text, escape, unit, char}
 use Rattle.jsontext.specs.Along.{Act}

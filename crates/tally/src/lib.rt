@@ -9,10 +9,10 @@ ghost use Rattle.tally.specs.Tallying.{add_at, unit_size, tally_of, counting};
 ghost use Rattle.tally.specs.Bounds.{UpTo, most};
 
 use escapes::size_of;
-use watching::escaping::{hex_worth, high, low};
+use watching::escaping::{hex_more, high, low};
 
 // The digits of the escape under way, and whether a high surrogate's escape stands directly before.
-#[derive(Clone, Copy)]
+#[derive(Clone, Copy, Default)]
 pub struct Units {
     pub code: u32,
     pub high: bool,
@@ -23,9 +23,10 @@ fn add(counters: &mut [u32], k: u32, n: u32)
     requires { (UpTo most counters.old) × (n ≤ 4) }
     ensures { counters.new ≡ add_at k n counters.old }
 {
+    // No `get_mut`: of a slice that it lent out a proof knows only the length.
     let at = k as usize;
     if at < counters.len() {
-        counters[at] = counters[at] + n;
+        counters[at] += n;
     }
 }
 
@@ -44,18 +45,15 @@ fn hex_counts(place: u8, depth: u32, byte: u8, s: Units, texts: &mut [u32]) -> U
     requires { (28 ≤ place) × (place < 36) × (UpTo most texts.old) }
     ensures { (values : List ℕ) → tally_of result values texts.new ≡ counting (place_at place) depth byte (tally_of s values texts.old) }
 {
-    let code = s.code % 0x1000 * 16 + hex_worth(byte);
+    let code = hex_more(s.code, byte);
     if place < 30 {
         add(texts, depth, unit_size(s.high, code));
         return Units {
-            code: s.code,
             high: high(code),
+            ..s
         };
     }
-    Units {
-        code: code,
-        high: s.high,
-    }
+    Units { code, ..s }
 }
 
 // Within a string: a plain byte first, of which there are the most.
@@ -64,20 +62,14 @@ fn string_counts(place: u8, depth: u32, byte: u8, s: Units, texts: &mut [u32]) -
     ensures { (values : List ℕ) → tally_of result values texts.new ≡ counting (place_at place) depth byte (tally_of s values texts.old) }
 {
     if place < 26 {
-        if byte == 0x5C {
-            return Units {
-                code: 0,
-                high: s.high,
-            };
+        if byte == b'\\' {
+            return Units { code: 0, ..s };
         }
-        if byte == 0x22 {
+        if byte == b'"' {
             return s;
         }
         add(texts, depth, 1);
-        return Units {
-            code: s.code,
-            high: false,
-        };
+        return Units { high: false, ..s };
     }
     if 36 <= place {
         add(texts, depth, 1);
@@ -86,14 +78,11 @@ fn string_counts(place: u8, depth: u32, byte: u8, s: Units, texts: &mut [u32]) -
     if 28 <= place {
         return hex_counts(place, depth, byte, s, texts);
     }
-    if byte == 0x75 {
+    if byte == b'u' {
         return s;
     }
     add(texts, depth, 1);
-    Units {
-        code: s.code,
-        high: false,
-    }
+    Units { high: false, ..s }
 }
 
 // Where a value or a name may start, and after a value.
@@ -101,29 +90,22 @@ fn outer_counts(place: u8, depth: u32, byte: u8, s: Units, values: &mut [u32]) -
     requires { (place < 5) × (UpTo most values.old) }
     ensures { (texts : List ℕ) → tally_of result values.new texts ≡ counting (place_at place) depth byte (tally_of s values.old texts) }
 {
-    if byte <= 0x20 {
+    if byte <= b' ' {
         return s;
     }
     if place == 2 {
         return s;
     }
-    if (place == 1) & (byte == 0x5D) {
+    if (place == 1) & (byte == b']') {
         return s;
     }
-    if (place == 4) & (byte == 0x7D) {
+    if (place == 4) & (byte == b'}') {
         return s;
     }
     if place < 2 {
         add(values, depth, 1);
-        return Units {
-            code: 0,
-            high: false,
-        };
     }
-    Units {
-        code: 0,
-        high: false,
-    }
+    Units::default()
 }
 
 // What a byte adds to the counters: the place it is read at, and how many brackets are open around it.

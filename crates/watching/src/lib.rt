@@ -11,12 +11,11 @@ pub mod escaping;
 pub mod numbers;
 mod values;
 
-use crate::escaping::{backslash, hex_digit, hex_last, no_escapes, surrogate_parts, with_escapes};
-use crate::numbers::{
-    in_exponent, part_digit, part_or_end, power_digit, power_or_end, whole_digit, whole_or_end,
-};
+use crate::escaping::{backslash, hex_digit, hex_last, surrogate_parts};
+use crate::numbers::{in_exponent, take_digit, take_digit_or_end};
 use crate::values::value_starts;
-use survey::Watch;
+use figure::{part_more, power_digit, whole_more};
+use survey::{Escapes, Watch};
 
 // Within a number.
 fn number_moves(place: u8, depth: u32, byte: u8, left: usize, s: Watch) -> Watch
@@ -24,24 +23,24 @@ fn number_moves(place: u8, depth: u32, byte: u8, left: usize, s: Watch) -> Watch
     ensures { result ≡ moved (place_at place) depth byte left s }
 {
     if place == 16 {
-        return whole_digit(byte, s);
+        return take_digit(whole_more, byte, s);
     }
     if place < 19 {
-        return whole_or_end(depth, byte, s);
+        return take_digit_or_end(whole_more, depth, byte, s);
     }
     if place == 19 {
-        return part_digit(byte, s);
+        return take_digit(part_more, byte, s);
     }
     if place == 20 {
-        return part_or_end(depth, byte, s);
+        return take_digit_or_end(part_more, depth, byte, s);
     }
     if place == 21 {
         return in_exponent(byte, s);
     }
     if place == 22 {
-        return power_digit(byte, s);
+        return take_digit(power_digit, byte, s);
     }
-    power_or_end(depth, byte, s)
+    take_digit_or_end(power_digit, depth, byte, s)
 }
 
 // Within a string.
@@ -50,13 +49,13 @@ fn string_moves(place: u8, depth: u32, byte: u8, left: usize, s: Watch) -> Watch
     ensures { result ≡ moved (place_at place) depth byte left s }
 {
     if place < 26 {
-        if byte == 0x5C {
+        if byte == b'\\' {
             return backslash(left, s);
         }
         return surrogate_parts(s);
     }
     if place < 28 {
-        if byte == 0x75 {
+        if byte == b'u' {
             return s;
         }
         return surrogate_parts(s);
@@ -78,22 +77,28 @@ fn outer_moves(place: u8, depth: u32, byte: u8, left: usize, s: Watch) -> Watch
     if place == 2 {
         return s;
     }
-    if byte <= 0x20 {
+    if byte <= b' ' {
         return s;
     }
     if place == 3 {
-        return with_escapes(no_escapes(), s);
+        return Watch {
+            escapes: Escapes::default(),
+            ..s
+        };
     }
     if place == 1 {
-        if byte == 0x5D {
+        if byte == b']' {
             return s;
         }
         return value_starts(depth, byte, left, s);
     }
-    if byte == 0x7D {
+    if byte == b'}' {
         return s;
     }
-    with_escapes(no_escapes(), s)
+    Watch {
+        escapes: Escapes::default(),
+        ..s
+    }
 }
 
 // What a byte does to what is kept, before a fault: the place it is read at, how many brackets are

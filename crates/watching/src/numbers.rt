@@ -1,25 +1,12 @@
 // Numbers: their digits, and the faults 23 and 24 at their end.
-ghost use Rattle.std.specs.Prelude.{cond, ◌≡◌, eqb, ◌<◌};
-ghost use Rattle.figure.specs.Figure.{Fair, whole_more, part_more, power_more, power_back};
+ghost use Rattle.std.specs.Prelude.{cond, ◌≡◌, ℕ, ◌-◌, eqb, ◌<◌};
+ghost use Rattle.figure.specs.declared.Figure.{Figure};
+ghost use Rattle.figure.specs.Figure.{Fair, power_more, power_back};
 ghost use Rattle.survey.specs.Watching.{with_figure, ended, digited, digit_or, is_end};
 
 use crate::values::{at_fault, digit};
-use figure::{Figure, part_more, power_back, whole_more, written};
+use figure::{Figure, power_back, power_digit, written};
 use survey::Watch;
-
-pub(crate) fn with_figure(f: Figure, s: Watch) -> Watch
-    ensures { result ≡ with_figure f s }
-{
-    let escapes = s.escapes;
-    Watch {
-        fault: s.fault,
-        left: s.left,
-        values: s.values,
-        start: s.start,
-        figure: f,
-        escapes: escapes,
-    }
-}
 
 // A number ends, where so many brackets are open.
 pub fn number_ends(depth: u32, s: Watch) -> Watch
@@ -35,38 +22,14 @@ pub fn number_ends(depth: u32, s: Watch) -> Watch
     s
 }
 
-// A digit of the whole part.
-pub(crate) fn whole_digit(byte: u8, s: Watch) -> Watch
-    requires { Fair s.figure }
-    ensures { result ≡ digited whole_more byte s }
+// A digit, where `more` takes one into the figure: in the whole part, behind the point or in the exponent.
+pub(crate) fn take_digit<F: FnOnce(Figure, u64) -> Figure>(more: F, byte: u8, s: Watch) -> Watch
+    requires { (d : ℕ) → d < 10 → F.pre more s.figure d }
+    ensures { (op : Figure → ℕ → Figure) → ((f : Figure) → F.post more s.figure (byte - 0x30) f → f ≡ op s.figure (byte - 0x30)) → result ≡ digited op byte s }
 {
     if digit(byte) {
-        let figure = s.figure;
-        return with_figure(whole_more(figure, byte as u64 - 0x30), s);
-    }
-    s
-}
-
-// A digit behind the point.
-pub(crate) fn part_digit(byte: u8, s: Watch) -> Watch
-    requires { Fair s.figure }
-    ensures { result ≡ digited part_more byte s }
-{
-    if digit(byte) {
-        let figure = s.figure;
-        return with_figure(part_more(figure, byte as u64 - 0x30), s);
-    }
-    s
-}
-
-// A digit of the exponent.
-pub(crate) fn power_digit(byte: u8, s: Watch) -> Watch
-    requires { Fair s.figure }
-    ensures { result ≡ digited power_more byte s }
-{
-    if digit(byte) {
-        let figure = s.figure;
-        return with_figure(figure::power_digit(figure, byte as u64 - 0x30), s);
+        let figure = more(s.figure, (byte - b'0') as u64);
+        return Watch { figure, ..s };
     }
     s
 }
@@ -75,40 +38,24 @@ pub(crate) fn power_digit(byte: u8, s: Watch) -> Watch
 pub(crate) fn number_over(byte: u8) -> bool
     ensures { result ≡ is_end byte }
 {
-    (byte < 0x2E) | ((byte == 0x5D) | (byte == 0x7D))
+    (byte < b'.') | ((byte == b']') | (byte == b'}'))
 }
 
-// In the whole part.
-pub(crate) fn whole_or_end(depth: u32, byte: u8, s: Watch) -> Watch
-    requires { (depth < 100) × Fair s.figure }
-    ensures { result ≡ digit_or whole_more depth byte s }
+// The same, where the number may also end.
+pub(crate) fn take_digit_or_end<F: FnOnce(Figure, u64) -> Figure>(
+    more: F,
+    depth: u32,
+    byte: u8,
+    s: Watch,
+) -> Watch
+    requires ends { (depth < 100) × Fair s.figure }
+    requires takes { (d : ℕ) → d < 10 → F.pre more s.figure d }
+    ensures { (op : Figure → ℕ → Figure) → ((f : Figure) → F.post more s.figure (byte - 0x30) f → f ≡ op s.figure (byte - 0x30)) → result ≡ digit_or op depth byte s }
 {
     if number_over(byte) {
         return number_ends(depth, s);
     }
-    whole_digit(byte, s)
-}
-
-// Behind the point.
-pub(crate) fn part_or_end(depth: u32, byte: u8, s: Watch) -> Watch
-    requires { (depth < 100) × Fair s.figure }
-    ensures { result ≡ digit_or part_more depth byte s }
-{
-    if number_over(byte) {
-        return number_ends(depth, s);
-    }
-    part_digit(byte, s)
-}
-
-// In the exponent.
-pub(crate) fn power_or_end(depth: u32, byte: u8, s: Watch) -> Watch
-    requires { (depth < 100) × Fair s.figure }
-    ensures { result ≡ digit_or power_more depth byte s }
-{
-    if number_over(byte) {
-        return number_ends(depth, s);
-    }
-    power_digit(byte, s)
+    take_digit(more, byte, s)
 }
 
 // Behind the letter e.
@@ -116,9 +63,9 @@ pub(crate) fn in_exponent(byte: u8, s: Watch) -> Watch
     requires { Fair s.figure }
     ensures { result ≡ cond (eqb byte 0x2D) (with_figure (power_back s.figure) s) (digited power_more byte s) }
 {
-    if byte == 0x2D {
-        let figure = s.figure;
-        return with_figure(power_back(figure), s);
+    if byte == b'-' {
+        let figure = power_back(s.figure);
+        return Watch { figure, ..s };
     }
-    power_digit(byte, s)
+    take_digit(power_digit, byte, s)
 }

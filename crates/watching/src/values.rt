@@ -4,23 +4,17 @@ ghost use Rattle.sheet.specs.Record.{rows_max};
 ghost use Rattle.figure.specs.Figure.{no_figure};
 ghost use Rattle.survey.specs.Watching.{found, numeric, is_digit, first_figure, counted, begun, opened};
 
-use crate::escaping::no_escapes;
 use figure::{Figure, whole_more};
-use survey::Watch;
+use survey::{Escapes, Watch};
 
 // A fault is found.
 pub(crate) fn at_fault(number: u32, left: usize, s: Watch) -> Watch
     ensures { result ≡ found number left s }
 {
-    let figure = s.figure;
-    let escapes = s.escapes;
     Watch {
         fault: number,
-        left: left,
-        values: s.values,
-        start: s.start,
-        figure: figure,
-        escapes: escapes,
+        left,
+        ..s
     }
 }
 
@@ -28,14 +22,14 @@ pub(crate) fn at_fault(number: u32, left: usize, s: Watch) -> Watch
 pub(crate) fn digit(byte: u8) -> bool
     ensures { result ≡ is_digit byte }
 {
-    (0x30 <= byte) & (byte <= 0x39)
+    matches!(byte, b'0'..=b'9')
 }
 
 // Whether a number starts with the byte.
 pub(crate) fn starts_number(byte: u8) -> bool
     ensures { result ≡ numeric byte }
 {
-    (byte == 0x2D) | digit(byte)
+    (byte == b'-') | digit(byte)
 }
 
 // Before the first digit of a number.
@@ -56,7 +50,7 @@ pub(crate) fn first_figure(byte: u8) -> Figure
     ensures { result ≡ first_figure byte }
 {
     if digit(byte) {
-        return whole_more(no_figure(), byte as u64 - 0x30);
+        return whole_more(no_figure(), (byte - b'0') as u64);
     }
     no_figure()
 }
@@ -72,7 +66,7 @@ pub(crate) fn one_more(byte: u8, left: usize, s: Watch) -> Watch
         values: s.values + 1,
         start: left,
         figure: first_figure(byte),
-        escapes: no_escapes(),
+        escapes: Escapes::default(),
     }
 }
 
@@ -95,7 +89,7 @@ pub(crate) fn value_starts(depth: u32, byte: u8, left: usize, s: Watch) -> Watch
     requires { (depth < 100) × (s.values ≤ rows_max) }
     ensures { result ≡ opened depth byte left s }
 {
-    if 0x20 < byte {
+    if b' ' < byte {
         return value_begins(depth, byte, left, s);
     }
     s

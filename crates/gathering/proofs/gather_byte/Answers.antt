@@ -1,5 +1,5 @@
 -- `gathering::gather_byte` meets its contract. Assumes nothing.
-use Prim.Native.Nat.{suc, ◌-◌}
+use Prim.Native.Nat.{suc}
 use native.Mathlib.Omega.{arith}
 use lib.ListN.{get_or, drop}
 use Rattle.gathering.proofs.Places.{idle_even, idle_low}

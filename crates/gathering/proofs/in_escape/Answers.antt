@@ -3,12 +3,13 @@ use mathlib.Core.Path.{◌≡◌, sym}
 use borrow.Author.Tests.{eq-eqb, ne_eqb}
 use Rattle.putting.specs.Letters as putting
 use Rattle.naming.specs.Gathering.{short_at}
+use Rattle.gathering.proofs.Acts.{unit_does}
 use Rattle.gathering.proofs.in_escape.Goals as goal
 
 pub returns-then-byte-eq117 : goal.returns-then-byte-eq117
 returns-then-byte-eq117 c =
     let a = c.args in
-    λ words objects t w g h. rw (eq-eqb a.byte 0x75 c.if-byte-eq117.true) (c.with_unit.ensures a.text.now words objects t w g h)
+    λ words objects t w g h. rw (eq-eqb a.byte 0x75 c.if-byte-eq117.true) (unit_does a.text.now words objects a.n 0 t w g h)
 
 pub returns : goal.returns
 unfolding short_at putting.short_at

@@ -1,6 +1,5 @@
 -- `gathering::in_text` meets its contract. Assumes nothing.
 use borrow.Author.Tests.{eq-eqb, ne_eqb}
-use Prim.Native.Nat.{◌-◌}
 use Rattle.gathering.proofs.in_text.Goals as goal
 
 pub returns-then-byte-eq34 : goal.returns-then-byte-eq34

@@ -9,8 +9,8 @@ use Rattle.tally.proofs.hex_counts.Goals as goal
 
 pub returns-then-place-lt30 : goal.returns-then-place-lt30
 returns-then-place-lt30 c =
-    let a = c.args in λ (values : List ℕ). rw (c.high.ensures, c.add.ensures, c.unit_size.ensures.0, c.hex_worth.ensures.0) (sym (last_hex a.depth a.byte (tally_of a.s values a.texts.now) a.place (omega arith) (omega arith)))
+    let a = c.args in λ (values : List ℕ). rw (c.high.ensures, c.add.ensures, c.unit_size.ensures.0, c.hex_more-code.ensures.0) (sym (last_hex a.depth a.byte (tally_of a.s values a.texts.now) a.place (omega arith) (omega arith)))
 
 pub returns : goal.returns
 returns c =
-    let a = c.args in λ (values : List ℕ). rw c.hex_worth.ensures.0 (sym (other_hex a.depth a.byte (tally_of a.s values a.texts.now) a.place (omega arith) (omega arith)))
+    let a = c.args in λ (values : List ℕ). rw c.hex_more-code.ensures.0 (sym (other_hex a.depth a.byte (tally_of a.s values a.texts.now) a.place (omega arith) (omega arith)))

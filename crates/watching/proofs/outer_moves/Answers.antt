@@ -4,6 +4,7 @@ use native.Mathlib.Omega.{arith}
 use borrow.Author.Tests.{eq-eqb, ne_eqb, lt-ltb}
 use Rattle.survey.specs.declared.Escapes.{Escapes}
 use Rattle.survey.specs.Watching.{with_escapes}
+use Rattle.survey.proofs.Branches.{blank}
 use Rattle.survey.proofs.Ranges.{outer_blank, at_place}
 use Rattle.watching.proofs.outer_moves.Goals as goal
 
@@ -25,7 +26,7 @@ returns-then-byte-le32 c =
 pub returns-then-place-eq3 : goal.returns-then-place-eq3
 returns-then-place-eq3 c =
     let a = c.args in
-    c.with_escapes.ensures ∙ ap (λ (e : Escapes). with_escapes e a.s) c.no_escapes.ensures
+    ap (λ (e : Escapes). with_escapes e a.s) (blank c.default.result c.default.ensures)
     ∙ sym (at_place a.depth a.byte a.left a.s a.place 3 c.if-place-eq3.true ∙ rw (lt-ltb 0x20 a.byte (omega arith)))
 
 pub returns-then-byte-eq93 : goal.returns-then-byte-eq93
@@ -48,5 +49,5 @@ pub returns : goal.returns
 returns c =
     let a = c.args in
     let last : a.place ≡ 4 = omega (arith, c.requires.0) in
-    c.with_escapes-2.ensures ∙ ap (λ (e : Escapes). with_escapes e a.s) c.no_escapes-2.ensures
+    ap (λ (e : Escapes). with_escapes e a.s) (blank c.default-2.result c.default-2.ensures)
     ∙ sym (at_place a.depth a.byte a.left a.s a.place 4 last ∙ rw (lt-ltb 0x20 a.byte (omega arith), ne_eqb a.byte 0x7D c.if-byte-eq125.false))

@@ -6,9 +6,9 @@ use Rattle.gathering.proofs.holding.say_byte.Goals as goal
 pub returns-then-n : goal.returns-then-n
 returns-then-n c =
     let a = c.args in
-    λ words objects. rw (c.with_size.ensures, c.put.ensures) (says_on a.text.now words objects a.n (a.byte ∷ []) c.if-n.true)
+    λ words objects. rw c.put.ensures (says_on a.text.now words objects a.n (a.byte ∷ []) c.if-n.true)
 
 pub returns : goal.returns
 returns c =
     let a = c.args in
-    λ words objects. rw c.with_size-2.ensures (says_off a.text.now words objects a.n (a.byte ∷ []) c.if-n.false)
+    λ words objects. says_off a.text.now words objects a.n (a.byte ∷ []) c.if-n.false

@@ -7,9 +7,9 @@ use Rattle.gathering.proofs.holding.say_code.Goals as goal
 pub returns-then-n : goal.returns-then-n
 returns-then-n c =
     let a = c.args in
-    λ words objects. rw (c.with_size.ensures, c.append-end.ensures.1, c.append-end.ensures.0) (says_on a.text.now words objects a.n (encode a.code []) c.if-n.true)
+    λ words objects. rw (c.append-size.ensures.1, c.append-size.ensures.0) (says_on a.text.now words objects a.n (encode a.code []) c.if-n.true)
 
 pub returns : goal.returns
 returns c =
     let a = c.args in
-    λ words objects. rw c.with_size-2.ensures (says_off a.text.now words objects a.n (encode a.code []) c.if-n.false)
+    λ words objects. says_off a.text.now words objects a.n (encode a.code []) c.if-n.false

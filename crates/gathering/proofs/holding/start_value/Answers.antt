@@ -1,13 +1,14 @@
 -- `gathering::holding::start_value` meets its contract. Assumes nothing.
+use native.Mathlib.Numerals.{add-one}
 use Rattle.gathering.proofs.Acts.{starts_object, starts_other}
 use Rattle.gathering.proofs.holding.start_value.Goals as goal
-
-pub returns-then-byte-eq123 : goal.returns-then-byte-eq123
-returns-then-byte-eq123 c =
-    let a = c.args in
-    λ ks e text words. rw (c.one_more.ensures, c.put_word.ensures) (rw e at (starts_object text words a.objects.now a.n ks a.byte c.if-byte-eq123.true))
+use Rattle.gathering.proofs.holding.start_value.Goals.{then-byte-eq123, else-byte-eq123}
 
 pub returns : goal.returns
 returns c =
     let a = c.args in
-    λ ks e text words. rw c.one_more-2.ensures (starts_other text words a.objects.now a.n ks a.byte c.if-byte-eq123.false)
+    λ ks e text words.
+    elim c.if-byte-eq123.branch [
+      | then-byte-eq123 w ↦ rw (w.objects-is, w.put_word.ensures, add-one) (rw e at (starts_object text words a.objects.now a.n ks a.byte w.if-byte-eq123.true))
+      | else-byte-eq123 w ↦ rw (w.objects-is, add-one) (starts_other text words a.objects.now a.n ks a.byte w.if-byte-eq123.false)
+    ]

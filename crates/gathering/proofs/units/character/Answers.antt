@@ -11,4 +11,4 @@ returns-then-waits-eq0 c =
 pub returns : goal.returns
 returns c =
     let a = c.args in
-    (rw (ne_eqb a.waits 0 c.if-waits-eq0.false, c.above.ensures, c.above-2.ensures), omega (arith, c.above.ensures, c.above-2.ensures))
+    (rw (ne_eqb a.waits 0 c.if-waits-eq0.false, c.saturating_sub.ensures, c.saturating_sub-2.ensures), omega (arith, c.saturating_sub.ensures, c.saturating_sub-2.ensures))

@@ -12,7 +12,7 @@ returns-then-e-eq0 c =
 pub returns-then-low : goal.returns-then-low
 returns-then-low c =
     let a = c.args in
-    c.with_escapes.ensures ∙ sym (low_paired a.s a.code (sym c.low.ensures ∙ c.if-low.true) c.if-e-eq0.false)
+    sym (low_paired a.s a.code (sym c.low.ensures ∙ c.if-low.true) c.if-e-eq0.false)
 
 pub returns-then-e-ne0 : goal.returns-then-e-ne0
 returns-then-e-ne0 c =
@@ -23,7 +23,7 @@ pub returns-then-high : goal.returns-then-high
 returns-then-high c =
     let a = c.args in
     let none : a.s.escapes.waits ≡ 0 = omega (arith, c.if-e-ne0.false) in
-    c.with_escapes-then-high.ensures ∙ sym (high_waits a.s a.code (sym c.low.ensures ∙ c.if-low.false) none (sym c.high.ensures ∙ c.if-high.true))
+    sym (high_waits a.s a.code (sym c.low.ensures ∙ c.if-low.false) none (sym c.high.ensures ∙ c.if-high.true))
 
 pub returns : goal.returns
 returns c =

@@ -7,4 +7,4 @@ use Rattle.watching.proofs.escaping.hex_last.Goals as goal
 pub returns : goal.returns
 returns c =
     let a = c.args in
-    c.escape_whole.ensures ∙ ap (λ (n : ℕ). coded n a.s) c.code_more.ensures.0
+    c.escape_whole.ensures ∙ ap (λ (n : ℕ). coded n a.s) c.hex_more.ensures.0
