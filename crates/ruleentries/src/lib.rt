@@ -15,7 +15,6 @@ use rulesheet::code::Fields;
 use rulesheet::form::{EntryRow, RuleForm, clause_at, entry_at};
 use sheet::kind::RowKind;
 use sheet::layout::scalar_ok;
-use text::Range;
 
 pub mod repeats;
 
@@ -24,27 +23,18 @@ pub mod repeats;
 fn entry_ok(fields: Fields, size: usize, m: u32, entry: EntryRow) -> bool
     ensures { result ≡ entry_ok fields size m entry }
 {
-    let range = Range {
-        start: entry.first,
-        length: entry.second,
-    };
     match fields {
-        Fields::Unknown => false,
-        Fields::Bare => false,
-        Fields::Types => false,
-        Fields::Number => false,
-        Fields::Positive => false,
-        Fields::Limit => false,
-        Fields::Schema => false,
         Fields::Values => {
             RowKind::known(entry.first)
                 & scalar_ok(RowKind::of(entry.first), size, entry.second, entry.third)
         }
-        Fields::Names => text::range_fits(size, range) & (entry.third == 0),
-        Fields::Schemas => (entry.first < m) & ((entry.second == 0) & (entry.third == 0)),
-        Fields::Members => text::range_fits(size, range) & (entry.third < m),
-        Fields::Branches => (entry.first < m) & ((entry.second == 0) & (entry.third == 0)),
+        Fields::Names => text::range_fits(size, entry.name()) & (entry.third == 0),
+        Fields::Members => text::range_fits(size, entry.name()) & (entry.third < m),
+        Fields::Schemas | Fields::Branches => {
+            (entry.first < m) & ((entry.second == 0) & (entry.third == 0))
+        }
         Fields::Counted => entry.first < m,
+        _ => false,
     }
 }
 
@@ -60,14 +50,12 @@ pub fn first_bad_in(
     requires { RulesFormed words.now form × (size ≡ text_word words.now) × (first ≤ end) × (end ≤ form.e) }
     ensures { result ≡ lowest_from (λ x. not (entry_ok fields (text_word words.now) (schemas_word words.now) (entry_at words.now x))) (end - first) first }
 {
-    let mut x = first;
-    while x < end {
+    for x in first..end {
         if !entry_ok(fields, size, form.m, entry_at(words, form, x)) {
             return x;
         }
-        x += 1;
     }
-    x
+    end
 }
 
 // The lowest entry at fault, or the number of entries. Entries after the last list's are taken by
@@ -76,10 +64,8 @@ pub fn first_bad_entry(words: &[u32], form: RuleForm, size: usize) -> u32
     requires { ClausesLaid words.now form × (size ≡ text_word words.now) }
     ensures { result ≡ lowest (entry_fault words.now) (entries_word words.now) }
 {
-    let c = form.c;
     let mut x = 0;
-    let mut k = 0;
-    while k < c {
+    for k in 0..form.c {
         let clause = clause_at(words, form, k);
         let shape = shape_of(clause.code);
         let fields = shape.fields;
@@ -92,7 +78,6 @@ pub fn first_bad_entry(words: &[u32], form: RuleForm, size: usize) -> u32
             }
             x = end;
         }
-        k += 1;
     }
     x
 }

@@ -40,9 +40,7 @@ pub fn first_repeated_entry(words: &[u32], text: &[u8], form: RuleForm) -> u32
     requires { RulesLaid words.now form × (length text.now ≡ text_word words.now) }
     ensures { result ≡ lowest (repeated words.now text.now) (entries_word words.now) }
 {
-    let c = form.c;
-    let mut k = 0;
-    while k < c {
+    for k in 0..form.c {
         let clause = clause_at(words, form, k);
         let shape = shape_of(clause.code);
         let fields = shape.fields;
@@ -52,7 +50,6 @@ pub fn first_repeated_entry(words: &[u32], text: &[u8], form: RuleForm) -> u32
                 return again;
             }
         }
-        k += 1;
     }
     form.e
 }

@@ -18,15 +18,18 @@ use rulesheet::form::{EntryRow, RuleForm, clause_at, entry_at};
 use sheet::kind::RowKind;
 use text::Range;
 
+// An empty range, which every text has.
+const NOTHING: Range = Range {
+    start: 0,
+    length: 0,
+};
+
 // The string that an entry of an enum holds, as a range of the text: an empty one of any other kind.
 fn string_range(entry: EntryRow) -> Range
     ensures { StringRange entry result }
 {
     if RowKind::of(entry.first).number() != RowKind::STRING {
-        return Range {
-            start: 0,
-            length: 0,
-        };
+        return NOTHING;
     }
     Range {
         start: entry.second,
@@ -38,28 +41,10 @@ fn string_range(entry: EntryRow) -> Range
 fn text_range(fields: Fields, entry: EntryRow) -> Range
     ensures { TextRange fields entry result }
 {
-    let name = Range {
-        start: entry.first,
-        length: entry.second,
-    };
-    let none = Range {
-        start: 0,
-        length: 0,
-    };
     match fields {
-        Fields::Unknown => none,
-        Fields::Bare => none,
-        Fields::Types => none,
-        Fields::Number => none,
-        Fields::Positive => none,
-        Fields::Limit => none,
-        Fields::Schema => none,
         Fields::Values => string_range(entry),
-        Fields::Names => name,
-        Fields::Schemas => none,
-        Fields::Members => name,
-        Fields::Branches => none,
-        Fields::Counted => none,
+        Fields::Names | Fields::Members => entry.name(),
+        _ => NOTHING,
     }
 }
 
@@ -73,15 +58,13 @@ fn first_in(words: &[u32], text: &[u8], form: RuleForm, memo: &[u32], whole: boo
     let shape = shape_of(clause.code);
     let fields = shape.fields;
     let end = clause.first + clause.count;
-    let mut x = clause.first;
-    while x < end {
+    for x in clause.first..end {
         let range = text_range(fields, entry_at(words, form, x));
         if !settles(text, memo, whole, range) {
             return x;
         }
-        x += 1;
     }
-    x
+    end
 }
 
 // The lowest such entry of all the clauses, or the number of entries.
@@ -89,9 +72,7 @@ fn first_by(words: &[u32], text: &[u8], form: RuleForm, memo: &[u32], whole: boo
     requires { RulesLaid words.now form × (length text.now ≡ text_word words.now) × Known text.now memo.now whole }
     ensures { result ≡ lowest (not_utf8 words.now text.now) (entries_word words.now) }
 {
-    let c = form.c;
-    let mut k = 0;
-    while k < c {
+    for k in 0..form.c {
         let clause = clause_at(words, form, k);
         let shape = shape_of(clause.code);
         let fields = shape.fields;
@@ -101,7 +82,6 @@ fn first_by(words: &[u32], text: &[u8], form: RuleForm, memo: &[u32], whole: boo
                 return bad;
             }
         }
-        k += 1;
     }
     form.e
 }

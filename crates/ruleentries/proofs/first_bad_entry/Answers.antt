@@ -15,7 +15,7 @@ use Rattle.ruleentries.proofs.first_bad_entry.Goals as goal
 
 pub loop-k-init : goal.loop-k-init
 unfolding list_start
-loop-k-init c = (omega arith, refl, walk_begins c.args.words.now (entry_fault c.args.words.now))
+loop-k-init c = (refl, walk_begins c.args.words.now (entry_fault c.args.words.now))
 
 pub clause_at-clause-requires : goal.clause_at-clause-requires
 clause_at-clause-requires c = (c.requires.0.schemas_laid.formed, omega arith)
@@ -40,14 +40,9 @@ returns-then-bad-end c =
     let ws = c.args.words.now in
     let list = told is_list (fields_read ws c.loop-k.k clause.ensures c.shape_of-shape.ensures) c.is_list.ensures c.if-is_list.true in
     let bad = c.first_bad_in-bad in
-    walk_ends ws c.args.form c.requires.0 (omega arith) clause.result clause.ensures list (entry_fault ws) c.loop-k.invariant.2 bad.result
+    walk_ends ws c.args.form c.requires.0 (omega arith) clause.result clause.ensures list (entry_fault ws) c.loop-k.invariant.1 bad.result
     (entries_asked ws c.args.form c.requires.0 c.loop-k.k bad.result clause.result c.shape_of-shape.result.fields (omega arith) list clause.ensures (fields_read ws c.loop-k.k clause.ensures c.shape_of-shape.ensures) bad.ensures)
     c.if-bad-end.true
-
-pub overflow_add-k : goal.overflow_add-k
-overflow_add-k c =
-    let formed = c.requires.0.schemas_laid.formed in
-    omega (arith, (facts c.args.words.now c.args.form formed).few_clauses, form_c c.args.words.now c.args.form formed)
 
 pub loop-k-preserved : goal.loop-k-preserved
 loop-k-preserved c =
@@ -61,22 +56,22 @@ loop-k-preserved c =
           let list = told is_list same c.is_list.ensures w.if-is_list.true in
           let bad = w.first_bad_in-bad in (
             w.x-is ∙ sym (after_list ws k list ∙ ap (λ (x : ClauseRow). x.first + x.count) (sym clause.ensures)),
-            walk_on ws c.args.form c.requires.0 (omega arith) clause.result clause.ensures list (entry_fault ws) c.loop-k.invariant.2 bad.result
+            walk_on ws c.args.form c.requires.0 (omega arith) clause.result clause.ensures list (entry_fault ws) c.loop-k.invariant.1 bad.result
                 (entries_asked ws c.args.form c.requires.0 k bad.result clause.result c.shape_of-shape.result.fields (omega arith) list clause.ensures same bad.ensures)
                 w.if-bad-end.false,
           )
       | else-is_list w ↦
           let other = told is_list same c.is_list.ensures w.if-is_list.false in
-          (w.x-is ∙ c.loop-k.invariant.1 ∙ sym (after_other ws k other), walk_past ws (entry_fault ws) c.loop-k.invariant.2 other)
+          (w.x-is ∙ c.loop-k.invariant.0 ∙ sym (after_other ws k other), walk_past ws (entry_fault ws) c.loop-k.invariant.1 other)
     ]
     in
-    (omega arith, both.0, both.1)
+    both
 
 pub returns : goal.returns
 returns c =
     let ws = c.args.words.now in
     let e : c.loop-k.k ≡ clauses_word ws = omega (arith, form_c ws c.args.form c.requires.0.schemas_laid.formed) in
-    sym (c.loop-k.invariant.2.rest
-    ∙ rw (← c.loop-k.invariant.1)
+    sym (c.loop-k.invariant.1.rest
+    ∙ rw (← c.loop-k.invariant.0)
     (stops (entry_fault ws) (entries_word ws) c.loop-k.x
-    (λ h. ap not (entry_untaken ws c.args.form c.requires.0 c.loop-k.x (omega (arith, c.loop-k.invariant.1 ∙ ap (list_start ws) e))))))
+    (λ h. ap not (entry_untaken ws c.args.form c.requires.0 c.loop-k.x (omega (arith, c.loop-k.invariant.0 ∙ ap (list_start ws) e))))))

@@ -1,5 +1,5 @@
 use native.Mathlib.Omega.{arith}
-use mathlib.Core.Path.{refl, sym, ◌∙◌}
+use mathlib.Core.Path.{◌≡◌, refl, sym, ◌∙◌}
 use mathlib.Core.Bool.{not}
 use Prim.Native.Nat.{◌-◌}
 use Rattle.laws.proofs.Searches.{found, passed, ended}
@@ -9,19 +9,16 @@ use Rattle.rulesheet.proofs.Trailers.{facts, form_m, form_e}
 use Rattle.ruleentries.proofs.first_bad_in.Goals as goal
 
 pub loop-x-init : goal.loop-x-init
-loop-x-init c = (omega (arith, c.requires.2), refl)
+loop-x-init c = refl
 
 pub entry_at-requires : goal.entry_at-requires
 entry_at-requires c = (c.requires.0, omega (arith, c.requires.3))
 
 pub returns-then-not-entry_ok : goal.returns-then-not-entry_ok
-returns-then-not-entry_ok c = sym (c.loop-x.invariant.1 ∙ found (λ i. not (entry_ok c.args.fields (text_word c.args.words.now) (schemas_word c.args.words.now) (entry_at c.args.words.now i))) c.args.end c.loop-x.x (omega arith) (rw (← c.requires.1, ← form_m c.args.words.now c.args.form c.requires.0, ← c.entry_at.ensures, ← c.entry_ok.ensures) c.if-not-entry_ok.true-raw))
-
-pub overflow_add-x : goal.overflow_add-x
-overflow_add-x c = omega (arith, c.requires.3, (facts c.args.words.now c.args.form c.requires.0).few_entries, form_e c.args.words.now c.args.form c.requires.0)
+returns-then-not-entry_ok c = sym (c.loop-x.invariant ∙ found (λ i. not (entry_ok c.args.fields (text_word c.args.words.now) (schemas_word c.args.words.now) (entry_at c.args.words.now i))) c.args.end c.loop-x.x (omega arith) (rw (← c.requires.1, ← form_m c.args.words.now c.args.form c.requires.0, ← c.entry_at.ensures, ← c.entry_ok.ensures) c.if-not-entry_ok.true-raw))
 
 pub loop-x-preserved : goal.loop-x-preserved
-loop-x-preserved c = (omega arith, c.loop-x.invariant.1 ∙ passed (λ i. not (entry_ok c.args.fields (text_word c.args.words.now) (schemas_word c.args.words.now) (entry_at c.args.words.now i))) c.args.end c.loop-x.x (omega arith) (rw (← c.requires.1, ← form_m c.args.words.now c.args.form c.requires.0, ← c.entry_at.ensures, ← c.entry_ok.ensures) c.if-not-entry_ok.false-raw))
+loop-x-preserved c = (c.loop-x.invariant ∙ passed (λ i. not (entry_ok c.args.fields (text_word c.args.words.now) (schemas_word c.args.words.now) (entry_at c.args.words.now i))) c.args.end c.loop-x.x (omega arith) (rw (← c.requires.1, ← form_m c.args.words.now c.args.form c.requires.0, ← c.entry_at.ensures, ← c.entry_ok.ensures) c.if-not-entry_ok.false-raw))
 
 pub returns : goal.returns
-returns c = sym (c.loop-x.invariant.1 ∙ ended (λ i. not (entry_ok c.args.fields (text_word c.args.words.now) (schemas_word c.args.words.now) (entry_at c.args.words.now i))) c.args.end c.loop-x.x (omega arith))
+returns c = let there : c.loop-x.x ≡ c.args.end = omega (arith, c.requires.2) in sym (c.loop-x.invariant ∙ ended (λ i. not (entry_ok c.args.fields (text_word c.args.words.now) (schemas_word c.args.words.now) (entry_at c.args.words.now i))) c.args.end c.loop-x.x (omega arith) ∙ there)
