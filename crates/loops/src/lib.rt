@@ -49,12 +49,9 @@ fn visit_clause(
     requires { RulesLaid words.now form × (k < clauses_word words.now) × Tidy seen.old queue.old tail }
     ensures { Visited (targets_of words.now k) seen.old queue.old tail seen.new queue.new result }
 {
-    let n = steps_of(words, form, k);
     let mut end = tail;
-    let mut i = 0;
-    while i < n {
+    for i in 0..steps_of(words, form, k) {
         end = visit(seen, queue, end, step_at(words, form, k, i));
-        i += 1;
     }
     end
 }
@@ -73,12 +70,9 @@ fn visit_next(
 {
     let row = schema_at(words, form, s);
     let first = row.first;
-    let n = row.count;
     let mut end = tail;
-    let mut j = 0;
-    while j < n {
+    for j in 0..row.count {
         end = visit_clause(words, form, first + j, seen, queue, end);
-        j += 1;
     }
     end
 }
@@ -107,15 +101,12 @@ fn first_loop(words: &[u32], form: RuleForm) -> u32
     requires { RulesLaid words.now form }
     ensures { result ≡ loop_place (schemas_word words.now) (next_of words.now) }
 {
-    let m = form.m;
-    let mut s = 0;
-    while s < m {
+    for s in 0..form.m {
         if on_loop(words, form, RuleRow(s)) {
             return s;
         }
-        s += 1;
     }
-    s
+    form.m
 }
 
 // The places of refusals 8 and 9. A loop has chains of every length, so loops are sought only where
@@ -131,6 +122,6 @@ pub fn check_unguarded(words: &[u32], form: RuleForm) -> Unguarded
     }
     Unguarded {
         looped: first_loop(words, form),
-        long: long,
+        long,
     }
 }

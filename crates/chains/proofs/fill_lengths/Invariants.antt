@@ -10,8 +10,4 @@ use Rattle.chains.proofs.fill_lengths.Given as goal
 
 abbrev pub invariant-loop-k : goal.invariant-loop-k
 invariant-loop-k l =
-    (l.k ≤ chain_steps) × Told (schemas_word l.words) (next_of l.words) l.table × Deep (schemas_word l.words) (next_of l.words) l.k l.table × (length l.table ≡ length l.initial.table) × (length l.late ≡ length l.initial.late)
-
-abbrev pub decreases-loop-k : goal.decreases-loop-k
-decreases-loop-k l =
-    chain_steps - l.k
+    Told (schemas_word l.words) (next_of l.words) l.table × Deep (schemas_word l.words) (next_of l.words) l._k l.table × (length l.table ≡ length l.initial.table) × (length l.late ≡ length l.initial.late)

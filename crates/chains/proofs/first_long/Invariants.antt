@@ -7,8 +7,4 @@ use Rattle.chains.proofs.first_long.Given as goal
 
 abbrev pub invariant-loop-s : goal.invariant-loop-s
 invariant-loop-s l =
-    (l.s ≤ l.m) × Passing (chain (next_of l.words) chain_steps) (schemas_word l.words) l.s
-
-abbrev pub decreases-loop-s : goal.decreases-loop-s
-decreases-loop-s l =
-    l.m - l.s
+    Passing (chain (next_of l.words) chain_steps) (schemas_word l.words) l.s

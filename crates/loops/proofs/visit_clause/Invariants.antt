@@ -6,7 +6,4 @@ use lib.ListN.{take}
 use Rattle.loops.proofs.visit_clause.Given as goal
 
 abbrev pub invariant-loop-i : goal.invariant-loop-i
-invariant-loop-i l = (l.i ≤ l.n) × Visited (take l.i (targets_of l.words l.k)) l.initial.seen l.initial.queue l.tail l.seen l.queue l.end
-
-abbrev pub decreases-loop-i : goal.decreases-loop-i
-decreases-loop-i l = l.n - l.i
+invariant-loop-i l = Visited (take l.i (targets_of l.words l.k)) l.initial.seen l.initial.queue l.tail l.seen l.queue l.end

@@ -6,7 +6,4 @@ use Rattle.unguarded.proofs.Steps.{joined}
 use Rattle.loops.proofs.visit_next.Given as goal
 
 abbrev pub invariant-loop-j : goal.invariant-loop-j
-invariant-loop-j l = (l.j ≤ l.n) × Visited (joined (targets_of l.words) l.first l.j) l.initial.seen l.initial.queue l.tail l.seen l.queue l.end
-
-abbrev pub decreases-loop-j : goal.decreases-loop-j
-decreases-loop-j l = l.n - l.j
+invariant-loop-j l = Visited (joined (targets_of l.words) l.first l.j) l.initial.seen l.initial.queue l.tail l.seen l.queue l.end
