@@ -145,22 +145,8 @@ fn unnamed_fine(words: &[u32], text: &[u8], form: RuleForm, fields: Fields, list
     first_bad_in(words, form, text.len(), fields, list.first, end) == end
 }
 
-// Whether the entries of a list of any fields are, and their names, if they have some, differ.
-fn others_fine(words: &[u32], text: &[u8], form: RuleForm, fields: Fields, list: Entries) -> bool
-    requires { RulesFormed words.now form × (length text.now ≡ text_word words.now) × (list.first + list.count ≤ form.e) }
-    ensures { result ≡ true → ListFine words.now text.now fields list.first list.count }
-{
-    let end = list.first + list.count;
-    if first_bad_in(words, form, text.len(), fields, list.first, end) < end {
-        return false;
-    }
-    if !fields.is_named() {
-        return true;
-    }
-    names_differ(words, text, form, list)
-}
-
-// The same; those that most sheets have stand apart.
+// Whether the entries of a list of any fields are in order, and their names, if they have some, differ.
+// Enums and lists of schemas, of which most sheets have some, are asked for by themselves.
 pub fn entries_fine(
     words: &[u32],
     text: &[u8],
@@ -171,9 +157,12 @@ pub fn entries_fine(
     requires { RulesFormed words.now form × (length text.now ≡ text_word words.now) × (list.first + list.count ≤ form.e) }
     ensures { result ≡ true → ListFine words.now text.now fields list.first list.count }
 {
+    if fields.is_named() {
+        return named_fine(words, text, form, fields, list);
+    }
     match fields {
         Fields::Values => unnamed_fine(words, text, form, Fields::Values, list),
         Fields::Schemas => unnamed_fine(words, text, form, Fields::Schemas, list),
-        _ => others_fine(words, text, form, fields, list),
+        _ => unnamed_fine(words, text, form, fields, list),
     }
 }
