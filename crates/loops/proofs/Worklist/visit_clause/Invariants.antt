@@ -3,7 +3,7 @@ use Prim.Native.Nat.{◌-◌, ◌≤◌}
 use Rattle.rulesheet.specs.Sheet.{targets_of}
 use Rattle.unguarded.specs.Worklist.{Visited}
 use lib.ListN.{take}
-use Rattle.loops.proofs.visit_clause.Given as goal
+use Rattle.loops.proofs.Worklist.visit_clause.Given as goal
 
 abbrev pub invariant-loop-i : goal.invariant-loop-i
-invariant-loop-i l = Visited (take l.i (targets_of l.words l.k)) l.initial.seen l.initial.queue l.tail l.seen l.queue l.end
+invariant-loop-i l = Visited (take l.i (targets_of l.words l.k)) l.initial.self.seen l.initial.self.queue l.initial.self.tail l.self.seen l.self.queue l.self.tail

@@ -3,7 +3,7 @@ use Prim.Native.Nat.{◌-◌, ◌≤◌}
 use Rattle.rulesheet.specs.Sheet.{targets_of}
 use Rattle.unguarded.specs.Worklist.{Visited}
 use Rattle.unguarded.proofs.Steps.{joined}
-use Rattle.loops.proofs.visit_next.Given as goal
+use Rattle.loops.proofs.Worklist.visit_next.Given as goal
 
 abbrev pub invariant-loop-j : goal.invariant-loop-j
-invariant-loop-j l = Visited (joined (targets_of l.words) l.first l.j) l.initial.seen l.initial.queue l.tail l.seen l.queue l.end
+invariant-loop-j l = Visited (joined (targets_of l.words) l.row.first l.j) l.initial.self.seen l.initial.self.queue l.initial.self.tail l.self.seen l.self.queue l.self.tail
