@@ -20,13 +20,13 @@ use sheet::record::{RuleRow, wide};
 const FEW: usize = 64;
 
 // Marks schema t if a step from s to it does not lead to a later schema.
-fn mark_late(late: &mut [u8], s: RuleRow, t: RuleRow)
+fn mark_late(late: &mut [bool], s: RuleRow, t: RuleRow)
     requires { t.0 < length late.old }
     ensures { Noted s.0 (t.0 ∷ []) late.old late.new }
 {
     if t.0 <= s.0 {
         let at = wide(t.0);
-        late[at] = 1;
+        late[at] = true;
     }
 }
 
@@ -38,7 +38,7 @@ fn clause_length(
     s: RuleRow,
     k: u32,
     table: &[u8],
-    late: &mut [u8],
+    late: &mut [bool],
     most: u8,
 ) -> u8
     requires { RulesLaid words.now form × (k < clauses_word words.now) × (schemas_word words.now ≤ length table.now) × (schemas_word words.now ≤ length late.old) × (most ≤ chain_steps) }
@@ -57,7 +57,7 @@ fn clause_length(
 // A pass from the last clause to the first, so that a schema's length is told from those of the
 // schemas that come after it and were passed. The answer says whether one was raised that an earlier
 // one in the pass had asked for: if not, the table is right.
-fn pass(words: &[u32], form: RuleForm, last: u32, table: &mut [u8], late: &mut [u8]) -> bool
+fn pass(words: &[u32], form: RuleForm, last: u32, table: &mut [u8], late: &mut [bool]) -> bool
     requires { Ready words.now form last table.old late.old }
     ensures { Passed (schemas_word words.now) (next_of words.now) table.old table.new result }
 {
@@ -73,7 +73,7 @@ fn pass(words: &[u32], form: RuleForm, last: u32, table: &mut [u8], late: &mut [
         let long = clause_length(words, form, s, k, table, late, most);
         if most < long {
             table[at] = long;
-            again |= late[at] != 0;
+            again |= late[at];
         }
         k = last_step(words, form, k);
     }
@@ -82,7 +82,7 @@ fn pass(words: &[u32], form: RuleForm, last: u32, table: &mut [u8], late: &mut [
 
 // Passes up to the first that leaves the table right. That is the first of all where each step leads to
 // a later schema or to one without steps, and never later than the 32nd.
-fn fill_lengths(words: &[u32], form: RuleForm, last: u32, table: &mut [u8], late: &mut [u8])
+fn fill_lengths(words: &[u32], form: RuleForm, last: u32, table: &mut [u8], late: &mut [bool])
     requires { Ready words.now form last table.old late.old }
     ensures { Lengths (schemas_word words.now) (next_of words.now) table.new }
 {
@@ -113,7 +113,7 @@ fn long_within<const N: usize>(words: &[u32], form: RuleForm, last: u32) -> u32
     ensures { result ≡ chain_place (schemas_word words.now) (next_of words.now) }
 {
     let mut table = [0u8; N];
-    let mut late = [0u8; N];
+    let mut late = [false; N];
     fill_lengths(words, form, last, &mut table, &mut late);
     first_long(words, form, &table)
 }

@@ -22,7 +22,7 @@ use unguarded::Unguarded;
 // which place of the queue each stands, and a ghost field must be a proposition.
 #[derive(Drop)]
 struct Worklist {
-    seen: [u8; RuleForm::SCHEMAS_MAX],
+    seen: [bool; RuleForm::SCHEMAS_MAX],
     queue: [u32; RuleForm::SCHEMAS_MAX],
     tail: usize,
 }
@@ -35,8 +35,8 @@ impl Worklist {
         ensures { Tidied result × (mark_count result.seen ≡ 0) × (result.tail ≡ 0) }
     {
         Worklist {
-            seen: [0u8; RuleForm::SCHEMAS_MAX],
-            queue: [0u32; RuleForm::SCHEMAS_MAX],
+            seen: [false; RuleForm::SCHEMAS_MAX],
+            queue: [0; RuleForm::SCHEMAS_MAX],
             tail: 0,
         }
     }
@@ -47,8 +47,8 @@ impl Worklist {
         ensures { Visits (t.0 ∷ []) self.old self.new }
     {
         let at = wide(t.0);
-        if self.seen[at] == 0 {
-            self.seen[at] = 1;
+        if !self.seen[at] {
+            self.seen[at] = true;
             self.queue[self.tail] = t.0;
             self.tail += 1;
         }
@@ -91,7 +91,7 @@ fn on_loop(words: &[u32], form: RuleForm, s: RuleRow) -> bool
         head += 1;
     }
     let at = wide(s.0);
-    list.seen[at] != 0
+    list.seen[at]
 }
 
 // The lowest schema on a loop, or the number of schemas.
