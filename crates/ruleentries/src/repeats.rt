@@ -24,15 +24,7 @@ fn first_repeated_in(words: &[u32], text: &[u8], form: RuleForm, k: u32) -> u32
         stride: RuleForm::ENTRY_WORDS,
         count: wide(clause.count),
     };
-    clause.first + narrow(namesakes::first_repeated(words, text, lying))
-}
-
-// A number of entries as a word.
-fn narrow(count: usize) -> u32
-    requires { count < 4294967296 }
-    ensures { result ≡ count }
-{
-    count as u32
+    clause.first + namesakes::first_repeated(words, text, lying) as u32
 }
 
 // The lowest entry whose name an earlier entry of its clause has, or the number of entries.

@@ -35,19 +35,13 @@ fn trailer_fits(size: usize, m: u32, c: u32, e: u32, back: u32, kind: u32) -> bo
 pub fn trailer_ok(words: &[u32], size: usize) -> bool
     ensures { result ≡ (words_ok words.now && text_ok words.now size) }
 {
-    let n = words.len();
-    if n < RuleForm::TRAILER_WORDS {
-        return false;
+    match words {
+        [.., m, c, e, back, said, kind] => {
+            trailer_fits(words.len(), *m, *c, *e, *back, *kind)
+                & ((wide(*said) == size) & (size <= TEXT_MAX))
+        }
+        _ => false,
     }
-    let said = wide(words[n - 2]);
-    trailer_fits(
-        n,
-        words[n - 6],
-        words[n - 5],
-        words[n - 4],
-        words[n - 3],
-        words[n - 1],
-    ) & ((said == size) & (size <= TEXT_MAX))
 }
 
 // The lowest schema at fault, or the number of schemas.
