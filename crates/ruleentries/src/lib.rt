@@ -4,13 +4,15 @@
 // Contracts cite `rulesheet`'s `Faults` and `Read`.
 #![tactic(auto)]
 
-ghost use Rattle.std.specs.Prelude.{not, ◌≡◌, ◌-◌, ◌≤◌};
-ghost use Rattle.laws.specs.Lowest.{lowest, lowest_from};
+ghost use Rattle.std.specs.Prelude.{not, ◌≡◌, ◌+◌, ◌≤◌};
+ghost use Rattle.laws.specs.Lowest.{lowest};
 ghost use Rattle.rulesheet.specs.Sheet.{schemas_word, entries_word, text_word, entry_at};
 ghost use Rattle.rulesheet.specs.Faults.{entry_ok, entry_fault};
+ghost use Rattle.rulesheet.specs.Found.{FoundIn};
 ghost use Rattle.rulesheet.specs.Read.{RulesFormed, ClausesLaid};
 
 use rulecodes::shape_of;
+use rulesheet::clause::Entries;
 use rulesheet::code::Fields;
 use rulesheet::form::{EntryRow, RuleForm, clause_at, entry_at};
 use sheet::kind::RowKind;
@@ -38,24 +40,23 @@ fn entry_ok(fields: Fields, size: usize, m: u32, entry: EntryRow) -> bool
     }
 }
 
-// The lowest of the entries of a list of these fields that is at fault, or where they end.
+// The lowest of the entries of a list of these fields that is at fault.
 pub fn first_bad_in(
     words: &[u32],
     form: RuleForm,
     size: usize,
     fields: Fields,
-    first: u32,
-    end: u32,
-) -> u32
-    requires { RulesFormed words.now form × (size ≡ text_word words.now) × (first ≤ end) × (end ≤ form.e) }
-    ensures { result ≡ lowest_from (λ x. not (entry_ok fields (text_word words.now) (schemas_word words.now) (entry_at words.now x))) (end - first) first }
+    list: Entries,
+) -> Option<u32>
+    requires { RulesFormed words.now form × (size ≡ text_word words.now) × (list.first + list.count ≤ form.e) }
+    ensures { FoundIn (λ x. not (entry_ok fields (text_word words.now) (schemas_word words.now) (entry_at words.now x))) list.count list.first result }
 {
-    for x in first..end {
+    for x in list.first..list.first + list.count {
         if !entry_ok(fields, size, form.m, entry_at(words, form, x)) {
-            return x;
+            return Some(x);
         }
     }
-    end
+    None
 }
 
 // The lowest entry at fault, or the number of entries. Entries after the last list's are taken by
@@ -70,13 +71,14 @@ pub fn first_bad_entry(words: &[u32], form: RuleForm, size: usize) -> u32
         let shape = shape_of(clause.code);
         let fields = shape.fields;
         if fields.is_list() {
-            let first = clause.first;
-            let end = first + clause.count;
-            let bad = first_bad_in(words, form, size, fields, first, end);
-            if bad < end {
+            let list = Entries {
+                first: clause.first,
+                count: clause.count,
+            };
+            if let Some(bad) = first_bad_in(words, form, size, fields, list) {
                 return bad;
             }
-            x = end;
+            x = list.first + list.count;
         }
     }
     x

@@ -141,8 +141,7 @@ fn unnamed_fine(words: &[u32], text: &[u8], form: RuleForm, fields: Fields, list
     requires { RulesFormed words.now form × (length text.now ≡ text_word words.now) × (list.first + list.count ≤ form.e) × (is_named fields ≡ false) }
     ensures { result ≡ true → ListFine words.now text.now fields list.first list.count }
 {
-    let end = list.first + list.count;
-    first_bad_in(words, form, text.len(), fields, list.first, end) == end
+    first_bad_in(words, form, text.len(), fields, list).is_none()
 }
 
 // Whether the entries of a list of any fields are in order, and their names, if they have some, differ.

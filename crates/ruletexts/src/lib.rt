@@ -4,10 +4,11 @@
 #![tactic(auto)]
 
 ghost use Rattle.std.specs.Prelude.{true, ◌≡◌, ◌<◌, length};
-ghost use Rattle.laws.specs.Lowest.{lowest, lowest_from};
+ghost use Rattle.laws.specs.Lowest.{lowest};
 ghost use Rattle.reach.specs.Reach.{Known, places};
 ghost use Rattle.rulesheet.specs.Sheet.{entries_word, text_word, clause_at};
 ghost use Rattle.rulesheet.specs.Faults.{is_list, fields_at, not_utf8};
+ghost use Rattle.rulesheet.specs.Found.{FoundIn};
 ghost use Rattle.rulesheet.specs.Read.{RulesLaid};
 ghost use Rattle.ruletexts.specs.Ranges.{StringRange, TextRange};
 
@@ -48,11 +49,18 @@ fn text_range(fields: Fields, entry: EntryRow) -> Range
     }
 }
 
-// The lowest entry of clause k, which is a list, whose text is not UTF-8, or where they end.
-fn first_in(words: &[u32], text: &[u8], form: RuleForm, memo: &[u32], whole: bool, k: u32) -> u32
+// The lowest entry of clause k, which is a list, whose text is not UTF-8.
+fn first_in(
+    words: &[u32],
+    text: &[u8],
+    form: RuleForm,
+    memo: &[u32],
+    whole: bool,
+    k: u32,
+) -> Option<u32>
     requires rules_laid { RulesLaid words.now form × (length text.now ≡ text_word words.now) × Known text.now memo.now whole }
     requires clause_listed { (k < form.c) × (is_list (fields_at words.now k) ≡ true) }
-    ensures { result ≡ lowest_from (not_utf8 words.now text.now) (clause_at words.now k).count (clause_at words.now k).first }
+    ensures { FoundIn (not_utf8 words.now text.now) (clause_at words.now k).count (clause_at words.now k).first result }
 {
     let clause = clause_at(words, form, k);
     let shape = shape_of(clause.code);
@@ -61,10 +69,10 @@ fn first_in(words: &[u32], text: &[u8], form: RuleForm, memo: &[u32], whole: boo
     for x in clause.first..end {
         let range = text_range(fields, entry_at(words, form, x));
         if !settles(text, memo, whole, range) {
-            return x;
+            return Some(x);
         }
     }
-    end
+    None
 }
 
 // The lowest such entry of all the clauses, or the number of entries.
@@ -77,8 +85,7 @@ fn first_by(words: &[u32], text: &[u8], form: RuleForm, memo: &[u32], whole: boo
         let shape = shape_of(clause.code);
         let fields = shape.fields;
         if fields.is_list() {
-            let bad = first_in(words, text, form, memo, whole, k);
-            if bad < clause.first + clause.count {
+            if let Some(bad) = first_in(words, text, form, memo, whole, k) {
                 return bad;
             }
         }
