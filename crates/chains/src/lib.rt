@@ -31,7 +31,8 @@ fn mark_late(late: &mut [bool], s: RuleRow, t: RuleRow)
 }
 
 // The longest chain of schema s, told from `most`, its longest so far, and from those of the schemas
-// that clause k reaches; these are marked if they do not come after s.
+// that clause k reaches; these are marked if they do not come after s. Lengths and marks are two
+// slices, and none of structs, since the lengths are only read here.
 fn clause_length(
     words: &[u32],
     form: RuleForm,
@@ -56,7 +57,8 @@ fn clause_length(
 
 // A pass from the last clause to the first, so that a schema's length is told from those of the
 // schemas that come after it and were passed. The answer says whether one was raised that an earlier
-// one in the pass had asked for: if not, the table is right.
+// one in the pass had asked for: if not, the table is right. It goes from one clause that has a step
+// to the next, so no range counts it.
 fn pass(words: &[u32], form: RuleForm, last: u32, table: &mut [u8], late: &mut [bool]) -> bool
     requires { Ready words.now form last table.old late.old }
     ensures { Passed (schemas_word words.now) (next_of words.now) table.old table.new result }
@@ -93,7 +95,8 @@ fn fill_lengths(words: &[u32], form: RuleForm, last: u32, table: &mut [u8], late
     }
 }
 
-// The lowest schema that starts a chain of 33 schemas, or the number of schemas.
+// The lowest schema that starts a chain of 33 schemas, or the number of schemas, as `lowest` in
+// `chain_place` has it.
 fn first_long(words: &[u32], form: RuleForm, table: &[u8]) -> u32
     requires { RulesLaid words.now form × Lengths (schemas_word words.now) (next_of words.now) table.now }
     ensures { result ≡ chain_place (schemas_word words.now) (next_of words.now) }

@@ -1,5 +1,6 @@
 // Clauses of a few codes. Who asks a clause one thing reads only the codes that matter for it, so that
-// reading and asking become one dispatch; each clause of another code reads as `Clause::Never`.
+// reading and asking become one dispatch: over one table of all codes they were two. Each clause of
+// another code reads as `Clause::Never`, and no `None`, since the promises say what `Never` means.
 //
 // Its contracts cite `specs/Asked.antt`.
 #![tactic(auto)]

@@ -17,7 +17,8 @@ use sheet::record::RuleRow;
 // The steps of a chain that is refused; it has one schema more.
 pub const CHAIN_STEPS: u8 = 32;
 
-// One past the last of the first `to` clauses that has a step; 0 if none has.
+// One past the last of the first `to` clauses that has a step; 0 if none has. It is a bound and no
+// Option: the clauses from it on have no step.
 pub fn last_step(words: &[u32], form: RuleForm, to: u32) -> u32
     requires { RulesLaid words.now form × (to ≤ clauses_word words.now) }
     ensures { Quiet words.now result to }

@@ -94,7 +94,7 @@ fn on_loop(words: &[u32], form: RuleForm, s: RuleRow) -> bool
     list.seen[at]
 }
 
-// The lowest schema on a loop, or the number of schemas.
+// The lowest schema on a loop, or the number of schemas, as `lowest` in `loop_place` has it.
 fn first_loop(words: &[u32], form: RuleForm) -> u32
     requires { RulesLaid words.now form }
     ensures { result ≡ loop_place (schemas_word words.now) (next_of words.now) }

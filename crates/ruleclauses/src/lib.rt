@@ -96,8 +96,8 @@ fn pass_clauses(words: &[u32], form: RuleForm, schema: RuleRow, from: usize) -> 
     Ok(start)
 }
 
-// The lowest clause at fault, or the number of clauses. Clauses after the last schema's are taken
-// by none.
+// The lowest clause at fault, or the number of clauses, as `lowest` in the promise has it. Clauses
+// after the last schema's are taken by none.
 pub fn first_bad_clause(words: &[u32], form: RuleForm) -> u32
     requires { SchemasLaid words.now form }
     ensures { result ≡ lowest (clause_fault words.now) (clauses_word words.now) }

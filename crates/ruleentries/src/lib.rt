@@ -59,8 +59,8 @@ pub fn first_bad_in(
     None
 }
 
-// The lowest entry at fault, or the number of entries. Entries after the last list's are taken by
-// none.
+// The lowest entry at fault, or the number of entries, as `lowest` in the promise has it. Entries
+// after the last list's are taken by none.
 pub fn first_bad_entry(words: &[u32], form: RuleForm, size: usize) -> u32
     requires { ClausesLaid words.now form × (size ≡ text_word words.now) }
     ensures { result ≡ lowest (entry_fault words.now) (entries_word words.now) }

@@ -12,7 +12,7 @@ use rulesheet::form::{RuleForm, clause_at};
 use sheet::record::wide;
 
 // The lowest entry of clause k, whose entries have names, whose name an earlier one has, or where
-// they end.
+// they end: no Option, since `namesakes` tells it so too.
 fn first_repeated_in(words: &[u32], text: &[u8], form: RuleForm, k: u32) -> u32
     requires rules_laid { RulesLaid words.now form × (length text.now ≡ text_word words.now) }
     requires clause_named { (k < form.c) × (is_named (fields_at words.now k) ≡ true) }
@@ -27,7 +27,8 @@ fn first_repeated_in(words: &[u32], text: &[u8], form: RuleForm, k: u32) -> u32
     clause.first + namesakes::first_repeated(words, text, lying) as u32
 }
 
-// The lowest entry whose name an earlier entry of its clause has, or the number of entries.
+// The lowest entry whose name an earlier entry of its clause has, or the number of entries, as
+// `lowest` in the promise has it.
 pub fn first_repeated_entry(words: &[u32], text: &[u8], form: RuleForm) -> u32
     requires { RulesLaid words.now form × (length text.now ≡ text_word words.now) }
     ensures { result ≡ lowest (repeated words.now text.now) (entries_word words.now) }

@@ -44,7 +44,7 @@ pub fn trailer_ok(words: &[u32], size: usize) -> bool
     }
 }
 
-// The lowest schema at fault, or the number of schemas.
+// The lowest schema at fault, or the number of schemas, as `lowest` in the promise has it.
 pub fn first_bad_schema(words: &[u32], form: RuleForm) -> u32
     requires { RulesFormed words.now form }
     ensures { result ≡ lowest (schema_fault words.now) (schemas_word words.now) }

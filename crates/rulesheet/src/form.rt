@@ -89,7 +89,8 @@ impl EntryRow {
     }
 }
 
-// The schema's words.
+// The words of a schema. The readers take words and form apart, as docs/PROMISES.md names them and
+// the crates above call them.
 pub fn schema_at(words: &[u32], form: RuleForm, schema: RuleRow) -> SchemaRow
     requires { RulesFormed words.now form × (schema.0 < form.m) }
     ensures { result ≡ schema_at words.now schema.0 }

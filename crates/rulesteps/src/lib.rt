@@ -13,7 +13,7 @@ use rulesheet::form::{EntryRow, RuleForm, entry_at};
 use sheet::record::RuleRow;
 
 // So many clauses with steps, or more, or one step to a schema that is not later: then the count
-// tells nothing.
+// tells nothing. That is no None, since a count is only asked whether it is below MANY.
 pub const MANY: u32 = 32;
 
 // The schema of an entry, which has a name or not.

@@ -75,7 +75,7 @@ fn first_in(
     None
 }
 
-// The lowest such entry of all the clauses, or the number of entries.
+// The lowest such entry of all the clauses, or the number of entries, as `lowest` has it.
 fn first_by(words: &[u32], text: &[u8], form: RuleForm, memo: &[u32], whole: bool) -> u32
     requires { RulesLaid words.now form × (length text.now ≡ text_word words.now) × Known text.now memo.now whole }
     ensures { result ≡ lowest (not_utf8 words.now text.now) (entries_word words.now) }
