@@ -5,11 +5,11 @@
 --     pass_done                  at the end of the pass
 --     quiet_sheet                where no clause has a step there is no chain
 -- Assumes nothing.
-use mathlib.Core.Bool.{Bool, true, false, ◌||◌, false≢true}
-use mathlib.Core.List.{List, [], Memᴰ as In}
+use mathlib.Core.Bool.{Bool, false, ◌||◌, false≢true}
+use mathlib.Core.List.{List, Memᴰ as In}
 use mathlib.Core.Logic.{◌⊎◌, inl, inr, ⊎_elim}
 use mathlib.Core.Path.{◌≡◌, refl, sym, ◌∙◌, subst}
-use Prim.Native.Nat.{ℕ, suc, ◌+◌, ◌-◌, ◌≤◌, ◌<◌}
+use Prim.Native.Nat.{ℕ, ◌+◌, ◌-◌, ◌≤◌, ◌<◌}
 use native.Mathlib.Decide.{ℕ_discrete}
 use native.Mathlib.Omega.{arith}
 use lib.ListN.{length, get_or, set, length-set}

@@ -1,6 +1,5 @@
 use native.Mathlib.Omega.{arith}
 use mathlib.Core.Path.{refl, ◌∙◌}
-use Prim.Native.Nat.{◌-◌}
 use lib.Seq.{take_all}
 use Rattle.rulesheet.specs.Sheet.{targets_of}
 use Rattle.unguarded.proofs.Lists.{take_more}

@@ -1,7 +1,6 @@
 -- `clause_length` meets its contract. Where i steps were passed, the length is told from their schemas, and those are marked that do not come after s.
 -- Assumes nothing.
 use mathlib.Core.Path.{◌≡◌}
-use Prim.Native.Nat.{◌-◌, ◌≤◌}
 use lib.ListN.{length, take}
 use Rattle.rulesheet.specs.Sheet.{targets_of}
 use Rattle.unguarded.specs.Lengths.{Raised, Noted}

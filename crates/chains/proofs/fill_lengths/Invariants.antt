@@ -1,9 +1,7 @@
 -- `fill_lengths` meets its contract. After k passes no chain of up to k steps is longer than told. Assumes nothing.
 use mathlib.Core.Path.{◌≡◌}
-use Prim.Native.Nat.{◌-◌, ◌≤◌}
 use lib.ListN.{length}
 use Rattle.rulesheet.specs.Sheet.{schemas_word, next_of}
-use Rattle.unguarded.specs.Graph.{chain_steps}
 use Rattle.unguarded.specs.Lengths.{Told}
 use Rattle.unguarded.proofs.Lengths.{Deep}
 use Rattle.chains.proofs.fill_lengths.Given as goal

@@ -1,6 +1,5 @@
 use native.Mathlib.Omega.{arith}
 use mathlib.Core.Path.{◌≡◌, sym, ◌∙◌}
-use Prim.Native.Nat.{◌-◌}
 use borrow.Author.Tests.{le-leb, lt-leb}
 use Rattle.laws.proofs.Passing.{begin, here, further, nowhere}
 use Rattle.unguarded.proofs.Steps.{schema_count}

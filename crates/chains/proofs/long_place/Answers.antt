@@ -1,10 +1,7 @@
 -- `long_place` meets its contract: where no clause has a step there is no chain, and tables of zeros tell nothing yet. Assumes nothing.
 use native.Mathlib.Omega.{arith}
-use mathlib.Core.Path.{refl, ◌∙◌}
-use Rattle.rulesheet.specs.Sheet.{schemas_word, next_of}
-use Rattle.unguarded.specs.Worklist.{mark_count}
+use mathlib.Core.Path.{◌∙◌}
 use Rattle.unguarded.proofs.Steps.{schema_count, clause_count, few_schemas}
-use Rattle.unguarded.proofs.Lengths.{blank_told}
 use Rattle.unguarded.proofs.Passes.{quiet_sheet}
 use Rattle.chains.proofs.long_place.Goals as goal
 

@@ -1,8 +1,6 @@
 use native.Mathlib.Omega.{arith}
 use mathlib.Core.Path.{◌≡◌, sym, ◌∙◌}
-use Prim.Native.Nat.{◌-◌}
 use Rattle.laws.proofs.Passing.{begin, here, further, nowhere}
-use Rattle.unguarded.specs.Graph.{on_loop}
 use Rattle.unguarded.proofs.Steps.{schema_count}
 use Rattle.loops.proofs.first_loop.Goals as goal
 

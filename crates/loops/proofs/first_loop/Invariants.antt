@@ -1,5 +1,4 @@
 -- `first_loop` meets its contract: a search, in which `on_loop` says what is asked. Assumes nothing.
-use Prim.Native.Nat.{◌-◌, ◌≤◌}
 use Rattle.laws.proofs.Passing.{Passing}
 use Rattle.rulesheet.specs.Sheet.{schemas_word, next_of}
 use Rattle.unguarded.specs.Graph.{on_loop}

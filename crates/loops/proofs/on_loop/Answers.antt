@@ -1,10 +1,8 @@
 use native.Mathlib.Omega.{arith}
-use mathlib.Core.Path.{refl}
-use Prim.Native.Nat.{◌-◌}
 use Rattle.rulesheet.specs.Sheet.{schemas_word, next_of}
 use Rattle.unguarded.specs.Worklist.{mark_count}
 use Rattle.unguarded.proofs.Steps.{few_schemas, next_inside}
-use Rattle.unguarded.proofs.Worklists.{begin, turn, said, next_low, blank_tidy, tail_most}
+use Rattle.unguarded.proofs.Worklists.{begin, turn, said, next_low, tail_most}
 use Rattle.loops.proofs.on_loop.Goals as goal
 
 pub visit_next-requires : goal.visit_next-requires

@@ -1,7 +1,7 @@
 use native.Mathlib.Omega.{arith}
 use mathlib.Core.Path.{◌≡◌, refl, sym, ap, ◌∙◌}
 use mathlib.Core.Bool.{not}
-use Prim.Native.Nat.{◌+◌, ◌-◌}
+use Prim.Native.Nat.{◌+◌}
 use native.Mathlib.Nat.{sub-zero}
 use Rattle.laws.proofs.Searches.{left, part_ends, part_passed, stops}
 use Rattle.rulesheet.specs.declared.form.SchemaRow.{SchemaRow}

@@ -1,10 +1,10 @@
 use native.Mathlib.Omega.{arith}
 use mathlib.Core.Path.{◌≡◌, refl, sym, ◌∙◌}
-use Prim.Native.Nat.{◌+◌, ◌-◌}
+use Prim.Native.Nat.{◌+◌}
 use native.Mathlib.Nat.{sub-zero}
 use Rattle.laws.proofs.Searches.{found, passed, ended}
 use Rattle.rulesheet.specs.Faults.{schema_start, schema_fault}
-use Rattle.rulesheet.proofs.Trailers.{facts, form_m, form_c}
+use Rattle.rulesheet.proofs.Trailers.{form_m, form_c}
 use Rattle.rulelayout.proofs.Schemas.{schema_tested, next_schema}
 use Rattle.rulelayout.proofs.first_bad_schema.Goals as goal
 

@@ -1,6 +1,5 @@
 -- `first_bad_schema` meets its contract: `start` is where the schemas passed say that the next one starts. Assumes nothing.
 use mathlib.Core.Path.{◌≡◌}
-use Prim.Native.Nat.{◌≤◌}
 use Rattle.laws.specs.Lowest.{lowest}
 use Rattle.laws.proofs.Searches.{left}
 use Rattle.rulesheet.specs.Faults.{schema_start, schema_fault}

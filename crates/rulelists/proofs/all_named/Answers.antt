@@ -2,11 +2,9 @@ use native.Mathlib.Omega.{arith}
 use mathlib.Core.Bool.{false≢true}
 use mathlib.Core.Logic.{⊎_elim}
 use mathlib.Core.Path.{◌≡◌, sym, ap, ◌∙◌}
-use Prim.Native.Nat.{ℕ, ◌+◌, ◌-◌, ◌≤◌, ◌<◌}
+use Prim.Native.Nat.{ℕ, ◌+◌, ◌≤◌, ◌<◌}
 use borrow.Author.Tests.{not-false}
 use Rattle.laws.proofs.Tests.{le_or_lt}
-use Rattle.rulesheet.specs.Sheet.{entry_at}
-use Rattle.rulesheet.proofs.Trailers.{facts, form_e}
 use Rattle.rulelists.specs.Lists.{named_ok}
 use Rattle.rulelists.proofs.all_named.Goals as goal
 

@@ -1,7 +1,7 @@
 -- `all_named` meets its contract. Assumes nothing.
 use mathlib.Core.Bool.{true}
 use mathlib.Core.Path.{◌≡◌}
-use Prim.Native.Nat.{ℕ, ◌-◌, ◌≤◌, ◌<◌}
+use Prim.Native.Nat.{ℕ, ◌≤◌, ◌<◌}
 use Rattle.rulesheet.specs.Sheet.{entry_at}
 use Rattle.rulelists.specs.Lists.{named_ok}
 use Rattle.rulelists.proofs.all_named.Given as goal

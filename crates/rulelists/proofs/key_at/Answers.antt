@@ -8,7 +8,7 @@ use Rattle.rulesheet.specs.declared.form.EntryRow.{EntryRow}
 use Rattle.rulesheet.specs.Sheet.{form_of, entry_at}
 use Rattle.text.specs.Part.{part}
 use Rattle.text.proofs.Ranges.{part_length}
-use Rattle.rulesheet.specs.Codes.{entry_range, entry_name}
+use Rattle.rulesheet.specs.Codes.{entry_name}
 use Rattle.rulelists.specs.Lists.{key_of}
 use Rattle.rulelists.proofs.key_at.Goals as goal
 

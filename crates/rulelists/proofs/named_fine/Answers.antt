@@ -1,8 +1,6 @@
 -- `named_fine` meets its contract. Assumes nothing.
-use mathlib.Core.Bool.{false≢true}
 use Prim.Native.Nat.{◌+◌}
 use lib.ListN.{length}
-use borrow.Author.Tests.{not-false}
 use Rattle.rulesheet.proofs.Trailers.{form_m}
 use Rattle.rulelists.proofs.Entries.{all_named, names_fit}
 use Rattle.rulelists.proofs.named_fine.Goals as goal

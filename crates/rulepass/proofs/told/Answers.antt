@@ -1,14 +1,14 @@
 use native.Mathlib.Omega.{arith}
-use mathlib.Core.Bool.{◌&&◌, true, false≢true}
+use mathlib.Core.Bool.{◌&&◌, true}
 use mathlib.Core.Logic.{⊎_elim}
 use mathlib.Core.Path.{◌≡◌, refl, sym, ap, ◌∙◌, subst}
-use Prim.Native.Nat.{ℕ, ◌+◌, ◌-◌, ◌≤◌, ◌<◌}
+use Prim.Native.Nat.{ℕ, ◌+◌, ◌≤◌, ◌<◌}
 use lib.Dec.{eqb, leb}
 use borrow.Author.Tests.{not-false, eqb-true, leb-true}
 use Rattle.laws.proofs.Tests.{le_or_lt, left, right}
 use Rattle.rulesheet.specs.declared.form.SchemaRow.{SchemaRow}
 use Rattle.rulesheet.specs.Faults.{schema_start, schema_fine, list_start}
-use Rattle.rulesheet.proofs.Trailers.{facts, form_m, form_c}
+use Rattle.rulesheet.proofs.Trailers.{facts, form_c}
 use Rattle.rulelayout.proofs.Schemas.{schema_tested, next_schema}
 use Rattle.rulepass.specs.Pass.{Come}
 use Rattle.rulepass.proofs.Going.{come_begins, come_on}

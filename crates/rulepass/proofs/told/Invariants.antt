@@ -1,7 +1,7 @@
 -- `told` meets its contract. Assumes nothing.
 use mathlib.Core.Bool.{true}
 use mathlib.Core.Path.{◌≡◌}
-use Prim.Native.Nat.{ℕ, ◌-◌, ◌≤◌, ◌<◌}
+use Prim.Native.Nat.{ℕ, ◌<◌}
 use Rattle.rulesheet.specs.Faults.{schema_start, schema_fine}
 use Rattle.rulepass.specs.Pass.{Come}
 use Rattle.rulepass.proofs.told.Given as goal

@@ -2,11 +2,9 @@ use native.Mathlib.Omega.{arith}
 use mathlib.Core.Bool.{false≢true}
 use mathlib.Core.Logic.{⊎_elim}
 use mathlib.Core.Path.{◌≡◌, ap, ◌∙◌}
-use Prim.Native.Nat.{ℕ, ◌+◌, ◌-◌, ◌≤◌, ◌<◌}
+use Prim.Native.Nat.{ℕ, ◌+◌, ◌≤◌, ◌<◌}
 use Rattle.laws.proofs.Tests.{le_or_lt}
-use Rattle.rulesheet.specs.Sheet.{entry_at}
 use Rattle.rulesteps.specs.Later.{schema_in}
-use Rattle.rulesheet.proofs.Trailers.{facts, form_e}
 use Rattle.rulesteps.proofs.all_later.Goals as goal
 
 pub loop-x-init : goal.loop-x-init

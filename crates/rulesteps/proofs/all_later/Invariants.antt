@@ -1,5 +1,5 @@
 -- `all_later` meets its contract. Assumes nothing.
-use Prim.Native.Nat.{ℕ, ◌-◌, ◌≤◌, ◌<◌}
+use Prim.Native.Nat.{ℕ, ◌≤◌, ◌<◌}
 use Rattle.rulesheet.specs.Sheet.{entry_at}
 use Rattle.rulesteps.specs.Later.{schema_in}
 use Rattle.rulesteps.proofs.all_later.Given as goal

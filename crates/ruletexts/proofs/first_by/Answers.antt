@@ -1,13 +1,12 @@
-use mathlib.Core.Logic.{⊎_elim}
 use mathlib.Core.Path.{◌≡◌, sym, ap, ◌∙◌}
-use Prim.Native.Nat.{◌+◌, ◌-◌}
+use Prim.Native.Nat.{◌+◌}
 use native.Mathlib.Omega.{arith}
 use Rattle.laws.proofs.Searches.{ended}
 use Rattle.rulesheet.specs.Sheet.{clauses_word, entries_word, clause_at}
 use Rattle.rulesheet.specs.Faults.{is_list, list_start, not_utf8}
 use Rattle.rulesheet.specs.declared.form.ClauseRow.{ClauseRow}
-use Rattle.rulesheet.proofs.Trailers.{facts, form_c, form_e}
-use Rattle.rulesheet.proofs.Walking.{fields_read, told, Walked, walk_begins, walk_past, list_inside, walk_ends, walk_on}
+use Rattle.rulesheet.proofs.Trailers.{form_c, form_e}
+use Rattle.rulesheet.proofs.Walking.{fields_read, told, Walked, walk_begins, walk_past, walk_ends, walk_on}
 use Rattle.rulesheet.proofs.Repeating.{all_taken}
 use Rattle.ruletexts.proofs.first_by.Goals.{then-is_list+in_default, else-is_list}
 use Rattle.ruletexts.proofs.first_by.Goals as goal

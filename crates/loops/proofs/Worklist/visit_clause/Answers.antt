@@ -1,5 +1,4 @@
 use native.Mathlib.Omega.{arith}
-use Prim.Native.Nat.{◌-◌}
 use Rattle.rulesheet.specs.Sheet.{targets_of}
 use Rattle.unguarded.proofs.Steps.{clause_count, few_schemas}
 use lib.Seq.{take_all}

@@ -1,5 +1,4 @@
 -- `visit_clause` meets its contract. Where i steps were passed, their schemas were visited. Assumes nothing.
-use Prim.Native.Nat.{◌-◌, ◌≤◌}
 use Rattle.rulesheet.specs.Sheet.{targets_of}
 use Rattle.unguarded.specs.Worklist.{Visited}
 use lib.ListN.{take}

@@ -1,6 +1,5 @@
 use native.Mathlib.Omega.{arith}
 use mathlib.Core.Path.{◌≡◌}
-use Prim.Native.Nat.{◌-◌}
 use Rattle.rulesheet.specs.Sheet.{targets_of}
 use Rattle.unguarded.proofs.Steps.{joined, joined_more, next_read, schema_count, few_clauses, clause_read}
 use Rattle.unguarded.proofs.Worklists.{visited_none, visited_more}

@@ -1,5 +1,4 @@
 -- `visit_next` meets its contract. Where j clauses were passed, the schemas that they reach were visited. Assumes nothing.
-use Prim.Native.Nat.{◌-◌, ◌≤◌}
 use Rattle.rulesheet.specs.Sheet.{targets_of}
 use Rattle.unguarded.specs.Worklist.{Visited}
 use Rattle.unguarded.proofs.Steps.{joined}
