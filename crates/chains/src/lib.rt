@@ -5,10 +5,11 @@
 
 ghost use Rattle.std.specs.Prelude.{◌∷◌, [], ◌≡◌, ◌≤◌, ◌<◌, length};
 ghost use Rattle.rulesheet.specs.Sheet.{schemas_word, clauses_word, targets_of, next_of};
+ghost use Rattle.rulesheet.specs.Faults.{schemas_max};
 ghost use Rattle.rulesheet.specs.Read.{RulesLaid};
 ghost use Rattle.unguarded.specs.Graph.{chain_steps};
 ghost use Rattle.unguarded.specs.Places.{chain_place};
-ghost use Rattle.unguarded.specs.Lengths.{Noted, Raised, Passed, Lengths, Ready};
+ghost use Rattle.unguarded.specs.Lengths.{Quiet, Noted, Raised, Passed, Lengths, Ready};
 
 use links::{CHAIN_STEPS, last_step, longer, taker};
 use rulereader::steps::{step_at, steps_of};
@@ -19,47 +20,46 @@ use sheet::record::{RuleRow, wide};
 const FEW: usize = 64;
 
 // Marks schema t if a step from s to it does not lead to a later schema.
-fn mark_late(late: &mut [u8], s: RuleRow, t: RuleRow)
+fn mark_late(late: &mut [bool], s: RuleRow, t: RuleRow)
     requires { t.0 < length late.old }
     ensures { Noted s.0 (t.0 ∷ []) late.old late.new }
 {
     if t.0 <= s.0 {
         let at = wide(t.0);
-        late[at] = 1;
+        late[at] = true;
     }
 }
 
 // The longest chain of schema s, told from `most`, its longest so far, and from those of the schemas
-// that clause k reaches; these are marked if they do not come after s.
+// that clause k reaches; these are marked if they do not come after s. Lengths and marks are two
+// slices, and none of structs, since the lengths are only read here.
 fn clause_length(
     words: &[u32],
     form: RuleForm,
     s: RuleRow,
     k: u32,
     table: &[u8],
-    late: &mut [u8],
+    late: &mut [bool],
     most: u8,
 ) -> u8
     requires { RulesLaid words.now form × (k < clauses_word words.now) × (schemas_word words.now ≤ length table.now) × (schemas_word words.now ≤ length late.old) × (most ≤ chain_steps) }
     ensures { Raised (targets_of words.now k) table.now most result × Noted s.0 (targets_of words.now k) late.old late.new }
 {
-    let n = steps_of(words, form, k);
     let mut long = most;
-    let mut i = 0;
-    while i < n {
+    for i in 0..steps_of(words, form, k) {
         let t = step_at(words, form, k, i);
         let at = wide(t.0);
         long = longer(long, table[at]);
         mark_late(late, s, t);
-        i += 1;
     }
     long
 }
 
 // A pass from the last clause to the first, so that a schema's length is told from those of the
 // schemas that come after it and were passed. The answer says whether one was raised that an earlier
-// one in the pass had asked for: if not, the table is right.
-fn pass(words: &[u32], form: RuleForm, last: u32, table: &mut [u8], late: &mut [u8]) -> bool
+// one in the pass had asked for: if not, the table is right. It goes from one clause that has a step
+// to the next, so no range counts it.
+fn pass(words: &[u32], form: RuleForm, last: u32, table: &mut [u8], late: &mut [bool]) -> bool
     requires { Ready words.now form last table.old late.old }
     ensures { Passed (schemas_word words.now) (next_of words.now) table.old table.new result }
 {
@@ -75,7 +75,7 @@ fn pass(words: &[u32], form: RuleForm, last: u32, table: &mut [u8], late: &mut [
         let long = clause_length(words, form, s, k, table, late, most);
         if most < long {
             table[at] = long;
-            again = again | (late[at] != 0);
+            again |= late[at];
         }
         k = last_step(words, form, k);
     }
@@ -84,43 +84,41 @@ fn pass(words: &[u32], form: RuleForm, last: u32, table: &mut [u8], late: &mut [
 
 // Passes up to the first that leaves the table right. That is the first of all where each step leads to
 // a later schema or to one without steps, and never later than the 32nd.
-fn fill_lengths(words: &[u32], form: RuleForm, last: u32, table: &mut [u8], late: &mut [u8])
+fn fill_lengths(words: &[u32], form: RuleForm, last: u32, table: &mut [u8], late: &mut [bool])
     requires { Ready words.now form last table.old late.old }
     ensures { Lengths (schemas_word words.now) (next_of words.now) table.new }
 {
-    let mut k: u8 = 0;
-    while k < CHAIN_STEPS {
+    for _k in 0..CHAIN_STEPS {
         if !pass(words, form, last, table, late) {
             return;
         }
-        k += 1;
     }
 }
 
-// The lowest schema that starts a chain of 33 schemas, or the number of schemas.
+// The lowest schema that starts a chain of 33 schemas, or the number of schemas, as `lowest` in
+// `chain_place` has it.
 fn first_long(words: &[u32], form: RuleForm, table: &[u8]) -> u32
     requires { RulesLaid words.now form × Lengths (schemas_word words.now) (next_of words.now) table.now }
     ensures { result ≡ chain_place (schemas_word words.now) (next_of words.now) }
 {
-    let m = form.m;
-    let mut s = 0;
-    while s < m {
+    for s in 0..form.m {
         let at = wide(s);
         if table[at] >= CHAIN_STEPS {
             return s;
         }
-        s += 1;
     }
-    s
+    form.m
 }
 
-// The same, from a table that tells no length yet.
-fn long_by(words: &[u32], form: RuleForm, last: u32, table: &mut [u8], late: &mut [u8]) -> u32
-    requires { Ready words.now form last table.old late.old }
+// The same, from nothing, with tables for N schemas. The clauses from `last` on have no step.
+fn long_within<const N: usize>(words: &[u32], form: RuleForm, last: u32) -> u32
+    requires { RulesLaid words.now form × Quiet words.now last (clauses_word words.now) × (form.m ≤ N) × (N ≤ schemas_max) }
     ensures { result ≡ chain_place (schemas_word words.now) (next_of words.now) }
 {
-    fill_lengths(words, form, last, table, late);
-    first_long(words, form, table)
+    let mut table = [0u8; N];
+    let mut late = [false; N];
+    fill_lengths(words, form, last, &mut table, &mut late);
+    first_long(words, form, &table)
 }
 
 // The same, from nothing. Where no clause has a step, no table is needed.
@@ -134,11 +132,7 @@ pub fn long_place(words: &[u32], form: RuleForm) -> u32
         return m;
     }
     if wide(m) <= FEW {
-        let mut table = [0u8; FEW];
-        let mut late = [0u8; FEW];
-        return long_by(words, form, last, &mut table, &mut late);
+        return long_within::<FEW>(words, form, last);
     }
-    let mut table = [0u8; RuleForm::SCHEMAS_MAX];
-    let mut late = [0u8; RuleForm::SCHEMAS_MAX];
-    long_by(words, form, last, &mut table, &mut late)
+    long_within::<{ RuleForm::SCHEMAS_MAX }>(words, form, last)
 }

@@ -1,5 +1,6 @@
 // Clauses of a few codes. Who asks a clause one thing reads only the codes that matter for it, so that
-// reading and asking become one dispatch; each clause of another code reads as `Clause::Never`.
+// reading and asking become one dispatch: over one table of all codes they were two. Each clause of
+// another code reads as `Clause::Never`, and no `None`, since the promises say what `Never` means.
 //
 // Its contracts cite `specs/Asked.antt`.
 #![tactic(auto)]
@@ -13,6 +14,7 @@ ghost use Rattle.few.specs.Asked.{telling, applying, told, sparing, applies_any,
 
 use decimal::Decimal;
 use rulesheet::clause::{Clause, Entries};
+use rulesheet::codes;
 use rulesheet::form::{ClauseRow, RuleForm, clause_at};
 use sheet::record::RuleRow;
 
@@ -27,10 +29,9 @@ pub fn telling_of(words: &[u32], form: RuleForm, k: u32) -> Clause
         first: row.first,
         count: row.count,
     };
-    let code = row.code;
-    match code {
-        40 => Clause::Properties(list),
-        43 => Clause::PrefixItems(list),
+    match row.code {
+        codes::PROPERTIES => Clause::Properties(list),
+        codes::PREFIX_ITEMS => Clause::PrefixItems(list),
         _ => Clause::Never,
     }
 }
@@ -43,16 +44,15 @@ pub fn told_of(words: &[u32], form: RuleForm, k: u32) -> Clause
 {
     let row = clause_at(words, form, k);
     let schema = RuleRow(row.first);
-    let code = row.code;
-    match code {
-        42 => Clause::AdditionalProperties(schema),
-        44 => Clause::Items(schema),
+    match row.code {
+        codes::ADDITIONAL_PROPERTIES => Clause::AdditionalProperties(schema),
+        codes::ITEMS => Clause::Items(schema),
         _ => Clause::Never,
     }
 }
 
 // The least code that applies schemas: those below it are tests.
-const APPLYING: u32 = 30;
+const APPLYING: u32 = codes::ALL_OF;
 
 // Whether the clause of these words, which breaks no layout, applies schemas.
 pub fn applies(row: ClauseRow) -> bool
@@ -70,22 +70,21 @@ pub fn applied_by(row: ClauseRow) -> Clause
         first: row.first,
         count: row.count,
     };
-    let code = row.code;
-    match code {
-        30 => Clause::AllOf(entries),
-        31 => Clause::AnyOf(entries),
-        32 => Clause::OneOf(entries),
-        33 => Clause::Not(schema),
-        34 => Clause::Ref(schema),
-        36 => Clause::IfThenElse(entries),
-        37 => Clause::DependentSchemas(entries),
-        40 => Clause::Properties(entries),
-        42 => Clause::AdditionalProperties(schema),
-        43 => Clause::PrefixItems(entries),
-        44 => Clause::Items(schema),
-        45 => Clause::Contains(entries),
-        60 => Clause::UnevaluatedProperties(schema),
-        61 => Clause::UnevaluatedItems(schema),
+    match row.code {
+        codes::ALL_OF => Clause::AllOf(entries),
+        codes::ANY_OF => Clause::AnyOf(entries),
+        codes::ONE_OF => Clause::OneOf(entries),
+        codes::NOT => Clause::Not(schema),
+        codes::REF => Clause::Ref(schema),
+        codes::IF_THEN_ELSE => Clause::IfThenElse(entries),
+        codes::DEPENDENT_SCHEMAS => Clause::DependentSchemas(entries),
+        codes::PROPERTIES => Clause::Properties(entries),
+        codes::ADDITIONAL_PROPERTIES => Clause::AdditionalProperties(schema),
+        codes::PREFIX_ITEMS => Clause::PrefixItems(entries),
+        codes::ITEMS => Clause::Items(schema),
+        codes::CONTAINS => Clause::Contains(entries),
+        codes::UNEVALUATED_PROPERTIES => Clause::UnevaluatedProperties(schema),
+        codes::UNEVALUATED_ITEMS => Clause::UnevaluatedItems(schema),
         _ => Clause::Never,
     }
 }
@@ -99,13 +98,12 @@ pub fn sparing_by(row: ClauseRow) -> Clause
         first: row.first,
         count: row.count,
     };
-    let code = row.code;
-    match code {
-        31 => Clause::AnyOf(entries),
-        32 => Clause::OneOf(entries),
-        33 => Clause::Not(schema),
-        36 => Clause::IfThenElse(entries),
-        45 => Clause::Contains(entries),
+    match row.code {
+        codes::ANY_OF => Clause::AnyOf(entries),
+        codes::ONE_OF => Clause::OneOf(entries),
+        codes::NOT => Clause::Not(schema),
+        codes::IF_THEN_ELSE => Clause::IfThenElse(entries),
+        codes::CONTAINS => Clause::Contains(entries),
         _ => Clause::Never,
     }
 }
@@ -118,19 +116,18 @@ pub fn plain_of(words: &[u32], form: RuleForm, k: u32) -> Clause
     let row = clause_at(words, form, k);
     let first = row.first;
     let count = row.count;
-    let code = row.code;
-    match code {
-        2 => Clause::Types(first),
-        10 => Clause::Minimum(Decimal::of_word(first, count)),
-        11 => Clause::Maximum(Decimal::of_word(first, count)),
-        12 => Clause::ExclusiveMinimum(Decimal::of_word(first, count)),
-        13 => Clause::ExclusiveMaximum(Decimal::of_word(first, count)),
-        20 => Clause::MinLength(first),
-        21 => Clause::MaxLength(first),
-        22 => Clause::MinItems(first),
-        23 => Clause::MaxItems(first),
-        24 => Clause::MinProperties(first),
-        25 => Clause::MaxProperties(first),
+    match row.code {
+        codes::TYPE => Clause::Types(first),
+        codes::MINIMUM => Clause::Minimum(Decimal::of_word(first, count)),
+        codes::MAXIMUM => Clause::Maximum(Decimal::of_word(first, count)),
+        codes::EXCLUSIVE_MINIMUM => Clause::ExclusiveMinimum(Decimal::of_word(first, count)),
+        codes::EXCLUSIVE_MAXIMUM => Clause::ExclusiveMaximum(Decimal::of_word(first, count)),
+        codes::MIN_LENGTH => Clause::MinLength(first),
+        codes::MAX_LENGTH => Clause::MaxLength(first),
+        codes::MIN_ITEMS => Clause::MinItems(first),
+        codes::MAX_ITEMS => Clause::MaxItems(first),
+        codes::MIN_PROPERTIES => Clause::MinProperties(first),
+        codes::MAX_PROPERTIES => Clause::MaxProperties(first),
         _ => Clause::Never,
     }
 }

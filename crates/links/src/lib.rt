@@ -17,19 +17,18 @@ use sheet::record::RuleRow;
 // The steps of a chain that is refused; it has one schema more.
 pub const CHAIN_STEPS: u8 = 32;
 
-// One past the last of the first `to` clauses that has a step; 0 if none has.
+// One past the last of the first `to` clauses that has a step; 0 if none has. It is a bound and no
+// Option: the clauses from it on have no step.
 pub fn last_step(words: &[u32], form: RuleForm, to: u32) -> u32
     requires { RulesLaid words.now form × (to ≤ clauses_word words.now) }
     ensures { Quiet words.now result to }
 {
-    let mut k = to;
-    while 0 < k {
-        if steps_of(words, form, k - 1) != 0 {
-            return k;
+    for k in (0..to).rev() {
+        if steps_of(words, form, k) != 0 {
+            return k + 1;
         }
-        k -= 1;
     }
-    k
+    0
 }
 
 // The schema that takes clause k, if those after `last` start after it.
@@ -37,14 +36,12 @@ pub fn taker(words: &[u32], form: RuleForm, last: RuleRow, k: u32) -> RuleRow
     requires { RulesLaid words.now form × (last.0 < schemas_word words.now) × (k < clauses_word words.now) × StartAfter words.now last.0 k }
     ensures { Takes words.now result.0 k }
 {
-    let mut s = last.0;
-    while 0 < s {
+    for s in (1..=last.0).rev() {
         if schema_at(words, form, RuleRow(s)).first <= k {
             return RuleRow(s);
         }
-        s -= 1;
     }
-    RuleRow(s)
+    RuleRow(0)
 }
 
 // The longer of `most` and a chain with one step more than `length`, as far as lengths are told.

@@ -9,7 +9,7 @@ ghost use Rattle.rulesheet.specs.Faults.{schemas_max};
 ghost use Rattle.rulesheet.specs.Read.{RulesLaid};
 ghost use Rattle.unguarded.specs.Graph.{on_loop};
 ghost use Rattle.unguarded.specs.Places.{loop_place, Placed};
-ghost use Rattle.unguarded.specs.Worklist.{Tidy, Visited};
+ghost use Rattle.unguarded.specs.Worklist.{mark_count};
 
 use chains::long_place;
 use rulereader::steps::{step_at, steps_of};
@@ -17,105 +17,94 @@ use rulesheet::form::{RuleForm, schema_at};
 use sheet::record::{RuleRow, wide};
 use unguarded::Unguarded;
 
-// Marks schema t and puts it at the queue's end, if it has no mark yet. The answer is where the
-// queue ends then.
-fn visit(
-    seen: &mut [u8; RuleForm::SCHEMAS_MAX],
-    queue: &mut [u32; RuleForm::SCHEMAS_MAX],
+// A worklist: a mark for each schema that was visited, and the first `tail` of the queue are those
+// schemas, in the order in which they were. `Tidied` says so; it is no ghost field, since it holds at
+// which place of the queue each stands, and a ghost field must be a proposition.
+#[derive(Drop)]
+struct Worklist {
+    seen: [bool; RuleForm::SCHEMAS_MAX],
+    queue: [u32; RuleForm::SCHEMAS_MAX],
     tail: usize,
-    t: RuleRow,
-) -> usize
-    requires { Tidy seen.old queue.old tail × (t.0 < schemas_max) }
-    ensures { Visited (t.0 ∷ []) seen.old queue.old tail seen.new queue.new result }
-{
-    let at = wide(t.0);
-    if seen[at] != 0 {
-        return tail;
-    }
-    seen[at] = 1;
-    queue[tail] = t.0;
-    tail + 1
 }
 
-// Visits all that clause k reaches.
-fn visit_clause(
-    words: &[u32],
-    form: RuleForm,
-    k: u32,
-    seen: &mut [u8; RuleForm::SCHEMAS_MAX],
-    queue: &mut [u32; RuleForm::SCHEMAS_MAX],
-    tail: usize,
-) -> usize
-    requires { RulesLaid words.now form × (k < clauses_word words.now) × Tidy seen.old queue.old tail }
-    ensures { Visited (targets_of words.now k) seen.old queue.old tail seen.new queue.new result }
-{
-    let n = steps_of(words, form, k);
-    let mut end = tail;
-    let mut i = 0;
-    while i < n {
-        end = visit(seen, queue, end, step_at(words, form, k, i));
-        i += 1;
-    }
-    end
-}
+impl Worklist {
+    ghost use Rattle.loops.specs.Visits.{Tidied, Visits};
 
-// Visits all that schema s reaches in one step.
-fn visit_next(
-    words: &[u32],
-    form: RuleForm,
-    s: RuleRow,
-    seen: &mut [u8; RuleForm::SCHEMAS_MAX],
-    queue: &mut [u32; RuleForm::SCHEMAS_MAX],
-    tail: usize,
-) -> usize
-    requires { RulesLaid words.now form × (s.0 < schemas_word words.now) × Tidy seen.old queue.old tail }
-    ensures { Visited (next_of words.now s.0) seen.old queue.old tail seen.new queue.new result }
-{
-    let row = schema_at(words, form, s);
-    let first = row.first;
-    let n = row.count;
-    let mut end = tail;
-    let mut j = 0;
-    while j < n {
-        end = visit_clause(words, form, first + j, seen, queue, end);
-        j += 1;
+    // One in which nothing was visited.
+    fn new() -> Worklist
+        ensures { Tidied result × (mark_count result.seen ≡ 0) × (result.tail ≡ 0) }
+    {
+        Worklist {
+            seen: [false; RuleForm::SCHEMAS_MAX],
+            queue: [0; RuleForm::SCHEMAS_MAX],
+            tail: 0,
+        }
     }
-    end
+
+    // Marks schema t and puts it at the queue's end, if it has no mark yet.
+    fn visit(&mut self, t: RuleRow)
+        requires { Tidied self.old × (t.0 < schemas_max) }
+        ensures { Visits (t.0 ∷ []) self.old self.new }
+    {
+        let at = wide(t.0);
+        if !self.seen[at] {
+            self.seen[at] = true;
+            self.queue[self.tail] = t.0;
+            self.tail += 1;
+        }
+    }
+
+    // Visits all that clause k reaches.
+    fn visit_clause(&mut self, words: &[u32], form: RuleForm, k: u32)
+        requires { RulesLaid words.now form × (k < clauses_word words.now) × Tidied self.old }
+        ensures { Visits (targets_of words.now k) self.old self.new }
+    {
+        for i in 0..steps_of(words, form, k) {
+            self.visit(step_at(words, form, k, i));
+        }
+    }
+
+    // Visits all that schema s reaches in one step.
+    fn visit_next(&mut self, words: &[u32], form: RuleForm, s: RuleRow)
+        requires { RulesLaid words.now form × (s.0 < schemas_word words.now) × Tidied self.old }
+        ensures { Visits (next_of words.now s.0) self.old self.new }
+    {
+        let row = schema_at(words, form, s);
+        for j in 0..row.count {
+            self.visit_clause(words, form, row.first + j);
+        }
+    }
 }
 
 // Whether schema s is on a loop: each schema that s reaches is visited once, and s is on a loop if
-// it was among them.
+// it was among them. The queue grows while it is gone through, so its end is asked for at each turn.
 fn on_loop(words: &[u32], form: RuleForm, s: RuleRow) -> bool
     requires { RulesLaid words.now form × (s.0 < schemas_word words.now) }
     ensures { result ≡ on_loop (schemas_word words.now) (next_of words.now) s.0 }
 {
-    let mut seen = [0u8; RuleForm::SCHEMAS_MAX];
-    let mut queue = [0u32; RuleForm::SCHEMAS_MAX];
-    let mut tail = visit_next(words, form, s, &mut seen, &mut queue, 0);
+    let mut list = Worklist::new();
+    list.visit_next(words, form, s);
     let mut head = 0;
-    while head < tail {
-        let u = queue[head];
-        tail = visit_next(words, form, RuleRow(u), &mut seen, &mut queue, tail);
+    while head < list.tail {
+        let u = list.queue[head];
+        list.visit_next(words, form, RuleRow(u));
         head += 1;
     }
     let at = wide(s.0);
-    seen[at] != 0
+    list.seen[at]
 }
 
-// The lowest schema on a loop, or the number of schemas.
+// The lowest schema on a loop, or the number of schemas, as `lowest` in `loop_place` has it.
 fn first_loop(words: &[u32], form: RuleForm) -> u32
     requires { RulesLaid words.now form }
     ensures { result ≡ loop_place (schemas_word words.now) (next_of words.now) }
 {
-    let m = form.m;
-    let mut s = 0;
-    while s < m {
+    for s in 0..form.m {
         if on_loop(words, form, RuleRow(s)) {
             return s;
         }
-        s += 1;
     }
-    s
+    form.m
 }
 
 // The places of refusals 8 and 9. A loop has chains of every length, so loops are sought only where
@@ -131,6 +120,6 @@ pub fn check_unguarded(words: &[u32], form: RuleForm) -> Unguarded
     }
     Unguarded {
         looped: first_loop(words, form),
-        long: long,
+        long,
     }
 }

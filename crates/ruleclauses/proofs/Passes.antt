@@ -23,13 +23,12 @@ use Rattle.rulesheet.specs.declared.code.Shape.{Shape}
 use Rattle.rulesheet.specs.declared.form.SchemaRow.{SchemaRow}
 use Rattle.rulesheet.specs.declared.form.ClauseRow.{ClauseRow}
 use Rattle.rulesheet.specs.declared.form.RuleForm.{RuleForm}
-use Rattle.ruleclauses.specs.declared.Passed.{Passed}
-use Rattle.ruleclauses.specs.declared.Passed.TheVariants.{Fault, Next}
+use Rattle.std.proofs.Common.{Option, Some, None}
 use Rattle.rulesheet.specs.Codes.{shape_of}
 use Rattle.rulesheet.specs.Sheet.{schemas_word, schema_at, clause_at}
 use Rattle.rulesheet.specs.Faults.{is_list, fields_ok, fields_at, rises, list_start, list_ok, clause_fine_in, clause_fault}
 use Rattle.rulesheet.specs.Read.{RulesFormed, SchemasLaid}
-use Rattle.ruleclauses.specs.Passes.{passed, passed_by, ClausesPassed}
+use Rattle.ruleclauses.specs.Passes.{passed, passed_by, ClausesPassed, ClauseFaulty}
 use Rattle.rulesheet.proofs.Trailers.{form_m, form_c, form_e}
 use Rattle.rulesheet.proofs.Taking.{schema_within, clause_asked, next_list}
 
@@ -66,18 +65,18 @@ module _ (ws : List ℕ) (form : RuleForm) (formed : RulesFormed ws form) (start
 
 -- its two tests, and where the next list starts
 module _ (fit listed : Bool) (n : ℕ) where
-  one_fails : (risen : Bool) → passed (fit && listed) n ≡ Fault → (fit && (risen && listed)) ≡ false
+  one_fails : (risen : Bool) → passed (fit && listed) n ≡ None → (fit && (risen && listed)) ≡ false
   one_fails = cases fit listed
     where
-      cases : (a c b : Bool) → passed (a && c) n ≡ Fault → (a && (b && c)) ≡ false
+      cases : (a c b : Bool) → passed (a && c) n ≡ None → (a && (b && c)) ≡ false
       cases true true b e = cc
       cases true false b e = and-false b
       cases false c b e = refl
 
-  both_hold : {next : ℕ} → passed (fit && listed) n ≡ Next next → ((fit && listed) ≡ true) × (next ≡ n)
+  both_hold : {next : ℕ} → passed (fit && listed) n ≡ Some next → ((fit && listed) ≡ true) × (next ≡ n)
   both_hold {next} = cases (fit && listed)
     where
-      cases : (a : Bool) → passed a n ≡ Next next → (a ≡ true) × (next ≡ n)
+      cases : (a : Bool) → passed a n ≡ Some next → (a ≡ true) × (next ≡ n)
       cases true e = (refl, cc)
       cases false e = (cc, cc)
 
@@ -96,15 +95,15 @@ module _ (ws : List ℕ) (first start k : ℕ) where
   unfolding clause_fine_in
   fallen e = rw e (and-false fit)
 
-  faulty : passed_by ws start (clause_at ws k) ≡ Fault → clause_fine_in ws first start k ≡ false
+  faulty : passed_by ws start (clause_at ws k) ≡ None → clause_fine_in ws first start k ≡ false
   unfolding clause_fine_in
   faulty e = one_fails fit listed after (rises ws first k) e
 
-  fine : {next : ℕ} → rises ws first k ≡ true → passed_by ws start (clause_at ws k) ≡ Next next → clause_fine_in ws first start k ≡ true
+  fine : {next : ℕ} → rises ws first k ≡ true → passed_by ws start (clause_at ws k) ≡ Some next → clause_fine_in ws first start k ≡ true
   unfolding clause_fine_in
   fine r e = rw r (both_hold fit listed after e).0
 
-  starts_next : {next : ℕ} → start ≡ list_start ws k → passed_by ws start (clause_at ws k) ≡ Next next → next ≡ list_start ws (k + 1)
+  starts_next : {next : ℕ} → start ≡ list_start ws k → passed_by ws start (clause_at ws k) ≡ Some next → next ≡ list_start ws (k + 1)
   starts_next {next} at e = next_list ws k start next at (both_hold fit listed after e).1
 
 -- ---- the clauses of a schema
@@ -145,28 +144,28 @@ module _ (ws : List ℕ) (form : RuleForm) (laid : SchemasLaid ws form) (s : ℕ
     asked : {r : Bool} → clause_fine_in ws row.first start k ≡ r → clause_fault ws k ≡ not r
     asked {r} e = ap not (clause_asked ws form laid s k start row r inside read g.low more g.at_start (sym e))
 
-    stopped : clause_fine_in ws row.first start k ≡ false → ClausesPassed ws s (record { fault = k; start = start })
+    stopped : clause_fine_in ws row.first start k ≡ false → ClauseFaulty ws s k
     stopped e =
         record {
           fault_is =
               rw (← read)
               (sym (begun (clause_fault ws) row.count row.first ∙ g.rest ∙ found (clause_fault ws) (row.first + row.count) k more (asked e)));
-          start_is = λ h. absurd (omega (arith, h, ap (λ (x : SchemaRow). x.first) read, ap (λ (x : SchemaRow). x.count) read));
+          inside = omega (arith, more, ap (λ (x : SchemaRow). x.first) read, ap (λ (x : SchemaRow). x.count) read);
         }
 
     risen : (eqb k row.first || ltb last clause.code) ≡ rises ws row.first k
     risen = rw here (code_rises ws row.first last k g.low g.before)
 
-    passing : {r p : Passed} → r ≡ passed_by ws start clause → r ≡ p → passed_by ws start (clause_at ws k) ≡ p
+    passing : {r p : Option ℕ} → r ≡ passed_by ws start clause → r ≡ p → passed_by ws start (clause_at ws k) ≡ p
     passing e f = rw (← here, ← e) f
 
-    pub going_falls : (eqb k row.first || ltb last clause.code) ≡ false → ClausesPassed ws s (record { fault = k; start = start })
+    pub going_falls : (eqb k row.first || ltb last clause.code) ≡ false → ClauseFaulty ws s k
     going_falls e = stopped (fallen ws row.first start k (sym risen ∙ e))
 
-    pub going_stops : {r : Passed} → r ≡ passed_by ws start clause → r ≡ Fault → ClausesPassed ws s (record { fault = k; start = start })
+    pub going_stops : {r : Option ℕ} → r ≡ passed_by ws start clause → r ≡ None → ClauseFaulty ws s k
     going_stops e f = stopped (faulty ws row.first start k (passing e f))
 
-    pub going_on : {r : Passed} {next : ℕ} → (eqb k row.first || ltb last clause.code) ≡ true → r ≡ passed_by ws start clause → r ≡ Next next
+    pub going_on : {r : Option ℕ} {next : ℕ} → (eqb k row.first || ltb last clause.code) ≡ true → r ≡ passed_by ws start clause → r ≡ Some next
         → Gone next clause.code (k + 1)
     going_on {r} {next} t e f =
         record {
@@ -177,10 +176,10 @@ module _ (ws : List ℕ) (form : RuleForm) (laid : SchemasLaid ws form) (s : ℕ
           before = λ n. ap (λ (x : ClauseRow). x.code) here ∙ ap (λ (i : ℕ). (clause_at ws i).code) (omega arith);
         }
 
-  pub going_ends : {start last k : ℕ} → Gone start last k → row.first + row.count ≤ k → ClausesPassed ws s (record { fault = k; start = start })
+  pub going_ends : {start last k : ℕ} → Gone start last k → row.first + row.count ≤ k → ClausesPassed ws s start
   going_ends {start} {last} {k} g past =
+      let there : k ≡ row.first + row.count = omega (arith, g.high) in
       record {
-        fault_is =
-            rw (← read) (sym (begun (clause_fault ws) row.count row.first ∙ g.rest ∙ ended (clause_fault ws) (row.first + row.count) k past));
-        start_is = λ h. g.at_start ∙ ap (list_start ws) (omega (arith, g.high, ap (λ (x : SchemaRow). x.first) read, ap (λ (x : SchemaRow). x.count) read));
+        none_is = rw (← read) (sym (begun (clause_fault ws) row.count row.first ∙ g.rest ∙ ended (clause_fault ws) (row.first + row.count) k past ∙ there));
+        start_is = g.at_start ∙ ap (list_start ws) (there ∙ rw read);
       }

@@ -12,7 +12,7 @@ use rulesheet::form::{RuleForm, clause_at};
 use sheet::record::wide;
 
 // The lowest entry of clause k, whose entries have names, whose name an earlier one has, or where
-// they end.
+// they end: no Option, since `namesakes` tells it so too.
 fn first_repeated_in(words: &[u32], text: &[u8], form: RuleForm, k: u32) -> u32
     requires rules_laid { RulesLaid words.now form × (length text.now ≡ text_word words.now) }
     requires clause_named { (k < form.c) × (is_named (fields_at words.now k) ≡ true) }
@@ -24,25 +24,16 @@ fn first_repeated_in(words: &[u32], text: &[u8], form: RuleForm, k: u32) -> u32
         stride: RuleForm::ENTRY_WORDS,
         count: wide(clause.count),
     };
-    clause.first + narrow(namesakes::first_repeated(words, text, lying))
+    clause.first + namesakes::first_repeated(words, text, lying) as u32
 }
 
-// A number of entries as a word.
-fn narrow(count: usize) -> u32
-    requires { count < 4294967296 }
-    ensures { result ≡ count }
-{
-    count as u32
-}
-
-// The lowest entry whose name an earlier entry of its clause has, or the number of entries.
+// The lowest entry whose name an earlier entry of its clause has, or the number of entries, as
+// `lowest` in the promise has it.
 pub fn first_repeated_entry(words: &[u32], text: &[u8], form: RuleForm) -> u32
     requires { RulesLaid words.now form × (length text.now ≡ text_word words.now) }
     ensures { result ≡ lowest (repeated words.now text.now) (entries_word words.now) }
 {
-    let c = form.c;
-    let mut k = 0;
-    while k < c {
+    for k in 0..form.c {
         let clause = clause_at(words, form, k);
         let shape = shape_of(clause.code);
         let fields = shape.fields;
@@ -52,7 +43,6 @@ pub fn first_repeated_entry(words: &[u32], text: &[u8], form: RuleForm) -> u32
                 return again;
             }
         }
-        k += 1;
     }
     form.e
 }

@@ -18,48 +18,40 @@ use sheet::record::{RuleRow, wide};
 fn trailer_fits(size: usize, m: u32, c: u32, e: u32, back: u32, kind: u32) -> bool
     ensures { result ≡ trailer_fits size m c e back kind }
 {
-    let schemas = m as usize;
-    let clauses = c as usize;
-    let entries = e as usize;
-    let b = back as usize;
+    let schemas = wide(m);
+    let clauses = wide(c);
+    let entries = wide(e);
+    let back = wide(back);
     let sum = RuleForm::SCHEMA_WORDS * schemas
         + RuleForm::CLAUSE_WORDS * clauses
         + RuleForm::ENTRY_WORDS * entries;
     (kind == RuleForm::KIND)
         & (((1 <= schemas) & (schemas <= RuleForm::SCHEMAS_MAX))
             & (((clauses <= RuleForm::PARTS_MAX) & (entries <= RuleForm::PARTS_MAX))
-                & ((b == sum) & (b + RuleForm::TRAILER_WORDS <= size))))
+                & ((back == sum) & (back + RuleForm::TRAILER_WORDS <= size))))
 }
 
 // Whether the trailer is in order, over a text of `size` bytes.
 pub fn trailer_ok(words: &[u32], size: usize) -> bool
     ensures { result ≡ (words_ok words.now && text_ok words.now size) }
 {
-    let n = words.len();
-    if n < RuleForm::TRAILER_WORDS {
-        return false;
+    match words {
+        [.., m, c, e, back, said, kind] => {
+            trailer_fits(words.len(), *m, *c, *e, *back, *kind)
+                & ((wide(*said) == size) & (size <= TEXT_MAX))
+        }
+        _ => false,
     }
-    let said = wide(words[n - 2]);
-    trailer_fits(
-        n,
-        words[n - 6],
-        words[n - 5],
-        words[n - 4],
-        words[n - 3],
-        words[n - 1],
-    ) & ((said == size) & (size <= TEXT_MAX))
 }
 
-// The lowest schema at fault, or the number of schemas.
+// The lowest schema at fault, or the number of schemas, as `lowest` in the promise has it.
 pub fn first_bad_schema(words: &[u32], form: RuleForm) -> u32
     requires { RulesFormed words.now form }
     ensures { result ≡ lowest (schema_fault words.now) (schemas_word words.now) }
 {
-    let m = form.m;
     let c = wide(form.c);
-    let mut start: usize = 0;
-    let mut s = 0;
-    while s < m {
+    let mut start = 0;
+    for s in 0..form.m {
         let row = schema_at(words, form, RuleRow(s));
         let first = wide(row.first);
         let end = first + wide(row.count);
@@ -67,7 +59,6 @@ pub fn first_bad_schema(words: &[u32], form: RuleForm) -> u32
             return s;
         }
         start = end;
-        s += 1;
     }
-    s
+    form.m
 }

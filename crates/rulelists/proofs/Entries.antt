@@ -12,9 +12,10 @@
 -- Assumes nothing.
 use mathlib.Core.Bool.{true, false, not}
 use mathlib.Core.List.{List}
-use mathlib.Core.Path.{◌≡◌, refl, sym, ap, ◌∙◌}
-use Prim.Native.Nat.{ℕ, ◌+◌, ◌-◌, ◌*◌, ◌≤◌, ◌<◌}
+use mathlib.Core.Path.{◌≡◌, sym, ap, ◌∙◌}
+use Prim.Native.Nat.{ℕ, ◌+◌, ◌*◌, ◌≤◌, ◌<◌}
 use native.Mathlib.Omega.{arith}
+use Rattle.std.specs.Prelude.{Option, Some, None, is_some}
 use lib.Dec.{eqb, ltb}
 use borrow.Author.Count.{below_more}
 use borrow.Author.Tests.{not-false, eq-eqb, ltb-true}
@@ -32,16 +33,16 @@ use Rattle.rulesheet.specs.declared.code.Fields.{Fields}
 use Rattle.rulesheet.specs.declared.form.RuleForm.{RuleForm}
 use Rattle.rulesheet.specs.Sheet.{entry_words, schemas_word, entries_word, text_word, entry_at}
 use Rattle.rulesheet.specs.Faults.{is_named, entry_ok}
+use Rattle.rulesheet.specs.Found.{FoundIn}
 use Rattle.rulesheet.specs.Read.{RulesFormed}
 use Rattle.rulesheet.proofs.Repeating.{named_fits}
 use Rattle.ruleentries.proofs.Naming.{lie_repeats}
 use Rattle.rulelists.specs.Lists.{bound_of, named_ok, AllNamed, key_of, NamesFit, NamesDiffer, ListFine}
 
-pub entries_ok : (ws : List ℕ) (fields : Fields) (size m first count end r : ℕ) → end ≡ first + count
-    → r ≡ lowest_from (λ x. not (entry_ok fields size m (entry_at ws x))) (end - first) first → end ≤ r
+pub entries_ok : (ws : List ℕ) (fields : Fields) (size m first count : ℕ) → first + count ≡ lowest_from (λ x. not (entry_ok fields size m (entry_at ws x))) count first
     → (x : ℕ) → first ≤ x → x < first + count → entry_ok fields size m (entry_at ws x) ≡ true
-entries_ok ws fields size m first count end r ends e none x low high =
-    not-false (entry_ok fields size m (entry_at ws x)) (clear_below (λ y. not (entry_ok fields size m (entry_at ws y))) (end - first) first x low (omega arith) (omega arith))
+entries_ok ws fields size m first count none x low high =
+    not-false (entry_ok fields size m (entry_at ws x)) (clear_below (λ y. not (entry_ok fields size m (entry_at ws y))) count first x low high (omega arith))
 
 pub few_differ : (ws ts : List ℕ) (first count : ℕ) → count ≤ 1 → NamesDiffer ws ts first count
 unfolding repeats_by lowest_from
@@ -66,11 +67,12 @@ module _ (ws : List ℕ) (fields : Fields) (first count : ℕ) (ok : (x : ℕ) �
       no : is_named fields ≡ true → ⊥
       no t = let z : ◌≡◌ {A = ℕ} 0 1 = cc in omega arith
 
-pub all_in_order : (ws ts : List ℕ) (fields : Fields) (first count r : ℕ) → is_named fields ≡ false
-    → r ≡ lowest_from (λ x. not (entry_ok fields (text_word ws) (schemas_word ws) (entry_at ws x))) (first + count - first) first → first + count ≤ r
+pub all_in_order : (ws ts : List ℕ) (fields : Fields) (first count : ℕ) (bad : Option ℕ) → is_named fields ≡ false
+    → FoundIn (λ x. not (entry_ok fields (text_word ws) (schemas_word ws) (entry_at ws x))) count first bad → is_some bad ≡ false
     → ListFine ws ts fields first count
-all_in_order ws ts fields first count r none e end =
-    unnamed_fine ws fields first count (entries_ok ws fields (text_word ws) (schemas_word ws) first count (first + count) r refl e end) ts none
+all_in_order ws ts fields first count None unnamed e none =
+    unnamed_fine ws fields first count (entries_ok ws fields (text_word ws) (schemas_word ws) first count e) ts unnamed
+all_in_order ws ts fields first count (Some x) unnamed e none = cc
 
 -- ---- entries that have names
 

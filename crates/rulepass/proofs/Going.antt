@@ -122,7 +122,7 @@ module _ (ws ts : List ℕ) (s first end so_far : ℕ) (at_first : first ≡ (sc
       }
 
   pub gone_ends : {start steps last k : ℕ} → Gone ws ts s first end so_far start steps last k → end ≡ first + (schema_at ws s).count → end ≤ k
-      → SchemaPassed ws ts s so_far (record { fine = true; start = start; steps = steps })
+      → SchemaPassed ws ts s so_far (record { start = start; steps = steps })
   gone_ends {start} {steps} {last} {k} g ends past =
       let e : k ≡ (schema_at ws s).first + (schema_at ws s).count = omega (arith, g.high) in
       record { next = g.at_start ∙ ap (list_start ws) e; passed = subst (λ n. PassedTo ws ts s n so_far steps) e g.passed }

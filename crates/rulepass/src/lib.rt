@@ -5,26 +5,25 @@
 // Its contracts cite `specs/Pass.antt`.
 #![tactic(auto)]
 
-ghost use Rattle.std.specs.Prelude.{true, false, ◌≡◌, ◌+◌, ◌≤◌, ◌<◌, length};
+ghost use Rattle.std.specs.Prelude.{true, ◌≡◌, ◌+◌, ◌≤◌, length, IfSome};
 ghost use Rattle.rulesheet.specs.Sheet.{text_word, schema_at};
 ghost use Rattle.rulesheet.specs.Codes.{shape_of};
-ghost use Rattle.rulesheet.specs.Faults.{is_list, is_named, list_start};
+ghost use Rattle.rulesheet.specs.Faults.{is_list, list_start};
 ghost use Rattle.rulesheet.specs.Read.{RulesFormed};
 ghost use Rattle.rulepass.specs.Pass.{listed_by, ClausePassed, SchemaPassed, Told};
 
 use ruleclauses::fields_ok;
 use rulecodes::shape_of;
-use rulelists::{entries_fine, named_fine};
+use rulelists::entries_fine;
+use rulesheet::clause::Entries;
 use rulesheet::code::Shape;
-use rulesheet::form::{ClauseRow, RuleForm, clause_at, schema_at};
+use rulesheet::form::{ClauseRow, RuleForm, SchemaRow, clause_at, schema_at};
 use rulesteps::{MANY, after_list, after_one};
 use sheet::record::{RuleRow, wide};
 
-// How far a pass has come: whether all was in order, where the next list starts, and how many
-// clauses had steps.
+// How far a pass has come: where the next list starts, and how many clauses had steps.
 #[derive(Clone, Copy)]
 pub struct Pass {
-    pub fine: bool,
     pub start: u32,
     pub steps: u32,
 }
@@ -34,6 +33,14 @@ pub struct Pass {
 pub struct Order {
     pub laid: bool,
     pub short: bool,
+}
+
+impl Order {
+    // Neither is told.
+    const NEITHER: Order = Order {
+        laid: false,
+        short: false,
+    };
 }
 
 // Whether the entries of a list clause start where the next list does, end within the sheet's, and
@@ -48,37 +55,6 @@ fn listed(form: RuleForm, clause: ClauseRow, shape: Shape, start: u32) -> bool
             & ((shape.least <= count) & (count <= shape.most)))
 }
 
-// Passes a list clause whose entries have names and which has no steps.
-fn pass_named(
-    words: &[u32],
-    text: &[u8],
-    form: RuleForm,
-    s: RuleRow,
-    clause: ClauseRow,
-    shape: Shape,
-    start: u32,
-    steps: u32,
-) -> Pass
-    requires { RulesFormed words.now form × (length text.now ≡ text_word words.now) × (shape ≡ shape_of clause.code) × (is_list shape.fields ≡ true) × (is_named shape.fields ≡ true) × (shape.unguarded ≡ false) }
-    ensures { result.fine ≡ true → ClausePassed words.now text.now s.0 clause start steps result }
-{
-    let first = clause.first;
-    let count = clause.count;
-    if !listed(form, clause, shape, start) {
-        return Pass {
-            fine: false,
-            start: start,
-            steps: steps,
-        };
-    }
-    let fields = shape.fields;
-    Pass {
-        fine: named_fine(words, text, form, fields, first, count),
-        start: first + count,
-        steps: steps,
-    }
-}
-
 // Passes a list clause of schema s.
 fn pass_list(
     words: &[u32],
@@ -87,29 +63,25 @@ fn pass_list(
     s: RuleRow,
     clause: ClauseRow,
     shape: Shape,
-    start: u32,
-    steps: u32,
-) -> Pass
+    from: Pass,
+) -> Option<Pass>
     requires { RulesFormed words.now form × (length text.now ≡ text_word words.now) × (shape ≡ shape_of clause.code) × (is_list shape.fields ≡ true) }
-    ensures { result.fine ≡ true → ClausePassed words.now text.now s.0 clause start steps result }
+    ensures { IfSome result (ClausePassed words.now text.now s.0 clause from.start from.steps) }
 {
-    let first = clause.first;
-    let count = clause.count;
-    if !listed(form, clause, shape, start) {
-        return Pass {
-            fine: false,
-            start: start,
-            steps: steps,
-        };
+    if !listed(form, clause, shape, from.start) {
+        return None;
     }
-    let end = first + count;
-    let fields = shape.fields;
-    let fine = entries_fine(words, text, form, fields, first, count);
-    Pass {
-        fine: fine,
-        start: end,
-        steps: after_list(words, form, s, shape.unguarded, fields, first, end, steps),
+    let list = Entries {
+        first: clause.first,
+        count: clause.count,
+    };
+    if !entries_fine(words, text, form, shape.fields, list) {
+        return None;
     }
+    Some(Pass {
+        start: list.first + list.count,
+        steps: after_list(words, form, s, shape, list, from.steps),
+    })
 }
 
 // Passes a clause of schema s, but for the rise of its code.
@@ -119,25 +91,22 @@ fn pass_clause(
     form: RuleForm,
     s: RuleRow,
     clause: ClauseRow,
-    start: u32,
-    steps: u32,
-) -> Pass
+    from: Pass,
+) -> Option<Pass>
     requires { RulesFormed words.now form × (length text.now ≡ text_word words.now) }
-    ensures { result.fine ≡ true → ClausePassed words.now text.now s.0 clause start steps result }
+    ensures { IfSome result (ClausePassed words.now text.now s.0 clause from.start from.steps) }
 {
     let shape = shape_of(clause.code);
-    let fields = shape.fields;
-    if !fields.is_list() {
-        return Pass {
-            fine: fields_ok(fields, form.m, clause.first, clause.count),
-            start: start,
-            steps: after_one(s, shape.unguarded, clause.first, steps),
-        };
+    if shape.fields.is_list() {
+        return pass_list(words, text, form, s, clause, shape, from);
     }
-    if fields.is_named() & !shape.unguarded {
-        return pass_named(words, text, form, s, clause, shape, start, steps);
+    if !fields_ok(shape.fields, form.m, clause.first, clause.count) {
+        return None;
     }
-    pass_list(words, text, form, s, clause, shape, start, steps)
+    Some(Pass {
+        steps: after_one(s, shape.unguarded, clause.first, from.steps),
+        ..from
+    })
 }
 
 // Passes the clauses of schema s. No code is 0, so the first one's must rise above 0 too.
@@ -146,44 +115,25 @@ fn pass_schema(
     text: &[u8],
     form: RuleForm,
     s: RuleRow,
-    first: u32,
-    end: u32,
-    from: u32,
-    so_far: u32,
-) -> Pass
-    requires rules_formed { RulesFormed words.now form × (length text.now ≡ text_word words.now) × (end ≤ form.c) }
-    requires clauses_of_schema { (first ≡ (schema_at words.now s.0).first) × (end ≡ first + (schema_at words.now s.0).count) × (from ≡ list_start words.now first) }
-    ensures { result.fine ≡ true → SchemaPassed words.now text.now s.0 so_far result }
+    row: SchemaRow,
+    from: Pass,
+) -> Option<Pass>
+    requires rules_formed { RulesFormed words.now form × (length text.now ≡ text_word words.now) }
+    requires schema_read { (row ≡ schema_at words.now s.0) × (row.first + row.count ≤ form.c) × (from.start ≡ list_start words.now row.first) }
+    ensures { IfSome result (SchemaPassed words.now text.now s.0 from.steps) }
 {
-    let this = s.0;
-    let mut start = from;
-    let mut steps = so_far;
+    let mut pass = from;
     let mut last = 0;
-    let mut k = first;
-    while k < end {
+    for k in row.first..row.first + row.count {
         let clause = clause_at(words, form, k);
         let code = clause.code;
         if code <= last {
-            return Pass {
-                fine: false,
-                start: start,
-                steps: steps,
-            };
+            return None;
         }
-        let pass = pass_clause(words, text, form, RuleRow(this), clause, start, steps);
-        if !pass.fine {
-            return pass;
-        }
-        start = pass.start;
-        steps = pass.steps;
+        pass = pass_clause(words, text, form, s, clause, pass)?;
         last = code;
-        k += 1;
     }
-    Pass {
-        fine: true,
-        start: start,
-        steps: steps,
-    }
+    Some(pass)
 }
 
 // What one pass over the schemas, their clauses and the entries tells.
@@ -191,38 +141,22 @@ pub fn told(words: &[u32], text: &[u8], form: RuleForm) -> Order
     requires { RulesFormed words.now form × (length text.now ≡ text_word words.now) }
     ensures { Told words.now text.now form result }
 {
-    let m = form.m;
-    let c = form.c;
-    let mut start = 0;
-    let mut steps = 0;
+    let mut pass = Pass { start: 0, steps: 0 };
     let mut k = 0;
-    let mut s = 0;
-    while s < m {
+    for s in 0..form.m {
         let row = schema_at(words, form, RuleRow(s));
-        let first = row.first;
-        let count = row.count;
-        if !((first == k) & (wide(first) + wide(count) <= wide(c))) {
-            return Order {
-                laid: false,
-                short: false,
-            };
+        if !((row.first == k) & (wide(row.first) + wide(row.count) <= wide(form.c))) {
+            return Order::NEITHER;
         }
-        let end = first + count;
-        let pass = pass_schema(words, text, form, RuleRow(s), first, end, start, steps);
-        if !pass.fine {
-            return Order {
-                laid: false,
-                short: false,
-            };
-        }
-        start = pass.start;
-        steps = pass.steps;
-        k = end;
-        s += 1;
+        let Some(next) = pass_schema(words, text, form, RuleRow(s), row, pass) else {
+            return Order::NEITHER;
+        };
+        pass = next;
+        k = row.first + row.count;
     }
-    let laid = (k == c) & (start == form.e);
+    let laid = (k == form.c) & (pass.start == form.e);
     Order {
-        laid: laid,
-        short: laid & (steps < MANY),
+        laid,
+        short: laid & (pass.steps < MANY),
     }
 }

@@ -11,7 +11,8 @@ ghost use Rattle.rulesheet.specs.Clauses.{schemas_in, members_in, clause_means, 
 
 use decimal::Decimal;
 use rulesheet::clause::{Clause, Entries};
-use rulesheet::form::{EntryRow, RuleForm, clause_at, entry_at};
+use rulesheet::codes;
+use rulesheet::form::{ClauseRow, EntryRow, RuleForm, clause_at, entry_at};
 use sheet::record::RuleRow;
 use text::Range;
 
@@ -19,44 +20,42 @@ pub mod steps;
 
 // The clause of these three words. One whose code the table does not have reads as `Clause::Never`;
 // no sheet with it is accepted.
-fn decoded(code: u32, first: u32, count: u32) -> Clause
-    ensures { Decoded code first count result }
+fn decoded(row: ClauseRow) -> Clause
+    ensures { Decoded row.code row.first row.count result }
 {
+    let ClauseRow { code, first, count } = row;
     let schema = RuleRow(first);
-    let entries = Entries {
-        first: first,
-        count: count,
-    };
+    let entries = Entries { first, count };
     match code {
-        1 => Clause::Never,
-        2 => Clause::Types(first),
-        3 => Clause::Enum(entries),
-        10 => Clause::Minimum(Decimal::of_word(first, count)),
-        11 => Clause::Maximum(Decimal::of_word(first, count)),
-        12 => Clause::ExclusiveMinimum(Decimal::of_word(first, count)),
-        13 => Clause::ExclusiveMaximum(Decimal::of_word(first, count)),
-        14 => Clause::MultipleOf(Decimal::of_word(first, count)),
-        20 => Clause::MinLength(first),
-        21 => Clause::MaxLength(first),
-        22 => Clause::MinItems(first),
-        23 => Clause::MaxItems(first),
-        24 => Clause::MinProperties(first),
-        25 => Clause::MaxProperties(first),
-        26 => Clause::Required(entries),
-        30 => Clause::AllOf(entries),
-        31 => Clause::AnyOf(entries),
-        32 => Clause::OneOf(entries),
-        33 => Clause::Not(schema),
-        34 => Clause::Ref(schema),
-        36 => Clause::IfThenElse(entries),
-        37 => Clause::DependentSchemas(entries),
-        40 => Clause::Properties(entries),
-        42 => Clause::AdditionalProperties(schema),
-        43 => Clause::PrefixItems(entries),
-        44 => Clause::Items(schema),
-        45 => Clause::Contains(entries),
-        60 => Clause::UnevaluatedProperties(schema),
-        61 => Clause::UnevaluatedItems(schema),
+        codes::NEVER => Clause::Never,
+        codes::TYPE => Clause::Types(first),
+        codes::ENUM => Clause::Enum(entries),
+        codes::MINIMUM => Clause::Minimum(Decimal::of_word(first, count)),
+        codes::MAXIMUM => Clause::Maximum(Decimal::of_word(first, count)),
+        codes::EXCLUSIVE_MINIMUM => Clause::ExclusiveMinimum(Decimal::of_word(first, count)),
+        codes::EXCLUSIVE_MAXIMUM => Clause::ExclusiveMaximum(Decimal::of_word(first, count)),
+        codes::MULTIPLE_OF => Clause::MultipleOf(Decimal::of_word(first, count)),
+        codes::MIN_LENGTH => Clause::MinLength(first),
+        codes::MAX_LENGTH => Clause::MaxLength(first),
+        codes::MIN_ITEMS => Clause::MinItems(first),
+        codes::MAX_ITEMS => Clause::MaxItems(first),
+        codes::MIN_PROPERTIES => Clause::MinProperties(first),
+        codes::MAX_PROPERTIES => Clause::MaxProperties(first),
+        codes::REQUIRED => Clause::Required(entries),
+        codes::ALL_OF => Clause::AllOf(entries),
+        codes::ANY_OF => Clause::AnyOf(entries),
+        codes::ONE_OF => Clause::OneOf(entries),
+        codes::NOT => Clause::Not(schema),
+        codes::REF => Clause::Ref(schema),
+        codes::IF_THEN_ELSE => Clause::IfThenElse(entries),
+        codes::DEPENDENT_SCHEMAS => Clause::DependentSchemas(entries),
+        codes::PROPERTIES => Clause::Properties(entries),
+        codes::ADDITIONAL_PROPERTIES => Clause::AdditionalProperties(schema),
+        codes::PREFIX_ITEMS => Clause::PrefixItems(entries),
+        codes::ITEMS => Clause::Items(schema),
+        codes::CONTAINS => Clause::Contains(entries),
+        codes::UNEVALUATED_PROPERTIES => Clause::UnevaluatedProperties(schema),
+        codes::UNEVALUATED_ITEMS => Clause::UnevaluatedItems(schema),
         _ => Clause::Never,
     }
 }
@@ -68,7 +67,7 @@ pub fn clause_of(words: &[u32], form: RuleForm, k: u32) -> Clause
     ensures tested { Tested words.now form result }
 {
     let row = clause_at(words, form, k);
-    decoded(row.code, row.first, row.count)
+    decoded(row)
 }
 
 // Entry i of a list, its words by name: of an enum a value's kind, first and count.
@@ -101,8 +100,5 @@ pub fn entry_name(words: &[u32], form: RuleForm, list: Entries, i: u32) -> Range
     ensures { EntryNameRead words.now list i result }
 {
     let entry = entry_of(words, form, list, i);
-    Range {
-        start: entry.first,
-        length: entry.second,
-    }
+    entry.name()
 }

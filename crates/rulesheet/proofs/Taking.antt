@@ -176,14 +176,13 @@ module _ (ws : List ℕ) (form : RuleForm) (laid : ClausesLaid ws form) where
 
   -- the search through the entries of a list, by the clause and the fields that were read
   pub entries_asked : (k r : ℕ) (row : ClauseRow) (fields : Fields) → k < form.c → is_list (fields_at ws k) ≡ true → row ≡ clause_at ws k → fields ≡ fields_at ws k
-      → r ≡ lowest_from (λ x. not (entry_ok fields (text_word ws) (schemas_word ws) (entry_at ws x))) ((row.first + row.count) - row.first) row.first
+      → r ≡ lowest_from (λ x. not (entry_ok fields (text_word ws) (schemas_word ws) (entry_at ws x))) row.count row.first
       → r ≡ lowest_from (entry_fault ws) (clause_at ws k).count (clause_at ws k).first
   entries_asked k r row fields h t read same e =
       let c = form_c ws form laid.schemas_laid.formed in
       let a = ap (λ (x : ClauseRow). x.first) read in
       let b = ap (λ (x : ClauseRow). x.count) read in
       e
-      ∙ sym (begun (λ x. not (entry_ok fields (text_word ws) (schemas_word ws) (entry_at ws x))) row.count row.first)
       ∙ alike (λ x. not (entry_ok fields (text_word ws) (schemas_word ws) (entry_at ws x))) (entry_fault ws) row.count row.first
       (λ (x : ℕ) (low : row.first ≤ x) (high : x < row.first + row.count). ap not (ap (λ (f : Fields). entry_ok f (text_word ws) (schemas_word ws) (entry_at ws x)) same ∙ sym (entry_taken k x (omega arith) t (omega arith) (omega arith))))
       ∙ ap (λ (x : ClauseRow). lowest_from (entry_fault ws) x.count x.first) read

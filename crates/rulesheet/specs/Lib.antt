@@ -5,3 +5,4 @@ pub mod Sheet
 pub mod Faults
 pub mod Read
 pub mod Clauses
+pub mod Found

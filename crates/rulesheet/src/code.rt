@@ -37,19 +37,13 @@ impl Fields {
         ensures { result ≡ is_list self }
     {
         match self {
-            Fields::Unknown => false,
-            Fields::Bare => false,
-            Fields::Types => false,
-            Fields::Number => false,
-            Fields::Positive => false,
-            Fields::Limit => false,
-            Fields::Schema => false,
-            Fields::Values => true,
-            Fields::Names => true,
-            Fields::Schemas => true,
-            Fields::Members => true,
-            Fields::Branches => true,
-            Fields::Counted => true,
+            Fields::Values
+            | Fields::Names
+            | Fields::Schemas
+            | Fields::Members
+            | Fields::Branches
+            | Fields::Counted => true,
+            _ => false,
         }
     }
 
@@ -57,20 +51,6 @@ impl Fields {
     pub fn is_named(self) -> bool
         ensures { result ≡ is_named self }
     {
-        match self {
-            Fields::Unknown => false,
-            Fields::Bare => false,
-            Fields::Types => false,
-            Fields::Number => false,
-            Fields::Positive => false,
-            Fields::Limit => false,
-            Fields::Schema => false,
-            Fields::Values => false,
-            Fields::Names => true,
-            Fields::Schemas => false,
-            Fields::Members => true,
-            Fields::Branches => false,
-            Fields::Counted => false,
-        }
+        matches!(self, Fields::Names | Fields::Members)
     }
 }

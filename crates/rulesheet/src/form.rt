@@ -1,10 +1,12 @@
 // The schemas, clauses and entries of a rule sheet, their words by name.
 ghost use Rattle.std.specs.Prelude.{true, ◌≡◌, ◌<◌};
 ghost use Rattle.rulesheet.specs.Sheet.{form_of, schema_at, clause_at, entry_at};
+ghost use Rattle.rulesheet.specs.Codes.{entry_range};
 ghost use Rattle.rulesheet.specs.Faults.{words_ok};
 ghost use Rattle.rulesheet.specs.Read.{RulesFormed};
 
 use sheet::record::{RuleRow, wide};
+use text::Range;
 
 // Where schemas, clauses and entries start among the words, and how many there are.
 #[derive(Clone, Copy)]
@@ -67,15 +69,28 @@ impl RuleForm {
         RuleForm {
             schemas: size - RuleForm::TRAILER_WORDS - back,
             clauses: entries - RuleForm::CLAUSE_WORDS * wide(c),
-            entries: entries,
+            entries,
             m: words[size - 6],
-            c: c,
-            e: e,
+            c,
+            e,
         }
     }
 }
 
-// The schema's words.
+impl EntryRow {
+    // The name of an entry that has one, as a range of the text.
+    pub fn name(self) -> Range
+        ensures { result ≡ entry_range self }
+    {
+        Range {
+            start: self.first,
+            length: self.second,
+        }
+    }
+}
+
+// The words of a schema. The readers take words and form apart, as docs/PROMISES.md names them and
+// the crates above call them.
 pub fn schema_at(words: &[u32], form: RuleForm, schema: RuleRow) -> SchemaRow
     requires { RulesFormed words.now form × (schema.0 < form.m) }
     ensures { result ≡ schema_at words.now schema.0 }

@@ -9,4 +9,5 @@
 
 pub mod clause;
 pub mod code;
+pub mod codes;
 pub mod form;

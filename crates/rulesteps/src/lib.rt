@@ -2,17 +2,18 @@
 // cite `specs/Later.antt`.
 #![tactic(auto)]
 
-ghost use Rattle.std.specs.Prelude.{true, ◌≡◌, ◌≤◌, ◌<◌};
+ghost use Rattle.std.specs.Prelude.{true, ◌≡◌, ◌+◌, ◌≤◌, ◌<◌};
 ghost use Rattle.rulesheet.specs.Faults.{is_named};
 ghost use Rattle.rulesheet.specs.Read.{RulesFormed};
 ghost use Rattle.rulesteps.specs.Later.{schema_in, AllLater, Counted};
 
-use rulesheet::code::Fields;
+use rulesheet::clause::Entries;
+use rulesheet::code::Shape;
 use rulesheet::form::{EntryRow, RuleForm, entry_at};
 use sheet::record::RuleRow;
 
 // So many clauses with steps, or more, or one step to a schema that is not later: then the count
-// tells nothing.
+// tells nothing. That is no None, since a count is only asked whether it is below MANY.
 pub const MANY: u32 = 32;
 
 // The schema of an entry, which has a name or not.
@@ -23,17 +24,14 @@ fn schema_in(named: bool, entry: EntryRow) -> u32
 }
 
 // Whether the schemas of these entries, which have names or not, stand after s.
-fn all_later(words: &[u32], form: RuleForm, s: RuleRow, named: bool, first: u32, end: u32) -> bool
-    requires { RulesFormed words.now form × (end ≤ form.e) }
-    ensures { result ≡ true → AllLater words.now named s.0 first end }
+fn all_later(words: &[u32], form: RuleForm, s: RuleRow, named: bool, list: Entries) -> bool
+    requires { RulesFormed words.now form × (list.first + list.count ≤ form.e) }
+    ensures { result ≡ true → AllLater words.now named s.0 list.first (list.first + list.count) }
 {
-    let this = s.0;
-    let mut x = first;
-    while x < end {
-        if schema_in(named, entry_at(words, form, x)) <= this {
+    for x in list.first..list.first + list.count {
+        if schema_in(named, entry_at(words, form, x)) <= s.0 {
             return false;
         }
-        x += 1;
     }
     true
 }
@@ -42,10 +40,7 @@ fn all_later(words: &[u32], form: RuleForm, s: RuleRow, named: bool, first: u32,
 fn one_more(steps: u32, later: bool) -> u32
     ensures { Counted true (later ≡ true) steps result }
 {
-    if !later {
-        return MANY;
-    }
-    if steps < MANY {
+    if later && steps < MANY {
         return steps + 1;
     }
     MANY
@@ -56,20 +51,18 @@ pub fn after_list(
     words: &[u32],
     form: RuleForm,
     s: RuleRow,
-    unguarded: bool,
-    fields: Fields,
-    first: u32,
-    end: u32,
+    shape: Shape,
+    list: Entries,
     steps: u32,
 ) -> u32
-    requires { RulesFormed words.now form × (end ≤ form.e) }
-    ensures { Counted unguarded (AllLater words.now (is_named fields) s.0 first end) steps result }
+    requires { RulesFormed words.now form × (list.first + list.count ≤ form.e) }
+    ensures { Counted shape.unguarded (AllLater words.now (is_named shape.fields) s.0 list.first (list.first + list.count)) steps result }
 {
-    if !unguarded {
+    if !shape.unguarded {
         return steps;
     }
-    let named = fields.is_named();
-    one_more(steps, all_later(words, form, s, named, first, end))
+    let named = shape.fields.is_named();
+    one_more(steps, all_later(words, form, s, named, list))
 }
 
 // The same, of one whose schema is t.

@@ -1,11 +1,11 @@
 -- The text that an entry names, as the code reads it, and whether it is UTF-8.
 --     no_string, a_string      the string of an entry of an enum
---     no_text, a_name          the text of an entry, by the fields of its list
+--     no_text, a_name, other_text    the text of an entry, by the fields of its list
 --     entry_within, entry_is   an entry of clause k: its text lies within the rule text, and settles whether it is at fault
 --     Searched                 the search through the entries of a clause
 --     all_fine                 where every range of the text is UTF-8
 -- Assumes nothing.
-use mathlib.Core.Bool.{Bool, true, false, not}
+use mathlib.Core.Bool.{true, false, not}
 use mathlib.Core.List.{List, []}
 use mathlib.Core.Path.{◌≡◌, refl, sym, ap, subst, ◌∙◌}
 use Prim.Native.Nat.{ℕ, ◌+◌, ◌≤◌, ◌<◌}
@@ -92,6 +92,22 @@ a_value entry r s =
       is = s.is;
       lies = λ size m ok. s.lies size (right (is_kind entry.first) (scalar_ok (kind_of entry.first) size entry.second entry.third) ok);
     }
+
+-- an entry of a list of other fields names no text
+pub other_text : (fields : Fields) (entry : EntryRow) → (fields ≡ Values → ⊥) → (fields ≡ Names → ⊥) → (fields ≡ Members → ⊥) → TextRange fields entry nothing
+other_text Unknown entry v n m = no_text Unknown entry (λ ts. refl)
+other_text Bare entry v n m = no_text Bare entry (λ ts. refl)
+other_text Types entry v n m = no_text Types entry (λ ts. refl)
+other_text Number entry v n m = no_text Number entry (λ ts. refl)
+other_text Positive entry v n m = no_text Positive entry (λ ts. refl)
+other_text Limit entry v n m = no_text Limit entry (λ ts. refl)
+other_text Schema entry v n m = no_text Schema entry (λ ts. refl)
+other_text Values entry v n m = absurd (v refl)
+other_text Names entry v n m = absurd (n refl)
+other_text Schemas entry v n m = no_text Schemas entry (λ ts. refl)
+other_text Members entry v n m = absurd (m refl)
+other_text Branches entry v n m = no_text Branches entry (λ ts. refl)
+other_text Counted entry v n m = no_text Counted entry (λ ts. refl)
 
 -- the text that an entry of any fields names, as a range
 pub range_of : (fields : Fields) (entry : EntryRow) → (r : Range) × TextRange fields entry r

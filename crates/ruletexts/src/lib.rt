@@ -4,10 +4,11 @@
 #![tactic(auto)]
 
 ghost use Rattle.std.specs.Prelude.{true, ◌≡◌, ◌<◌, length};
-ghost use Rattle.laws.specs.Lowest.{lowest, lowest_from};
+ghost use Rattle.laws.specs.Lowest.{lowest};
 ghost use Rattle.reach.specs.Reach.{Known, places};
 ghost use Rattle.rulesheet.specs.Sheet.{entries_word, text_word, clause_at};
 ghost use Rattle.rulesheet.specs.Faults.{is_list, fields_at, not_utf8};
+ghost use Rattle.rulesheet.specs.Found.{FoundIn};
 ghost use Rattle.rulesheet.specs.Read.{RulesLaid};
 ghost use Rattle.ruletexts.specs.Ranges.{StringRange, TextRange};
 
@@ -18,15 +19,18 @@ use rulesheet::form::{EntryRow, RuleForm, clause_at, entry_at};
 use sheet::kind::RowKind;
 use text::Range;
 
+// An empty range, which every text has.
+const NOTHING: Range = Range {
+    start: 0,
+    length: 0,
+};
+
 // The string that an entry of an enum holds, as a range of the text: an empty one of any other kind.
 fn string_range(entry: EntryRow) -> Range
     ensures { StringRange entry result }
 {
     if RowKind::of(entry.first).number() != RowKind::STRING {
-        return Range {
-            start: 0,
-            length: 0,
-        };
+        return NOTHING;
     }
     Range {
         start: entry.second,
@@ -38,70 +42,53 @@ fn string_range(entry: EntryRow) -> Range
 fn text_range(fields: Fields, entry: EntryRow) -> Range
     ensures { TextRange fields entry result }
 {
-    let name = Range {
-        start: entry.first,
-        length: entry.second,
-    };
-    let none = Range {
-        start: 0,
-        length: 0,
-    };
     match fields {
-        Fields::Unknown => none,
-        Fields::Bare => none,
-        Fields::Types => none,
-        Fields::Number => none,
-        Fields::Positive => none,
-        Fields::Limit => none,
-        Fields::Schema => none,
         Fields::Values => string_range(entry),
-        Fields::Names => name,
-        Fields::Schemas => none,
-        Fields::Members => name,
-        Fields::Branches => none,
-        Fields::Counted => none,
+        Fields::Names | Fields::Members => entry.name(),
+        _ => NOTHING,
     }
 }
 
-// The lowest entry of clause k, which is a list, whose text is not UTF-8, or where they end.
-fn first_in(words: &[u32], text: &[u8], form: RuleForm, memo: &[u32], whole: bool, k: u32) -> u32
+// The lowest entry of clause k, which is a list, whose text is not UTF-8.
+fn first_in(
+    words: &[u32],
+    text: &[u8],
+    form: RuleForm,
+    memo: &[u32],
+    whole: bool,
+    k: u32,
+) -> Option<u32>
     requires rules_laid { RulesLaid words.now form × (length text.now ≡ text_word words.now) × Known text.now memo.now whole }
     requires clause_listed { (k < form.c) × (is_list (fields_at words.now k) ≡ true) }
-    ensures { result ≡ lowest_from (not_utf8 words.now text.now) (clause_at words.now k).count (clause_at words.now k).first }
+    ensures { FoundIn (not_utf8 words.now text.now) (clause_at words.now k).count (clause_at words.now k).first result }
 {
     let clause = clause_at(words, form, k);
     let shape = shape_of(clause.code);
     let fields = shape.fields;
     let end = clause.first + clause.count;
-    let mut x = clause.first;
-    while x < end {
+    for x in clause.first..end {
         let range = text_range(fields, entry_at(words, form, x));
         if !settles(text, memo, whole, range) {
-            return x;
+            return Some(x);
         }
-        x += 1;
     }
-    x
+    None
 }
 
-// The lowest such entry of all the clauses, or the number of entries.
+// The lowest such entry of all the clauses, or the number of entries, as `lowest` has it.
 fn first_by(words: &[u32], text: &[u8], form: RuleForm, memo: &[u32], whole: bool) -> u32
     requires { RulesLaid words.now form × (length text.now ≡ text_word words.now) × Known text.now memo.now whole }
     ensures { result ≡ lowest (not_utf8 words.now text.now) (entries_word words.now) }
 {
-    let c = form.c;
-    let mut k = 0;
-    while k < c {
+    for k in 0..form.c {
         let clause = clause_at(words, form, k);
         let shape = shape_of(clause.code);
         let fields = shape.fields;
         if fields.is_list() {
-            let bad = first_in(words, text, form, memo, whole, k);
-            if bad < clause.first + clause.count {
+            if let Some(bad) = first_in(words, text, form, memo, whole, k) {
                 return bad;
             }
         }
-        k += 1;
     }
     form.e
 }

@@ -6,7 +6,7 @@
 --     Deep, deep_none, deep_more, deep_all     no chain of up to n steps is longer than told
 --     right                          then the table tells which schemas start a chain of 33
 -- Assumes nothing.
-use mathlib.Core.Bool.{true, false}
+use mathlib.Core.Bool.{Bool, true, false}
 use mathlib.Core.List.Memᴰ.{append_cases as in_split}
 use mathlib.Core.List.Memᴰ.{append_left as in_left}
 use mathlib.Core.List.Memᴰ.{append_right as in_right}
@@ -20,17 +20,15 @@ use Prim.Native.Nat.{ℕ, zero, suc, ◌+◌, ◌≤◌, ◌<◌}
 use native.Mathlib.Decide.{ℕ_discrete}
 use native.Mathlib.Numerals.{add-one}
 use native.Mathlib.Omega.{arith}
-use lib.Dec.{leb}
 use lib.ListN.{length, get_or, set}
 use lib.Seq.{get_or-set_same, get_or-set_other}
 use borrow.Author.Tests.{le-leb, lt-leb}
 use Rattle.laws.proofs.Tests.{decide, le_or_lt}
 use Rattle.unguarded.specs.Graph.{chain_steps, chain}
-use Rattle.unguarded.specs.Worklist.{mark_count, Marked}
+use Rattle.unguarded.specs.Worklist.{Marked}
 use Rattle.unguarded.specs.Lengths.{Longer, Raised, Noted, Told, Over, Lengths}
 use Rattle.unguarded.proofs.Lists.{any_in, any_out, not_both}
 use Rattle.unguarded.proofs.Paths.{fewer}
-use Rattle.unguarded.proofs.Worklists.{none_marked}
 
 -- ---- one length
 
@@ -56,26 +54,26 @@ raised_more {ts} {table} {most} {r} {q} t f l =
 
 -- ---- marks
 
-pub noted_none : (s : ℕ) (late : List ℕ) → Noted s [] late late
+pub noted_none : (s : ℕ) (late : List Bool) → Noted s [] late late
 noted_none s late = record { kept = λ t h. h; marked = λ t i. absurd (in_none i) }
 
-pub noted_more : {s : ℕ} {ts us a b c : List ℕ} → Noted s ts a b → Noted s us b c → Noted s (ts ++ us) a c
+pub noted_more : {s : ℕ} {ts us : List ℕ} {a b c : List Bool} → Noted s ts a b → Noted s us b c → Noted s (ts ++ us) a c
 noted_more {ts = ts} f g =
     record {
       kept = λ t h. g.kept t (f.kept t h);
       marked = λ t i l. ⊎_elim (λ j. g.kept t (f.marked t j l)) (λ j. g.marked t j l) (in_split ts i);
     }
 
-module _ (s t : ℕ) (late : List ℕ) where
-  pub note_yes : t < length late → Noted s (t ∷ []) late (set late t 1)
+module _ (s t : ℕ) (late : List Bool) where
+  pub note_yes : t < length late → Noted s (t ∷ []) late (set late t true)
   note_yes h =
       record {
-        kept = λ u m. elim (ℕ_discrete u t) [ yes e ↦ rw e now | no e ↦ rw (get_or-set_other late t u 1 0 e) m ];
+        kept = λ u m. elim (ℕ_discrete u t) [ yes e ↦ rw e now | no e ↦ rw (get_or-set_other late t u true false e) m ];
         marked = λ u i l. rw (in_one i) now;
       }
     where
-      now : Marked (set late t 1) t
-      now = omega (arith, get_or-set_same late t 1 0 h)
+      now : Marked (set late t true) t
+      now = get_or-set_same late t true false h
 
   pub note_no : s < t → Noted s (t ∷ []) late late
   note_no h = record { kept = λ u m. m; marked = λ u i (l : u ≤ s). absurd (omega (arith, in_one i)) }
@@ -83,10 +81,9 @@ module _ (s t : ℕ) (late : List ℕ) where
 -- ---- the table
 
 module _ (m : ℕ) (next : ℕ → List ℕ) where
-  pub blank_told : (table : List ℕ) → m ≤ length table → mark_count table ≡ 0 → Told m next table
+  pub blank_told : (table : List ℕ) → m ≤ length table → ((t : ℕ) → get_or table t 0 ≡ 0) → Told m next table
   unfolding chain
-  blank_told table room blank =
-      let none = none_marked table blank in
+  blank_told table room none =
       record { room = room; low = λ s. omega (arith, none s); has = λ s. rw (none s) }
 
   pub raised_chain : {ts table : List ℕ} {most r s : ℕ} → Told m next table → ((t : ℕ) → In t ts → In t (next s)) → chain next most s ≡ true

@@ -5,7 +5,7 @@
 --     empty_none                 nothing is in a list without length
 --     any_in, any_out            some number in the list passes a test
 -- Assumes nothing.
-use mathlib.Core.Bool.{Bool, true, false, ◌||◌, or-true, true≢false, false≢true}
+use mathlib.Core.Bool.{Bool, true, false, or-true, true≢false, false≢true}
 use mathlib.Core.List.Memᴰ.{head as at_head}
 use mathlib.Core.List.Memᴰ.{not-nil as in_none}
 use mathlib.Core.List.Memᴰ.{tail as in_Tail}

@@ -5,17 +5,15 @@
 --     pass_done                  at the end of the pass
 --     quiet_sheet                where no clause has a step there is no chain
 -- Assumes nothing.
-use mathlib.Core.Bool.{Bool, true, false, not, ◌||◌}
-use mathlib.Core.List.{List, [], Memᴰ as In}
+use mathlib.Core.Bool.{Bool, false, ◌||◌, false≢true}
+use mathlib.Core.List.{List, Memᴰ as In}
 use mathlib.Core.Logic.{◌⊎◌, inl, inr, ⊎_elim}
 use mathlib.Core.Path.{◌≡◌, refl, sym, ◌∙◌, subst}
-use Prim.Native.Nat.{ℕ, suc, ◌+◌, ◌-◌, ◌≤◌, ◌<◌}
+use Prim.Native.Nat.{ℕ, ◌+◌, ◌-◌, ◌≤◌, ◌<◌}
 use native.Mathlib.Decide.{ℕ_discrete}
 use native.Mathlib.Omega.{arith}
-use lib.Dec.{eqb}
 use lib.ListN.{length, get_or, set, length-set}
 use lib.Seq.{get_or-set_same, get_or-set_other}
-use borrow.Author.Tests.{eqb-true, not-false}
 use Rattle.laws.proofs.Tests.{le_or_lt, neither}
 use Rattle.laws.proofs.Searches.{lowest_is}
 use Rattle.rulesheet.specs.declared.form.RuleForm.{RuleForm}
@@ -39,7 +37,7 @@ module _ (ws : List ℕ) where
   abbrev Rises : List ℕ → List ℕ → ℕ → ℕ → Type 0
   Rises low high u t = get_or high u 0 < chain_steps → get_or low t 0 < get_or high u 0
 
-  pub record Passing (table₀ table late : List ℕ) (again : Bool) (s k : ℕ) : Type 0 where
+  pub record Passing (table₀ table : List ℕ) (late : List Bool) (again : Bool) (s k : ℕ) : Type 0 where
     pub told : Told (schemas_word ws) (next_of ws) table
     pub more : (u : ℕ) → get_or table₀ u 0 ≤ get_or table u 0
     pub each : EachFrom k (Rises table₀ table)
@@ -58,7 +56,7 @@ module _ (ws : List ℕ) where
       (λ (h : j < to). absurd (empty_none (targets_of ws j) (quiet.none j l h) i))
       (le_or_lt to j)
 
-  pub quiet_on : {table₀ table late : List ℕ} {again : Bool} {s k from : ℕ} → Passing table₀ table late again s k → Quiet ws from k → Passing table₀ table late again s from
+  pub quiet_on : {table₀ table : List ℕ} {late : List Bool} {again : Bool} {s k from : ℕ} → Passing table₀ table late again s k → Quiet ws from k → Passing table₀ table late again s from
   quiet_on {table₀} {table} {late} p quiet =
       record {
         told = p.told;
@@ -89,7 +87,7 @@ module _ (ws : List ℕ) (form : RuleForm) (laid : RulesLaid ws form) where
       nowhere : (s t : ℕ) → In t (next_of ws s) → ⊥
       nowhere s t i = let v = step_taken ws form laid i in silent ws (λ u t. ⊥) quiet (past (λ u t. ⊥)) v.0 s t (omega arith) v.1.0 v.1.1
 
-  pub begin : {last : ℕ} (table late : List ℕ) → 0 < schemas_word ws → Quiet ws last (clauses_word ws) → Told (schemas_word ws) (next_of ws) table
+  pub begin : {last : ℕ} (table : List ℕ) (late : List Bool) → 0 < schemas_word ws → Quiet ws last (clauses_word ws) → Told (schemas_word ws) (next_of ws) table
       → Passing ws table table late false (schemas_word ws - 1) last
   begin table late some quiet told =
       record {
@@ -103,7 +101,7 @@ module _ (ws : List ℕ) (form : RuleForm) (laid : RulesLaid ws form) where
         after = λ j l u (a : schemas_word ws - 1 < u) (b : u < schemas_word ws). absurd (omega arith);
       }
 
-  pub pass_done : {table₀ table late : List ℕ} {again : Bool} {s k : ℕ} → k ≤ 0 → Passing ws table₀ table late again s k → Passed (schemas_word ws) (next_of ws) table₀ table again
+  pub pass_done : {table₀ table : List ℕ} {late : List Bool} {again : Bool} {s k : ℕ} → k ≤ 0 → Passing ws table₀ table late again s k → Passed (schemas_word ws) (next_of ws) table₀ table again
   pass_done h p =
       record {
         told = p.told;
@@ -112,7 +110,7 @@ module _ (ws : List ℕ) (form : RuleForm) (laid : RulesLaid ws form) where
       }
 
   -- clause k is passed: schema s, which takes it, now has the length `long`, and no other schema has another length than before
-  module _ {table₀ table late : List ℕ} {again : Bool} {s₀ k₀ k long : ℕ} {late' : List ℕ} (s : ℕ) (p : Passing ws table₀ table late again s₀ k₀) (one : k₀ ≡ k + 1) (v : Takes ws s k)
+  module _ {table₀ table : List ℕ} {late : List Bool} {again : Bool} {s₀ k₀ k long : ℕ} {late' : List Bool} (s : ℕ) (p : Passing ws table₀ table late again s₀ k₀) (one : k₀ ≡ k + 1) (v : Takes ws s k)
       (f : Raised (targets_of ws k) table (get_or table s 0) long) (n : Noted s (targets_of ws k) late late') (table' : List ℕ) (again' : Bool)
       (size : length table' ≡ length table) (here : get_or table' s 0 ≡ long) (there : (u : ℕ) → (u ≡ s → ⊥) → get_or table' u 0 ≡ get_or table u 0)
       (same : again' ≡ false → (again ≡ false) × ((Marked late' s → ⊥) ⊎ (long ≡ get_or table s 0))) where
@@ -181,14 +179,14 @@ module _ (ws : List ℕ) (form : RuleForm) (laid : RulesLaid ws form) where
         }
 
   -- the two ways that a clause is passed
-  module _ {table₀ table late : List ℕ} {again : Bool} {s₀ k₀ k long : ℕ} {late' : List ℕ} (s : ℕ) (p : Passing ws table₀ table late again s₀ k₀) (one : k₀ ≡ k + 1) (v : Takes ws s k)
+  module _ {table₀ table : List ℕ} {late : List Bool} {again : Bool} {s₀ k₀ k long : ℕ} {late' : List Bool} (s : ℕ) (p : Passing ws table₀ table late again s₀ k₀) (one : k₀ ≡ k + 1) (v : Takes ws s k)
       (f : Raised (targets_of ws k) table (get_or table s 0) long) (n : Noted s (targets_of ws k) late late') where
-    pub clause_raised : Passing ws table₀ (set table s long) late' (again || not (eqb (get_or late' s 0) 0)) s k
+    pub clause_raised : Passing ws table₀ (set table s long) late' (again || get_or late' s false) s k
     clause_raised =
-        clause_done s p one v f n (set table s long) (again || not (eqb (get_or late' s 0) 0)) (simp length-set)
+        clause_done s p one v f n (set table s long) (again || get_or late' s false) (simp length-set)
         (get_or-set_same table s long 0 (omega (arith, v.inside, p.told.room)))
         (λ u e. get_or-set_other table s u long 0 e)
-        (λ e. ((neither again _ e).0, inl (λ (h : Marked late' s). omega (arith, eqb-true (get_or late' s 0) 0 (not-false _ (neither again _ e).1)))))
+        (λ e. ((neither again _ e).0, inl (λ (h : Marked late' s). false≢true (sym (neither again _ e).1 ∙ h))))
 
     pub clause_kept : long ≤ get_or table s 0 → Passing ws table₀ table late' again s k
     clause_kept h =

@@ -8,11 +8,11 @@
 --     takers_rise            a later clause is not an earlier schema's
 --     taken_step, step_taken     a schema's steps are those of the clauses that it takes
 -- Assumes nothing.
-use mathlib.Core.Bool.{true, false, true≢false}
+use mathlib.Core.Bool.{true≢false}
 use mathlib.Core.List.Memᴰ.{not-nil as in_none}
-use mathlib.Core.List.{List, [], Memᴰ as In}
+use mathlib.Core.List.{List, Memᴰ as In}
 use mathlib.Core.Logic.{⊎_elim}
-use mathlib.Core.Path.{◌≡◌, refl, sym, ap, ◌∙◌, subst}
+use mathlib.Core.Path.{◌≡◌, refl, sym, ◌∙◌, subst}
 use Prim.Native.Nat.{ℕ, zero, suc, ◌+◌, ◌-◌, ◌≤◌, ◌<◌}
 use native.Mathlib.Omega.{arith}
 use lib.ListN.{length}
@@ -24,7 +24,7 @@ use Rattle.rulesheet.specs.Read.{RulesLaid}
 use Rattle.rulesheet.proofs.Runs.{starts_rise}
 use Rattle.rulesheet.proofs.Taking.{schema_first, schema_runs, clause_untaken}
 use Rattle.unguarded.specs.Lengths.{Quiet, Takes, StartAfter}
-use Rattle.unguarded.proofs.Steps.{schema_count, clause_count, next_is, next_none, joined, joined_in, in_joined}
+use Rattle.unguarded.proofs.Steps.{schema_count, clause_count, next_is, next_none, joined_in, in_joined}
 
 -- ---- clauses without a step, and schemas that start after a clause
 

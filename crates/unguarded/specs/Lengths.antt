@@ -43,7 +43,7 @@ pub record Raised (ts table : List ℕ) (most r : ℕ) : Type 0 where
   pub by : (r ≡ most) ⊎ ((t : ℕ) × (In t ts × (r ≤ get_or table t 0 + 1)))
 
 -- those of ts that do not come after s were marked
-pub record Noted (s : ℕ) (ts late₀ late : List ℕ) : Type 0 where
+pub record Noted (s : ℕ) (ts : List ℕ) (late₀ late : List Bool) : Type 0 where
   pub kept : (t : ℕ) → Marked late₀ t → Marked late t
   pub marked : (t : ℕ) → In t ts → t ≤ s → Marked late t
 
@@ -72,7 +72,7 @@ module _ (m : ℕ) (next : ℕ → List ℕ) where
     pub right : (s : ℕ) → leb chain_steps (get_or table s 0) ≡ chain next chain_steps s
 
 -- what a pass starts from: the clauses from `last` on have no step, no length is told that no chain has, and there is room for marks
-pub record Ready (ws : List ℕ) (form : RuleForm) (last : ℕ) (table late : List ℕ) : Type 0 where
+pub record Ready (ws : List ℕ) (form : RuleForm) (last : ℕ) (table : List ℕ) (late : List Bool) : Type 0 where
   pub laid : RulesLaid ws form
   pub quiet : Quiet ws last (clauses_word ws)
   pub told : Told (schemas_word ws) (next_of ws) table

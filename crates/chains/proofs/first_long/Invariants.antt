@@ -1,5 +1,4 @@
 -- `first_long` meets its contract: a search, in which the table says what is asked. Assumes nothing.
-use Prim.Native.Nat.{◌-◌, ◌≤◌}
 use Rattle.laws.proofs.Passing.{Passing}
 use Rattle.rulesheet.specs.Sheet.{schemas_word, next_of}
 use Rattle.unguarded.specs.Graph.{chain_steps, chain}
@@ -7,8 +6,4 @@ use Rattle.chains.proofs.first_long.Given as goal
 
 abbrev pub invariant-loop-s : goal.invariant-loop-s
 invariant-loop-s l =
-    (l.s ≤ l.m) × Passing (chain (next_of l.words) chain_steps) (schemas_word l.words) l.s
-
-abbrev pub decreases-loop-s : goal.decreases-loop-s
-decreases-loop-s l =
-    l.m - l.s
+    Passing (chain (next_of l.words) chain_steps) (schemas_word l.words) l.s

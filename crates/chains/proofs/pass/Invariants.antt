@@ -1,7 +1,6 @@
 -- `pass` meets its contract. Where the clauses from k on were passed, the table tells of each of their steps, and what they asked for too soon is marked.
 -- Assumes nothing.
 use mathlib.Core.Path.{◌≡◌}
-use Prim.Native.Nat.{◌-◌}
 use lib.ListN.{length}
 use Rattle.unguarded.proofs.Passes.{Passing}
 use Rattle.chains.proofs.pass.Given as goal

@@ -1,5 +1,6 @@
 use native.Mathlib.Omega.{arith}
-use mathlib.Core.Path.{sym, ◌∙◌}
+use Prim.Native.Nat.{◌+◌, ◌-◌}
+use mathlib.Core.Path.{◌≡◌, sym, ◌∙◌}
 use Rattle.unguarded.proofs.Steps.{clause_count}
 use Rattle.unguarded.proofs.Takers.{quiet_none, quiet_more}
 use Rattle.links.proofs.last_step.Goals as goal
@@ -14,7 +15,7 @@ steps_of-requires c =
 
 pub returns-then-steps_of-ne0 : goal.returns-then-steps_of-ne0
 returns-then-steps_of-ne0 c =
-    c.loop-k.invariant
+    let e : c.loop-k.k - 1 + 1 ≡ c.loop-k.k = omega arith in rw e c.loop-k.invariant
 
 pub loop-k-preserved : goal.loop-k-preserved
 loop-k-preserved c =
@@ -22,4 +23,4 @@ loop-k-preserved c =
 
 pub returns : goal.returns
 returns c =
-    c.loop-k.invariant
+    let e : c.loop-k.k ≡ 0 = omega arith in rw e at c.loop-k.invariant

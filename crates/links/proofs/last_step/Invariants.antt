@@ -5,7 +5,3 @@ use Rattle.links.proofs.last_step.Given as goal
 abbrev pub invariant-loop-k : goal.invariant-loop-k
 invariant-loop-k l =
     Quiet l.words l.k l.to
-
-abbrev pub decreases-loop-k : goal.decreases-loop-k
-decreases-loop-k l =
-    l.k

@@ -1,5 +1,5 @@
 use native.Mathlib.Omega.{arith}
-use mathlib.Core.Path.{ap}
+use mathlib.Core.Path.{◌≡◌, ap}
 use Rattle.rulesheet.specs.declared.form.SchemaRow.{SchemaRow}
 use Rattle.unguarded.proofs.Steps.{schema_count}
 use Rattle.unguarded.proofs.Takers.{taker_here, first_low, after_more}
@@ -23,4 +23,4 @@ loop-s-preserved c =
 
 pub returns : goal.returns
 returns c =
-    taker_here c.args.words.now c.args.form c.requires.0 c.loop-s.s c.args.k c.loop-s.invariant.0 c.requires.2 c.loop-s.invariant.1 (first_low c.args.words.now c.args.form c.requires.0 c.loop-s.s c.args.k c.loop-s.invariant.0 (omega arith))
+    let e : c.loop-s.s ≡ 0 = omega arith in rw e at (taker_here c.args.words.now c.args.form c.requires.0 c.loop-s.s c.args.k c.loop-s.invariant.0 c.requires.2 c.loop-s.invariant.1 (first_low c.args.words.now c.args.form c.requires.0 c.loop-s.s c.args.k c.loop-s.invariant.0 (omega arith)))

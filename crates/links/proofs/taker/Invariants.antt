@@ -7,7 +7,3 @@ use Rattle.links.proofs.taker.Given as goal
 abbrev pub invariant-loop-s : goal.invariant-loop-s
 invariant-loop-s l =
     (l.s < schemas_word l.words) × StartAfter l.words l.s l.k
-
-abbrev pub decreases-loop-s : goal.decreases-loop-s
-decreases-loop-s l =
-    l.s

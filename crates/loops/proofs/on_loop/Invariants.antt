@@ -6,7 +6,7 @@ use Rattle.unguarded.proofs.Worklists.{Working}
 use Rattle.loops.proofs.on_loop.Given as goal
 
 abbrev pub invariant-loop-head : goal.invariant-loop-head
-invariant-loop-head l = Working (next_of l.words) l.s.0 l.seen l.queue l.tail l.head
+invariant-loop-head l = Working (next_of l.words) l.s.0 l.list.seen l.list.queue l.list.tail l.head
 
 abbrev pub decreases-loop-head : goal.decreases-loop-head
 decreases-loop-head l = schemas_max - l.head

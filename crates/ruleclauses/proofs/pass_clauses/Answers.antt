@@ -1,4 +1,3 @@
-use Prim.Native.Nat.{◌-◌}
 use native.Mathlib.Omega.{arith}
 use borrow.Author.Tests.{not-true, not-false}
 use Rattle.rulesheet.proofs.Trailers.{facts, form_c}
@@ -28,30 +27,24 @@ pub returns-then-not-k-first : goal.returns-then-not-k-first
 returns-then-not-k-first c =
     let row = c.schema_at-row in
     let clause = c.clause_at-clause in
-    going_falls c.args.words.now c.args.form c.requires.0 c.args.schema.0 c.requires.1 row.result row.ensures c.loop-k.invariant c.loop-k-test.true clause.result clause.ensures (not-true _ c.if-not-k-first.true-raw)
+    going_falls c.args.words.now c.args.form c.requires.0 c.args.schema.0 c.requires.1 row.result row.ensures c.loop-k.invariant (omega arith) clause.result clause.ensures (not-true _ c.if-not-k-first.true-raw)
 
-pub pass_clause-passed-requires : goal.pass_clause-passed-requires
-pass_clause-passed-requires c = c.requires.0.formed
+pub pass_clause-requires : goal.pass_clause-requires
+pass_clause-requires c = c.requires.0.formed
 
 pub returns-in_default : goal.returns-in_default
 returns-in_default c =
     let row = c.schema_at-row in
     let clause = c.clause_at-clause in
-    going_stops c.args.words.now c.args.form c.requires.0 c.args.schema.0 c.requires.1 row.result row.ensures c.loop-k.invariant c.loop-k-test.true clause.result clause.ensures c.pass_clause-passed.ensures c.in_default.is
-
-pub overflow_add-k : goal.overflow_add-k
-overflow_add-k c =
-    let row = c.schema_at-row in
-    let ends = ends_inside c.args.words.now c.args.form c.requires.0 c.args.schema.0 c.requires.1 row.result row.ensures in
-    omega (arith, c.loop-k-test.true, form_c c.args.words.now c.args.form c.requires.0.formed, (facts c.args.words.now c.args.form c.requires.0.formed).few_clauses)
+    going_stops c.args.words.now c.args.form c.requires.0 c.args.schema.0 c.requires.1 row.result row.ensures c.loop-k.invariant (omega arith) clause.result clause.ensures c.pass_clause.ensures c.in_default.is
 
 pub loop-k-preserved : goal.loop-k-preserved
 loop-k-preserved c =
     let row = c.schema_at-row in
     let clause = c.clause_at-clause in
-    going_on c.args.words.now c.args.form c.requires.0 c.args.schema.0 c.requires.1 row.result row.ensures c.loop-k.invariant c.loop-k-test.true clause.result clause.ensures (not-false _ c.if-not-k-first.false-raw) c.pass_clause-passed.ensures c.in-Next.is
+    going_on c.args.words.now c.args.form c.requires.0 c.args.schema.0 c.requires.1 row.result row.ensures c.loop-k.invariant (omega arith) clause.result clause.ensures (not-false _ c.if-not-k-first.false-raw) c.pass_clause.ensures c.in-Some.is
 
 pub returns : goal.returns
 returns c =
     let row = c.schema_at-row in
-    going_ends c.args.words.now c.args.form c.requires.0 c.args.schema.0 c.requires.1 row.result row.ensures c.loop-k.invariant c.loop-k-test.false
+    going_ends c.args.words.now c.args.form c.requires.0 c.args.schema.0 c.requires.1 row.result row.ensures c.loop-k.invariant (omega arith)

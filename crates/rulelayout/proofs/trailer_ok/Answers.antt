@@ -3,10 +3,10 @@ use borrow.Author.Tests.{lt-leb, le-leb}
 use Rattle.rulesheet.specs.Faults.{words_ok}
 use Rattle.rulelayout.proofs.trailer_ok.Goals as goal
 
-pub returns-then-n-lt-TRAILER_WORDS : goal.returns-then-n-lt-TRAILER_WORDS
+pub returns-in_default : goal.returns-in_default
 unfolding words_ok
-returns-then-n-lt-TRAILER_WORDS c = simp (lt-leb _ _ c.if-n-lt-TRAILER_WORDS.true)
+returns-in_default c = simp (lt-leb _ _ c.in_default.len_below)
 
-pub returns : goal.returns
+pub returns-in-len6-up : goal.returns-in-len6-up
 unfolding words_ok
-returns c = simp (le-leb _ _ c.if-n-lt-TRAILER_WORDS.false, c.trailer_fits.ensures, c.wide-said.ensures)
+returns-in-len6-up c = simp (le-leb _ _ c.in-len6-up.len_at_least, c.trailer_fits.ensures, c.wide.ensures)

@@ -1,13 +1,14 @@
 -- `key` meets its contract. Assumes nothing.
-use mathlib.Core.Path.{sym, ◌∙◌}
+use native.Mathlib.Omega.{arith}
+use lib.ListN.{length}
 use borrow.Author.Tests.{eq-eqb, ne_eqb}
 use Rattle.rulelists.specs.Lists.{key_of}
 use Rattle.rulelists.proofs.key.Goals as goal
 
-pub returns-then-size-eq0 : goal.returns-then-size-eq0
+pub returns-in-empty : goal.returns-in-empty
 unfolding key_of
-returns-then-size-eq0 c = rw (eq-eqb _ _ (c.requires ∙ c.if-size-eq0.true))
+returns-in-empty c = rw (eq-eqb (length c.args.name.now) 0 (omega arith))
 
-pub returns : goal.returns
+pub returns-in-len1-up : goal.returns-in-len1-up
 unfolding key_of
-returns c = rw (ne_eqb _ _ (λ e. c.if-size-eq0.false (sym c.requires ∙ e)), c.wide.ensures.0, c.wide-last.ensures, c.requires)
+returns-in-len1-up c = rw (ne_eqb (length c.args.name.now) 0 (λ e. omega arith), c.from.ensures)

@@ -1,14 +1,14 @@
 use native.Mathlib.Omega.{arith}
-use mathlib.Core.Bool.{◌&&◌, true, false≢true}
+use mathlib.Core.Bool.{◌&&◌, true}
 use mathlib.Core.Logic.{⊎_elim}
 use mathlib.Core.Path.{◌≡◌, refl, sym, ap, ◌∙◌, subst}
-use Prim.Native.Nat.{ℕ, ◌+◌, ◌-◌, ◌≤◌, ◌<◌}
+use Prim.Native.Nat.{ℕ, ◌+◌, ◌≤◌, ◌<◌}
 use lib.Dec.{eqb, leb}
 use borrow.Author.Tests.{not-false, eqb-true, leb-true}
 use Rattle.laws.proofs.Tests.{le_or_lt, left, right}
 use Rattle.rulesheet.specs.declared.form.SchemaRow.{SchemaRow}
 use Rattle.rulesheet.specs.Faults.{schema_start, schema_fine, list_start}
-use Rattle.rulesheet.proofs.Trailers.{facts, form_m, form_c}
+use Rattle.rulesheet.proofs.Trailers.{facts, form_c}
 use Rattle.rulelayout.proofs.Schemas.{schema_tested, next_schema}
 use Rattle.rulepass.specs.Pass.{Come}
 use Rattle.rulepass.proofs.Going.{come_begins, come_on}
@@ -17,49 +17,42 @@ use Rattle.rulepass.proofs.told.Goals as goal
 
 pub loop-s-init : goal.loop-s-init
 unfolding schema_start
-loop-s-init c = (omega arith, refl, λ (u : ℕ) (h : u < 0). absurd (omega arith), come_begins c.args.words.now c.args.text.now)
+loop-s-init c = (refl, λ (u : ℕ) (h : u < 0). absurd (omega arith), come_begins c.args.words.now c.args.text.now)
 
 pub schema_at-row-requires : goal.schema_at-row-requires
 schema_at-row-requires c = (c.requires.0, omega arith)
 
-pub returns-then-not-first-k : goal.returns-then-not-first-k
-returns-then-not-first-k c = record { laid = λ t. absurd (false≢true t); short = λ t. absurd (false≢true t) }
+pub overflow_add-k : goal.overflow_add-k
+overflow_add-k c = omega (arith, (leb-true (c.schema_at-row.result.first + c.schema_at-row.result.count) c.args.form.c (right (eqb c.schema_at-row.result.first c.loop-s.k) (leb (c.schema_at-row.result.first + c.schema_at-row.result.count) c.args.form.c) (rw (c.wide.ensures, c.wide-in-loop-s.ensures, c.wide-in-loop-s-2.ensures) at (not-false (eqb c.schema_at-row.result.first c.loop-s.k && leb (c.wide.result + c.wide-in-loop-s.result) c.wide-in-loop-s-2.result) c.if-not-row-k.false-raw)))), (facts c.args.words.now c.args.form c.requires.0).few_clauses, form_c c.args.words.now c.args.form c.requires.0)
 
-pub overflow_add-end : goal.overflow_add-end
-overflow_add-end c = omega (arith, (leb-true (c.schema_at-row.result.first + c.schema_at-row.result.count) c.args.form.c (right (eqb c.schema_at-row.result.first c.loop-s.k) (leb (c.schema_at-row.result.first + c.schema_at-row.result.count) c.args.form.c) (rw (c.wide.ensures, c.wide-in-loop-s.ensures, c.wide-in-loop-s-2.ensures) at (not-false (eqb c.schema_at-row.result.first c.loop-s.k && leb (c.wide.result + c.wide-in-loop-s.result) c.wide-in-loop-s-2.result) c.if-not-first-k.false-raw)))), (facts c.args.words.now c.args.form c.requires.0).few_clauses, form_c c.args.words.now c.args.form c.requires.0)
-
-pub pass_schema-pass-requires : goal.pass_schema-pass-requires
-pass_schema-pass-requires c = record {
-  rules_formed = (c.requires.0, c.requires.1, (leb-true (c.schema_at-row.result.first + c.schema_at-row.result.count) c.args.form.c (right (eqb c.schema_at-row.result.first c.loop-s.k) (leb (c.schema_at-row.result.first + c.schema_at-row.result.count) c.args.form.c) (rw (c.wide.ensures, c.wide-in-loop-s.ensures, c.wide-in-loop-s-2.ensures) at (not-false (eqb c.schema_at-row.result.first c.loop-s.k && leb (c.wide.result + c.wide-in-loop-s.result) c.wide-in-loop-s-2.result) c.if-not-first-k.false-raw)))));
-  clauses_of_schema = (ap (λ (x : SchemaRow). x.first) c.schema_at-row.ensures, ap (λ (n : ℕ). c.schema_at-row.result.first + n) (ap (λ (x : SchemaRow). x.count) c.schema_at-row.ensures), c.loop-s.invariant.3.next ∙ ap (list_start c.args.words.now) (sym (eqb-true c.schema_at-row.result.first c.loop-s.k (left (eqb c.schema_at-row.result.first c.loop-s.k) (leb (c.schema_at-row.result.first + c.schema_at-row.result.count) c.args.form.c) (rw (c.wide.ensures, c.wide-in-loop-s.ensures, c.wide-in-loop-s-2.ensures) at (not-false (eqb c.schema_at-row.result.first c.loop-s.k && leb (c.wide.result + c.wide-in-loop-s.result) c.wide-in-loop-s-2.result) c.if-not-first-k.false-raw))))));
-}
-
-pub returns-then-not-pass : goal.returns-then-not-pass
-returns-then-not-pass c = record { laid = λ t. absurd (false≢true t); short = λ t. absurd (false≢true t) }
-
-pub overflow_add-s : goal.overflow_add-s
-overflow_add-s c = omega (arith, (facts c.args.words.now c.args.form c.requires.0).few, form_m c.args.words.now c.args.form c.requires.0)
+pub pass_schema-requires : goal.pass_schema-requires
+pass_schema-requires c =
+    let row = c.schema_at-row.result in
+    let tests = (rw (c.wide.ensures, c.wide-in-loop-s.ensures, c.wide-in-loop-s-2.ensures) at (not-false (eqb row.first c.loop-s.k && leb (c.wide.result + c.wide-in-loop-s.result) c.wide-in-loop-s-2.result) c.if-not-row-k.false-raw)) in
+    let at_k = eqb-true row.first c.loop-s.k (left (eqb row.first c.loop-s.k) (leb (row.first + row.count) c.args.form.c) tests) in record {
+      rules_formed = (c.requires.0, c.requires.1);
+      schema_read = (c.schema_at-row.ensures, leb-true (row.first + row.count) c.args.form.c (right (eqb row.first c.loop-s.k) (leb (row.first + row.count) c.args.form.c) tests), c.loop-s.invariant.2.next ∙ ap (list_start c.args.words.now) (sym at_k));
+    }
 
 pub loop-s-preserved : goal.loop-s-preserved
 loop-s-preserved c =
     let s = c.loop-s.s in
     let row = c.schema_at-row.result in
     let read = c.schema_at-row.ensures in
-    let tests = (rw (c.wide.ensures, c.wide-in-loop-s.ensures, c.wide-in-loop-s-2.ensures) at (not-false (eqb c.schema_at-row.result.first c.loop-s.k && leb (c.wide.result + c.wide-in-loop-s.result) c.wide-in-loop-s-2.result) c.if-not-first-k.false-raw)) in
+    let tests = (rw (c.wide.ensures, c.wide-in-loop-s.ensures, c.wide-in-loop-s-2.ensures) at (not-false (eqb c.schema_at-row.result.first c.loop-s.k && leb (c.wide.result + c.wide-in-loop-s.result) c.wide-in-loop-s-2.result) c.if-not-row-k.false-raw)) in
     let at_k = eqb-true row.first c.loop-s.k (left (eqb row.first c.loop-s.k) (leb (row.first + row.count) c.args.form.c) tests) in
-    let passed = c.pass_schema-pass.ensures (not-false _ c.if-not-pass.false) in (
-      omega arith,
+    let passed = c.in-Some.ensures in (
       next_schema c.args.words.now s row.first (row.first + row.count) 0 0 row read refl refl,
       λ (u : ℕ) (h : u < s + 1). ⊎_elim
           (λ (g : s ≤ u).
           let e : s ≡ u = omega arith in
           subst (λ n. schema_fine c.args.words.now n ≡ true) e
-          (sym (schema_tested c.args.words.now s row.first (row.first + row.count) c.loop-s.k c.args.form.c row read refl refl c.loop-s.invariant.1 (form_c c.args.words.now c.args.form c.requires.0)) ∙ tests))
-          (λ (g : u < s). c.loop-s.invariant.2 u g)
+          (sym (schema_tested c.args.words.now s row.first (row.first + row.count) c.loop-s.k c.args.form.c row read refl refl c.loop-s.invariant.0 (form_c c.args.words.now c.args.form c.requires.0)) ∙ tests))
+          (λ (g : u < s). c.loop-s.invariant.1 u g)
           (le_or_lt s u),
-      subst (λ (x : SchemaRow). Come c.args.words.now c.args.text.now (s + 1) (x.first + x.count) c.pass_schema-pass.result.start c.pass_schema-pass.result.steps) (sym read)
-          (come_on c.args.words.now c.args.text.now s c.loop-s.k c.loop-s.start c.loop-s.steps c.pass_schema-pass.result c.loop-s.invariant.3 (sym at_k ∙ ap (λ (x : SchemaRow). x.first) read) passed),
+      subst (λ (x : SchemaRow). Come c.args.words.now c.args.text.now (s + 1) (x.first + x.count) c.in-Some.next.start c.in-Some.next.steps) (sym read)
+          (come_on c.args.words.now c.args.text.now s c.loop-s.k c.loop-s.pass.start c.loop-s.pass.steps c.in-Some.next c.loop-s.invariant.2 (sym at_k ∙ ap (λ (x : SchemaRow). x.first) read) passed),
     )
 
 pub returns : goal.returns
-returns c = tells c.args.words.now c.args.text.now c.args.form c.requires.0 c.loop-s.s c.loop-s.k c.loop-s.start c.loop-s.steps (omega arith) c.loop-s.invariant.1 c.loop-s.invariant.2 c.loop-s.invariant.3
+returns c = tells c.args.words.now c.args.text.now c.args.form c.requires.0 c.loop-s.s c.loop-s.k c.loop-s.pass.start c.loop-s.pass.steps (omega arith) c.loop-s.invariant.0 c.loop-s.invariant.1 c.loop-s.invariant.2

@@ -102,7 +102,7 @@ returns-in-61 c = decodes 61 c.in-61.is (fresh_items_decoded _ _)
 
 pub returns-in_default : goal.returns-in_default
 returns-in_default c =
-    let a = c.args in
+    let a = c.args.row in
     let r = c.in_default.in_default-own.rest in
     record {
       means = λ ws ts. sym (ap (λ (l : CodeLine). l.means (parts_of ws ts a.first a.count)) (line_past _ _ _ r.0.0.0.0.0.0.0.0.0.0.0.0.0.0.0.0.0.0.0.0.0.0.0.0.0.0.0.0.1 ∙ line_past _ _ _ r.0.0.0.0.0.0.0.0.0.0.0.0.0.0.0.0.0.0.0.0.0.0.0.0.0.0.0.1 ∙ line_past _ _ _ r.0.0.0.0.0.0.0.0.0.0.0.0.0.0.0.0.0.0.0.0.0.0.0.0.0.0.1 ∙ line_past _ _ _ r.0.0.0.0.0.0.0.0.0.0.0.0.0.0.0.0.0.0.0.0.0.0.0.0.0.1 ∙ line_past _ _ _ r.0.0.0.0.0.0.0.0.0.0.0.0.0.0.0.0.0.0.0.0.0.0.0.0.1 ∙ line_past _ _ _ r.0.0.0.0.0.0.0.0.0.0.0.0.0.0.0.0.0.0.0.0.0.0.0.1 ∙ line_past _ _ _ r.0.0.0.0.0.0.0.0.0.0.0.0.0.0.0.0.0.0.0.0.0.0.1 ∙ line_past _ _ _ r.0.0.0.0.0.0.0.0.0.0.0.0.0.0.0.0.0.0.0.0.0.1 ∙ line_past _ _ _ r.0.0.0.0.0.0.0.0.0.0.0.0.0.0.0.0.0.0.0.0.1 ∙ line_past _ _ _ r.0.0.0.0.0.0.0.0.0.0.0.0.0.0.0.0.0.0.0.1 ∙ line_past _ _ _ r.0.0.0.0.0.0.0.0.0.0.0.0.0.0.0.0.0.0.1 ∙ line_past _ _ _ r.0.0.0.0.0.0.0.0.0.0.0.0.0.0.0.0.0.1 ∙ line_past _ _ _ r.0.0.0.0.0.0.0.0.0.0.0.0.0.0.0.0.1 ∙ line_past _ _ _ r.0.0.0.0.0.0.0.0.0.0.0.0.0.0.0.1 ∙ line_past _ _ _ r.0.0.0.0.0.0.0.0.0.0.0.0.0.0.1 ∙ line_past _ _ _ r.0.0.0.0.0.0.0.0.0.0.0.0.0.1 ∙ line_past _ _ _ r.0.0.0.0.0.0.0.0.0.0.0.0.1 ∙ line_past _ _ _ r.0.0.0.0.0.0.0.0.0.0.0.1 ∙ line_past _ _ _ r.0.0.0.0.0.0.0.0.0.0.1 ∙ line_past _ _ _ r.0.0.0.0.0.0.0.0.0.1 ∙ line_past _ _ _ r.0.0.0.0.0.0.0.0.1 ∙ line_past _ _ _ r.0.0.0.0.0.0.0.1 ∙ line_past _ _ _ r.0.0.0.0.0.0.1 ∙ line_past _ _ _ r.0.0.0.0.0.1 ∙ line_past _ _ _ r.0.0.0.0.1 ∙ line_past _ _ _ r.0.0.0.1 ∙ line_past _ _ _ r.0.0.1 ∙ line_past _ _ _ r.0.1 ∙ line_past _ _ _ r.1 ∙ line_none _));

@@ -1,6 +1,5 @@
-use mathlib.Core.Logic.{⊎_elim}
 use mathlib.Core.Path.{◌≡◌, sym, ap, ◌∙◌}
-use Prim.Native.Nat.{◌+◌, ◌-◌}
+use Prim.Native.Nat.{◌+◌}
 use native.Mathlib.Omega.{arith}
 use Rattle.laws.proofs.Searches.{ended}
 use Rattle.rulesheet.specs.Sheet.{clauses_word, entries_word}
@@ -13,7 +12,7 @@ use Rattle.ruleentries.proofs.repeats.first_repeated_entry.Goals.{then-is_named+
 use Rattle.ruleentries.proofs.repeats.first_repeated_entry.Goals as goal
 
 pub loop-k-init : goal.loop-k-init
-loop-k-init c = (omega arith, walk_begins c.args.words.now (repeated c.args.words.now c.args.text.now))
+loop-k-init c = (walk_begins c.args.words.now (repeated c.args.words.now c.args.text.now))
 
 pub clause_at-clause-requires : goal.clause_at-clause-requires
 clause_at-clause-requires c = (c.requires.0.clauses_laid.schemas_laid.formed, omega arith)
@@ -41,12 +40,7 @@ returns-then-again-clause c =
     let ws = c.args.words.now in
     let list = named_list (fields_at ws c.loop-k.k) (told is_named (fields_read ws c.loop-k.k clause.ensures c.shape_of-shape.ensures) c.is_named.ensures c.if-is_named.true) in
     let again = c.first_repeated_in-again in
-    walk_ends ws c.args.form c.requires.0.clauses_laid (omega arith) clause.result clause.ensures list (repeated ws c.args.text.now) c.loop-k.invariant.1 again.result again.ensures c.if-again-clause.true
-
-pub overflow_add-k : goal.overflow_add-k
-overflow_add-k c =
-    let formed = c.requires.0.clauses_laid.schemas_laid.formed in
-    omega (arith, (facts c.args.words.now c.args.form formed).few_clauses, form_c c.args.words.now c.args.form formed)
+    walk_ends ws c.args.form c.requires.0.clauses_laid (omega arith) clause.result clause.ensures list (repeated ws c.args.text.now) c.loop-k.invariant again.result again.ensures c.if-again-clause.true
 
 pub loop-k-preserved : goal.loop-k-preserved
 loop-k-preserved c =
@@ -58,12 +52,12 @@ loop-k-preserved c =
       | then-is_named+else-again-clause w ↦
           let list = named_list (fields_at ws c.loop-k.k) (told is_named (fields_read ws c.loop-k.k clause.ensures c.shape_of-shape.ensures) c.is_named.ensures w.if-is_named.true) in
           let again = w.first_repeated_in-again in
-          walk_on ws c.args.form c.requires.0.clauses_laid (omega arith) clause.result clause.ensures list test c.loop-k.invariant.1 again.result again.ensures w.if-again-clause.false
+          walk_on ws c.args.form c.requires.0.clauses_laid (omega arith) clause.result clause.ensures list test c.loop-k.invariant again.result again.ensures w.if-again-clause.false
       | else-is_named w ↦
-          unnamed_on ws c.args.text.now c.args.form c.requires.0 c.loop-k.k (omega arith) (told is_named (fields_read ws c.loop-k.k clause.ensures c.shape_of-shape.ensures) c.is_named.ensures w.if-is_named.false) c.loop-k.invariant.1
+          unnamed_on ws c.args.text.now c.args.form c.requires.0 c.loop-k.k (omega arith) (told is_named (fields_read ws c.loop-k.k clause.ensures c.shape_of-shape.ensures) c.is_named.ensures w.if-is_named.false) c.loop-k.invariant
     ]
     in
-    (omega arith, next)
+    next
 
 pub returns : goal.returns
 returns c =
@@ -72,4 +66,4 @@ returns c =
     let formed = c.requires.0.clauses_laid.schemas_laid.formed in
     let e : c.loop-k.k ≡ clauses_word ws = omega (arith, form_c ws c.args.form formed) in
     let x : list_start ws c.loop-k.k ≡ entries_word ws = ap (list_start ws) e ∙ all_taken ws ts c.args.form c.requires.0 in
-    form_e ws c.args.form formed ∙ sym (c.loop-k.invariant.1.rest ∙ ended (repeated ws ts) (entries_word ws) (list_start ws c.loop-k.k) (omega arith) ∙ x)
+    form_e ws c.args.form formed ∙ sym (c.loop-k.invariant.rest ∙ ended (repeated ws ts) (entries_word ws) (list_start ws c.loop-k.k) (omega arith) ∙ x)

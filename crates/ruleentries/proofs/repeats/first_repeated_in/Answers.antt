@@ -22,8 +22,8 @@ first_repeated-requires c =
     let count = c.wide-2 in
     names_lie c.args.words.now c.args.text.now c.args.form c.requires.rules_laid.0 c.args.k c.requires.clause_named.0 c.requires.clause_named.1 first.result count.result (first.ensures ∙ ap (λ (x : ClauseRow). x.first) clause.ensures) (count.ensures ∙ ap (λ (x : ClauseRow). x.count) clause.ensures) c.requires.rules_laid.1
 
-pub narrow-requires : goal.narrow-requires
-narrow-requires c =
+pub overflow_cast-result : goal.overflow_cast-result
+overflow_cast-result c =
     let clause = c.clause_at-clause in
     let first = c.wide in
     let count = c.wide-2 in
@@ -43,4 +43,4 @@ returns c =
     let first = c.wide in
     let count = c.wide-2 in
     let found = c.first_repeated in
-    rw (c.narrow.ensures, ← first.ensures) (found_named c.args.words.now c.args.text.now c.args.form c.requires.rules_laid.0 c.args.k c.requires.clause_named.0 c.requires.clause_named.1 first.result count.result (first.ensures ∙ ap (λ (x : ClauseRow). x.first) clause.ensures) (count.ensures ∙ ap (λ (x : ClauseRow). x.count) clause.ensures) found.result found.ensures)
+    rw (← first.ensures) (found_named c.args.words.now c.args.text.now c.args.form c.requires.rules_laid.0 c.args.k c.requires.clause_named.0 c.requires.clause_named.1 first.result count.result (first.ensures ∙ ap (λ (x : ClauseRow). x.first) clause.ensures) (count.ensures ∙ ap (λ (x : ClauseRow). x.count) clause.ensures) found.result found.ensures)
