@@ -1,9 +1,9 @@
 -- What a value has, by its kind.
 --     number_found, none_found       its number, if it is one
 --     bytes_found, string_in, no_bytes     its bytes, if it is a string
---     elements_found, no_elements    its elements' rows, if it is an array
 --     members_found, no_members      its members' rows, if it is an object
 -- Assumes nothing.
+use Rattle.std.specs.Prelude.{Some, None}
 use mathlib.Core.Bool.{Bool, true, false}
 use mathlib.Core.List.{List}
 use mathlib.Core.Option.{none, some}
@@ -21,8 +21,7 @@ use Rattle.sheet.specs.Doc.{Value, null, bool, number, string, array, object, va
 use Rattle.sheet.specs.Record.{text_word, doc_of}
 use Rattle.sheet.specs.Accepted.{StringRead}
 use Rattle.meaning.specs.Lists.{range}
-use Rattle.meaning.specs.Tests.{number?, bytes?, elements?, members?}
-use Rattle.looking.specs.declared.numbers.Numbered.TheVariants.{Number, Other}
+use Rattle.meaning.specs.Tests.{number?, bytes?, members?}
 use Rattle.looking.specs.Read.{NumberFound}
 
 -- a value is of the kind that has this number
@@ -38,7 +37,7 @@ never_not e = never (sym e)
 -- ---- numbers
 
 module _ (d : Decimal) where
-  pub number_found : (v : Value) → is_of 3 v ≡ true → ((z : ℤ) → v ≡ number z → value d ≡ z) → ((z : ℤ) → v ≡ number z → Plain d) → NumberFound v (Number d)
+  pub number_found : (v : Value) → is_of 3 v ≡ true → ((z : ℤ) → v ≡ number z → value d ≡ z) → ((z : ℤ) → v ≡ number z → Plain d) → NumberFound v (Some d)
   unfolding number?
   number_found null t is fine = absurd (never t)
   number_found (bool true) t is fine = absurd (never t)
@@ -48,7 +47,7 @@ module _ (d : Decimal) where
   number_found (array first k) t is fine = absurd (never t)
   number_found (object first k) t is fine = absurd (never t)
 
-pub none_found : (v : Value) → is_of 3 v ≡ false → NumberFound v Other
+pub none_found : (v : Value) → is_of 3 v ≡ false → NumberFound v None
 unfolding number?
 none_found null t = record { number_is = refl; plain = tt }
 none_found (bool b) t = record { number_is = refl; plain = tt }
@@ -91,25 +90,6 @@ string_in {ws} {j} {r} read ts t = within ((doc_of ws ts).value j) t (read.strin
     within (object first k) t inside = absurd (never t)
 
 -- ---- children
-
-pub elements_found : (v : Value) → is_of 5 v ≡ true → elements? v ≡ some (range (first_child v) (child_count v))
-unfolding elements?
-elements_found null t = absurd (never t)
-elements_found (bool true) t = absurd (never t)
-elements_found (bool false) t = absurd (never t)
-elements_found (number z) t = absurd (never t)
-elements_found (string bytes) t = absurd (never t)
-elements_found (array first k) t = refl
-elements_found (object first k) t = absurd (never t)
-
-pub no_elements : (v : Value) → is_of 5 v ≡ false → elements? v ≡ none
-unfolding elements?
-no_elements null t = refl
-no_elements (bool b) t = refl
-no_elements (number z) t = refl
-no_elements (string bytes) t = refl
-no_elements (array first k) t = absurd (never_not t)
-no_elements (object first k) t = refl
 
 pub members_found : (v : Value) → is_of 6 v ≡ true → members? v ≡ some (range (first_child v) (child_count v))
 unfolding members?

@@ -1,4 +1,4 @@
-use mathlib.Core.Path.{sym, ◌∙◌}
+use mathlib.Core.Path.{◌≡◌, sym, ◌∙◌}
 use Prim.Native.Nat.{◌-◌}
 use native.Mathlib.Omega.{arith}
 use Rattle.laws.proofs.Passing.{begin, here, further, nowhere}
@@ -32,4 +32,5 @@ loop-i-preserved c = further c.loop-i.invariant (omega arith) (sym c.has_name.en
 
 pub returns : goal.returns
 returns c =
-    child_found (doc_of c.args.«record».now c.args.text.now) c.args.row.0 (part c.args.rule_text.now c.args.name) _ _ _ (c.children_of-children.ensures.first_is c.args.text.now) (c.children_of-children.ensures.count_is c.args.text.now) (nowhere c.loop-i.invariant (omega arith))
+    let end : c.children_of-children.result.count ≡ c.loop-i.i = omega arith in
+    end ∙ child_found (doc_of c.args.«record».now c.args.text.now) c.args.row.0 (part c.args.rule_text.now c.args.name) _ _ _ (c.children_of-children.ensures.first_is c.args.text.now) (c.children_of-children.ensures.count_is c.args.text.now) (nowhere c.loop-i.invariant (omega arith))
