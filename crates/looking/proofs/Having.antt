@@ -1,9 +1,9 @@
 -- What a value has, by its kind.
---     number_found, none_found       its number, if it is one
---     bytes_found, string_in, no_bytes     its bytes, if it is a string
---     members_found, no_members      its members' rows, if it is an object
+--     number_found, none_found, number_read             its number, if it is one
+--     bytes_found, no_bytes, string_in, string_read     its bytes, if it is a string
+--     members_found, no_members                         its members' rows, if it is an object
 -- Assumes nothing.
-use Rattle.std.specs.Prelude.{Some, None}
+use Rattle.std.specs.Prelude.{Option as Found, Some, None, is_some, IfSome}
 use mathlib.Core.Bool.{Bool, true, false}
 use mathlib.Core.List.{List}
 use mathlib.Core.Option.{none, some}
@@ -12,6 +12,7 @@ use Prim.Native.Nat.{ℕ}
 use native.Mathlib.Omega.{arith}
 use lib.Dec.{eqb}
 use lib.IntN.{ℤ}
+use lib.ListN.{length}
 use Rattle.decimal.specs.declared.Decimal.{Decimal}
 use Rattle.decimal.specs.Value.{value, Plain}
 use Rattle.text.specs.declared.Range.{Range}
@@ -19,10 +20,10 @@ use Rattle.text.specs.Part.{fits}
 use Rattle.sheet.specs.Kinds.{kind_number}
 use Rattle.sheet.specs.Doc.{Value, null, bool, number, string, array, object, value_kind, first_child, child_count}
 use Rattle.sheet.specs.Record.{text_word, doc_of}
-use Rattle.sheet.specs.Accepted.{StringRead}
+use Rattle.sheet.specs.Accepted.{NumberRead, StringRead}
 use Rattle.meaning.specs.Lists.{range}
 use Rattle.meaning.specs.Tests.{number?, bytes?, members?}
-use Rattle.looking.specs.Read.{NumberFound}
+use Rattle.looking.specs.Read.{NumberFound, StringFound}
 
 -- a value is of the kind that has this number
 abbrev pub is_of : ℕ → Value → Bool
@@ -56,6 +57,12 @@ none_found (string bytes) t = record { number_is = refl; plain = tt }
 none_found (array first k) t = record { number_is = refl; plain = tt }
 none_found (object first k) t = record { number_is = refl; plain = tt }
 
+-- what was read only where the value is a number
+pub number_read : {ws : List ℕ} {j : ℕ} {Made : Decimal → Type 0} (ts : List ℕ) (r : Found Decimal) → is_some r ≡ is_of 3 ((doc_of ws ts).value j) → IfSome r Made
+    → ((d : Decimal) → Made d → NumberRead ws j d) → NumberFound ((doc_of ws ts).value j) r
+number_read ts None is made read = none_found _ (sym is)
+number_read ts (Some d) is made read = number_found d _ (sym is) ((read d made).number_is ts) ((read d made).number_plain ts)
+
 -- ---- strings
 
 pub bytes_found : (bs : List ℕ) (v : Value) → is_of 4 v ≡ true → ((bytes : List ℕ) → v ≡ string bytes → bs ≡ bytes) → bytes? v ≡ some bs
@@ -88,6 +95,12 @@ string_in {ws} {j} {r} read ts t = within ((doc_of ws ts).value j) t (read.strin
     within (string bytes) t inside = inside bytes refl
     within (array first k) t inside = absurd (never t)
     within (object first k) t inside = absurd (never t)
+
+-- what was read only where the value is a string
+pub string_read : {ws : List ℕ} {j : ℕ} {Made : Range → Type 0} (ts : List ℕ) (r : Found Range) → length ts ≡ text_word ws → is_some r ≡ is_of 4 ((doc_of ws ts).value j)
+    → IfSome r Made → ((own : Range) → Made own → StringRead ws j own) → StringFound ts ((doc_of ws ts).value j) r
+string_read ts None long is made read = record { bytes_is = no_bytes _ (sym is); inside = tt }
+string_read ts (Some own) long is made read = record { bytes_is = bytes_found _ _ (sym is) ((read own made).string_is ts); inside = rw long (string_in (read own made) ts (sym is)) }
 
 -- ---- children
 

@@ -6,14 +6,12 @@
 use Rattle.std.specs.Prelude.{Option as Found, Some, None, IsSomeAnd, MatchOption}
 use mathlib.Core.Bool.{true, false}
 use mathlib.Core.List.{List}
-use mathlib.Core.Option.{none, some}
+use mathlib.Core.Option.{some}
 use mathlib.Core.Path.{◌≡◌, refl, ap, sym}
 use Prim.Native.Nat.{ℕ}
-use lib.ListN.{length}
 use Rattle.text.specs.declared.Range.{Range}
 use Rattle.text.specs.Part.{fits, part}
 use Rattle.sheet.specs.Doc.{Value, null, bool, number, string, array, object}
-use Rattle.meaning.specs.Lists.{range}
 use Rattle.meaning.specs.Tests.{bytes?, elements?, members?, length_of}
 use Rattle.meaning.proofs.Members.{range_length}
 use Rattle.looking.specs.Read.{FitsIn, StringFound, size_in, size_by, size_of, count_if}

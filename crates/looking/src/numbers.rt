@@ -23,8 +23,5 @@ pub fn number_in(record: &[u32], form: RecordForm, row: RecordRow) -> Option<Dec
     requires { Laid «record».now form × (row.0 < form.rows) }
     ensures { (ts : List ℕ) → NumberFound ((doc_of «record».now ts).value row.0) result }
 {
-    if !is_kind(record, form, row, RowKind::NUMBER) {
-        return None;
-    }
-    Some(number_of(record, form, row))
+    is_kind(record, form, row, RowKind::NUMBER).then(|| number_of(record, form, row))
 }

@@ -17,10 +17,7 @@ pub fn string_in(record: &[u32], form: RecordForm, row: RecordRow) -> Option<Ran
     requires { Laid «record».now form × (row.0 < form.rows) }
     ensures { (ts : List ℕ) → length ts ≡ text_word «record».now → StringFound ts ((doc_of «record».now ts).value row.0) result }
 {
-    if is_kind(record, form, row, RowKind::STRING) {
-        return Some(string_of(record, form, row));
-    }
-    None
+    is_kind(record, form, row, RowKind::STRING).then(|| string_of(record, form, row))
 }
 
 // How many characters a string has that was found.
@@ -36,10 +33,7 @@ fn children_of_kind(record: &[u32], form: RecordForm, row: RecordRow, kind: u32)
     requires { Laid «record».now form × (row.0 < form.rows) }
     ensures { (ts : List ℕ) → size_in result ≡ count_if kind ((doc_of «record».now ts).value row.0) }
 {
-    if !is_kind(record, form, row, kind) {
-        return None;
-    }
-    Some(children_of(record, form, row).count)
+    is_kind(record, form, row, kind).then(|| children_of(record, form, row).count)
 }
 
 // How many elements an array has.
