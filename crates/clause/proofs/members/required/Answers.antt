@@ -1,15 +1,13 @@
 use mathlib.Core.Bool.{true}
 use mathlib.Core.Path.{◌≡◌, refl, sym, ◌∙◌}
-use Prim.Native.Nat.{ℕ, ◌+◌, ◌-◌, ◌<◌}
+use Prim.Native.Nat.{ℕ, ◌+◌, ◌<◌}
 use native.Mathlib.Omega.{arith}
 use borrow.Author.Count.{below_none, below_more}
-use borrow.Author.Rules.{rules}
 use borrow.Author.Tests.{not-true, not-false}
 use Rattle.rulesheet.specs.declared.code.Fields.TheVariants.{Names}
 use Rattle.sheet.specs.Record.{doc_of}
 use Rattle.rulesheet.specs.Codes.{entry_name}
 use Rattle.rulesheet.specs.Sheet.{entry_at}
-use Rattle.clause.proofs.Listing.{list_few}
 use Rattle.clause.proofs.Requiring.{has_members, is_missed, is_found, is_named, entry_lacks, entry_has, no_object, lacks, has_all}
 use Rattle.clause.proofs.members.required.Goals as goal
 
@@ -25,7 +23,7 @@ children_of-members-requires c = (c.requires.record_read.0.laid.formed, c.requir
 
 pub loop-i-init : goal.loop-i-init
 loop-i-init c =
-    (omega arith, below_none (λ (k : ℕ). is_named (doc_of c.args.«record».now c.args.text.now) c.args.row.0 (entry_name c.args.rule_text.now (entry_at c.args.rules.now (c.args.list.first + k))) ≡ true))
+    below_none (λ (k : ℕ). is_named (doc_of c.args.«record».now c.args.text.now) c.args.row.0 (entry_name c.args.rule_text.now (entry_at c.args.rules.now (c.args.list.first + k))) ≡ true)
 
 pub entry_name-name-requires : goal.entry_name-name-requires
 entry_name-name-requires c = (c.requires.rules_read.0.laid.clauses_laid.schemas_laid.formed, c.requires.rules_read.1.within, omega arith)
@@ -40,13 +38,10 @@ pub returns-then-not-has_member : goal.returns-then-not-has_member
 returns-then-not-has_member c =
     lacks (doc_of c.args.«record».now c.args.text.now) c.args.row.0 c.args.rules.now c.args.rule_text.now c.args.list (sym (c.is_kind.ensures c.args.text.now) ∙ not-false _ c.if-not-is_kind.false-raw) c.loop-i.i (omega arith) (entry_lacks (doc_of c.args.«record».now c.args.text.now) c.args.row.0 c.args.rules.now c.args.rule_text.now c.args.list c.loop-i.i (omega arith) _ c.entry_name-name.ensures _ _ refl (c.children_of-members.ensures.count_is c.args.text.now) (is_missed c.has_member.ensures (not-true _ c.if-not-has_member.true-raw)))
 
-pub overflow_add-i : goal.overflow_add-i
-overflow_add-i c = omega (arith, list_few c.requires.rules_read.0 c.requires.rules_read.1)
-
 pub loop-i-preserved : goal.loop-i-preserved
 loop-i-preserved c =
-    (omega arith, below_more (λ (k : ℕ). is_named (doc_of c.args.«record».now c.args.text.now) c.args.row.0 (entry_name c.args.rule_text.now (entry_at c.args.rules.now (c.args.list.first + k))) ≡ true) c.loop-i.i c.loop-i.invariant.1 (entry_has (doc_of c.args.«record».now c.args.text.now) c.args.row.0 c.args.rules.now c.args.rule_text.now c.args.list c.loop-i.i (omega arith) _ c.entry_name-name.ensures _ _ refl (c.children_of-members.ensures.count_is c.args.text.now) (is_found c.has_member.ensures (not-false _ c.if-not-has_member.false-raw))))
+    below_more (λ (k : ℕ). is_named (doc_of c.args.«record».now c.args.text.now) c.args.row.0 (entry_name c.args.rule_text.now (entry_at c.args.rules.now (c.args.list.first + k))) ≡ true) c.loop-i.i c.loop-i.invariant (entry_has (doc_of c.args.«record».now c.args.text.now) c.args.row.0 c.args.rules.now c.args.rule_text.now c.args.list c.loop-i.i (omega arith) _ c.entry_name-name.ensures _ _ refl (c.children_of-members.ensures.count_is c.args.text.now) (is_found c.has_member.ensures (not-false _ c.if-not-has_member.false-raw)))
 
 pub returns : goal.returns
 returns c =
-    has_all (doc_of c.args.«record».now c.args.text.now) c.args.row.0 c.args.rules.now c.args.rule_text.now c.args.list (sym (c.is_kind.ensures c.args.text.now) ∙ not-false _ c.if-not-is_kind.false-raw) (λ (i : ℕ) (l : i < c.args.list.count). c.loop-i.invariant.1 i (omega arith))
+    has_all (doc_of c.args.«record».now c.args.text.now) c.args.row.0 c.args.rules.now c.args.rule_text.now c.args.list (sym (c.is_kind.ensures c.args.text.now) ∙ not-false _ c.if-not-is_kind.false-raw) (λ (i : ℕ) (l : i < c.args.list.count). c.loop-i.invariant i (omega arith))

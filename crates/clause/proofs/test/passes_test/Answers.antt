@@ -6,7 +6,6 @@ use Rattle.sheet.specs.Record.{doc_of}
 use Rattle.rulesheet.specs.declared.code.Fields.TheVariants.{Values, Names}
 use Rattle.meaning.specs.Rules.{passes}
 use Rattle.clause.proofs.Asserting.{answered, no_test, bounds, list_read}
-use borrow.Author.Rules.{rules}
 use Rattle.clause.proofs.test.passes_test.Goals as goal
 
 pub number_in-requires : goal.number_in-requires
