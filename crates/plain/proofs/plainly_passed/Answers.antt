@@ -1,9 +1,8 @@
 use mathlib.Core.Bool.{true}
 use mathlib.Core.Path.{ap}
-use Prim.Native.Nat.{ℕ, ◌-◌}
+use Prim.Native.Nat.{ℕ}
 use native.Mathlib.Omega.{arith}
 use borrow.Author.Count.{below_none, below_more}
-use borrow.Author.Rules.{rules}
 use borrow.Author.Tests.{not-false}
 use Rattle.sheet.specs.Record.{doc_of}
 use Rattle.rulesheet.specs.declared.form.SchemaRow.{SchemaRow}
@@ -19,7 +18,7 @@ schema_at-first-requires c =
 
 pub loop-i-init : goal.loop-i-init
 loop-i-init c =
-    (omega arith, below_none (λ (k : ℕ). Tries (doc_of c.args.«record».now c.args.text.now) c.args.p.row.0 (clause_in c.args.rules.now c.args.rule_text.now c.args.p.rule.0 k) true))
+    below_none (λ (k : ℕ). Tries (doc_of c.args.«record».now c.args.text.now) c.args.p.row.0 (clause_in c.args.rules.now c.args.rule_text.now c.args.p.rule.0 k) true)
 
 pub overflow_add-first : goal.overflow_add-first
 overflow_add-first c =
@@ -38,12 +37,12 @@ plainly-requires c = record {
 }
 
 pub returns-then-not-plainly : goal.returns-then-not-plainly
-returns-then-not-plainly c = record { within = c.loop-i.invariant.0; passed = c.loop-i.invariant.1 }
+returns-then-not-plainly c = record { within = omega arith; passed = c.loop-i.invariant }
 
 pub loop-i-preserved : goal.loop-i-preserved
 loop-i-preserved c =
     let rules = c.requires.rules_read in
-    (omega arith, below_more (λ (k : ℕ). Tries (doc_of c.args.«record».now c.args.text.now) c.args.p.row.0 (clause_in c.args.rules.now c.args.rule_text.now c.args.p.rule.0 k) true) c.loop-i.i c.loop-i.invariant.1 (clause_told (doc_of c.args.«record».now c.args.text.now) c.args.p.row.0 rules.0 rules.1 (ap (λ (row : SchemaRow). row.first) c.schema_at-first.ensures) (omega (arith, rules.2)) c.plain_of-clause.ensures (c.plainly.ensures (not-false _ c.if-not-plainly.false-raw) c.args.rules.now c.args.rule_text.now)))
+    below_more (λ (k : ℕ). Tries (doc_of c.args.«record».now c.args.text.now) c.args.p.row.0 (clause_in c.args.rules.now c.args.rule_text.now c.args.p.rule.0 k) true) c.loop-i.i c.loop-i.invariant (clause_told (doc_of c.args.«record».now c.args.text.now) c.args.p.row.0 rules.0 rules.1 (ap (λ (row : SchemaRow). row.first) c.schema_at-first.ensures) (omega (arith, rules.2)) c.plain_of-clause.ensures (c.plainly.ensures (not-false _ c.if-not-plainly.false-raw) c.args.rules.now c.args.rule_text.now))
 
 pub returns : goal.returns
-returns c = record { within = c.loop-i.invariant.0; passed = c.loop-i.invariant.1 }
+returns c = record { within = omega arith; passed = λ (k : ℕ) low. c.loop-i.invariant k (omega (arith, low)) }
