@@ -10,7 +10,6 @@ use Rattle.clause.proofs.Asserting.{list_read}
 use borrow.Enum.Refused.{opened}
 use Rattle.told.specs.Read.{named_by}
 use Rattle.told.proofs.Earlier.{names_none}
-use borrow.Author.Rules.{rules}
 use Rattle.told.proofs.clause_names.Goals as goal
 
 pub named_in-requires : goal.named_in-requires

@@ -2,7 +2,6 @@
 use Rattle.clause.specs.Read.{before_in}
 use borrow.Enum.Refused.{opened}
 use Rattle.told.proofs.Earlier.{started_items, started_additional, started_other}
-use borrow.Author.Rules.{rules}
 use Rattle.told.proofs.start_in.Goals as goal
 
 pub returns-in-Items : goal.returns-in-Items

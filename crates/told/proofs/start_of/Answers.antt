@@ -7,7 +7,6 @@ use Rattle.clause.specs.Read.{clause_in, before_in}
 use Rattle.clause.proofs.Reading.{clause_low, clause_small, clause_read}
 use Rattle.told.specs.Read.{Started}
 use Rattle.told.proofs.Earlier.{told_started}
-use borrow.Author.Rules.{rules}
 use Rattle.told.proofs.start_of.Goals as goal
 
 pub overflow_add-first : goal.overflow_add-first
