@@ -12,14 +12,6 @@ use Rattle.finish.proofs.Ending.{Ends, any_ends, one_ends, not_ends, if_ends, co
 use Rattle.rulesheet.specs.Clauses as R
 use Rattle.finish.proofs.finish_in.Goals as goal
 
-pub entry_of-entry-requires : goal.entry_of-entry-requires
-entry_of-entry-requires c =
-    let few = (subst (λ x. R.Sized (R.held x)) c.in-Contains.is (c.requires.rules_laid.1.sized c.requires.rules_laid.0.clauses_laid)) in (c.requires.rules_laid.0.clauses_laid.schemas_laid.formed, (subst (λ x. R.Bounded c.args.rule_form (R.held x)) c.in-Contains.is (c.requires.rules_laid.1.bounded c.requires.rules_laid.0.clauses_laid)), omega (arith, few))
-
-pub enough-requires : goal.enough-requires
-enough-requires c =
-    c.requires.laid
-
 pub returns-in-AnyOf : goal.returns-in-AnyOf
 returns-in-AnyOf c =
     λ ts us p same. subst (λ x. Ends (doc_of c.args.«record».now ts) p c.args.tally c.args.rules.now us x (ltb c.args.tally c.in-AnyOf.es.count)) (sym c.in-AnyOf.is) (any_ends (doc_of c.args.«record».now ts) p c.args.tally c.args.rules.now us c.in-AnyOf.es)

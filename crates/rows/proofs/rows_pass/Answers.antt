@@ -6,7 +6,7 @@ use Rattle.sheet.specs.Record.{doc_of}
 use Rattle.rulesheet.specs.Clauses.{held}
 use Rattle.meaning.specs.Rules.{passes}
 use Rattle.clause.proofs.Asserting.{tried}
-use Rattle.rows.proofs.Firsts.{rows_none, rows_so}
+use Rattle.rows.proofs.Firsts.{rows_so}
 use Rattle.rows.proofs.rows_pass.Goals as goal
 
 pub first_rows-requires-in-Minimum-clause-callable : goal.first_rows-requires-in-Minimum-clause-callable
@@ -43,6 +43,3 @@ pub returns-in-MaxLength : goal.returns-in-MaxLength
 unfolding passes
 returns-in-MaxLength c =
     rows_so _ _ _ c.first_rows-in-MaxLength.ensures (λ j told rs us. tried rs us (doc_of c.args.«record».now c.args.text.now) j _ _ _ _ c.in-MaxLength.is refl (search rules))
-
-pub returns-in_default : goal.returns-in_default
-returns-in_default c = rows_none _ _ _

@@ -10,6 +10,3 @@ pub telling_of-requires : goal.telling_of-requires
 telling_of-requires c =
     let asked = c.requires in
     (asked.0.clauses_laid.schemas_laid.formed, omega (arith, clauses_few _ _ _ asked))
-
-pub has_names-requires : goal.has_names-requires
-has_names-requires c = tt

@@ -4,9 +4,6 @@ use Rattle.rulesheet.specs.Sheet.{clause_of}
 use Rattle.told.proofs.Earlier.{test_marks, applied_marks}
 use Rattle.told.proofs.marks_named.Goals as goal
 
-pub has_names-requires : goal.has_names-requires
-has_names-requires c = tt
-
 pub returns-then-applies : goal.returns-then-applies
 returns-then-applies c =
     λ us.

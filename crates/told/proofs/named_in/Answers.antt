@@ -25,9 +25,6 @@ named : (ws ts rs us : List ℕ) (list : Entries) (j i : ℕ) (own name : Range)
     → r ≡ same_bytes (part ts own) (part us name) → r ≡ called (doc_of ws ts) (entry_name us (entry_at rs (list.first + i))) j
 named ws ts rs us list j i own name r row low read is = compared row ts _ _ (entry_same read us _ _ low is)
 
-pub name_of-own-requires : goal.name_of-own-requires
-name_of-own-requires c = (c.requires.record_read.0.laid, c.requires.record_read.1)
-
 pub names-requires-asks-same_part-requires : goal.names-requires-asks-same_part-requires
 names-requires-asks-same_part-requires c =
     let own : fits (length c.args.text.now) c.name_of-own.result ≡ true = rw c.requires.record_read.0.text_length c.name_of-own.ensures.name_fits in

@@ -16,14 +16,8 @@ overflow_add-first c = omega (arith, clauses_few _ _ _ c.requires)
 pub telling_of-requires : goal.telling_of-requires
 telling_of-requires c = (c.requires.0.clauses_laid.schemas_laid.formed, omega (arith, clauses_few _ _ _ c.requires))
 
-pub has_names-requires : goal.has_names-requires
-has_names-requires c = tt
-
-pub returns-then-has_names : goal.returns-then-has_names
-returns-then-has_names c = record {
-  by_index = λ us. ap (concat_map names_of) (before_part _ _ _ c.requires us c.loop-k.k (omega arith)) ∙ c.loop-k.invariant us;
-  upper_bound = omega arith;
-}
+pub returns-then-has_names-clause-by_index : goal.returns-then-has_names-clause-by_index
+returns-then-has_names-clause-by_index c = λ us. ap (concat_map names_of) (before_part _ _ _ c.requires us c.loop-k.k (omega arith)) ∙ c.loop-k.invariant us
 
 pub loop-k-preserved : goal.loop-k-preserved
 loop-k-preserved c =

@@ -21,9 +21,6 @@ pub telling_of-requires : goal.telling_of-requires
 telling_of-requires c =
     (c.requires.0.clauses_laid.schemas_laid.formed, omega (arith, clauses_few _ _ _ c.requires))
 
-pub prefix_of-elements-requires : goal.prefix_of-elements-requires
-prefix_of-elements-requires c = tt
-
 pub overflow_add-elements : goal.overflow_add-elements
 overflow_add-elements c =
     omega (arith, clauses_few _ _ _ c.requires, entries_few c.requires.0, c.prefix_of-elements.ensures.upper_bound c.args.form (c.telling_of.ensures.tested.bounded c.requires.0.clauses_laid))
@@ -33,8 +30,8 @@ loop-k-preserved c =
     let small = c.prefix_of-elements.ensures.upper_bound c.args.form (c.telling_of.ensures.tested.bounded c.requires.0.clauses_laid) in
     (omega (arith, entries_few c.requires.0), λ us. prefix_more c.args.rules.now us c.args.first c.loop-k.k _ (c.telling_of.ensures.means_telling us) _ _ (c.loop-k.invariant.1 us) (c.prefix_of-elements.ensures.by_index c.args.rules.now us))
 
-pub returns : goal.returns
-returns c = record {
-  by_index = λ us. c.loop-k.invariant.1 us ∙ ap (λ (cs : List Clause). length (concat_map prefix_of cs)) (before_is _ _ _ c.requires us c.loop-k.k (omega arith));
-  upper_bound = omega (arith, clauses_few _ _ _ c.requires);
-}
+pub returns-clause-by_index : goal.returns-clause-by_index
+returns-clause-by_index c = λ us. c.loop-k.invariant.1 us ∙ ap (λ (cs : List Clause). length (concat_map prefix_of cs)) (before_is _ _ _ c.requires us c.loop-k.k (omega arith))
+
+pub returns-clause-upper_bound : goal.returns-clause-upper_bound
+returns-clause-upper_bound c = omega (arith, clauses_few _ _ _ c.requires)

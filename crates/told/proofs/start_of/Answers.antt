@@ -19,12 +19,6 @@ told_of-clause-requires c =
     let asked = c.requires in
     (asked.0.laid.clauses_laid.schemas_laid.formed, clause_low asked.0 asked.1 (ap (λ (row : SchemaRow). row.first) c.schema_at-first.ensures) asked.2)
 
-pub start_in-requires : goal.start_in-requires
-start_in-requires c =
-    let asked = c.requires in
-    let low = asked.2 in
-    (asked.0.laid, asked.1, ap (λ (row : SchemaRow). row.first) c.schema_at-first.ensures, omega arith)
-
 pub returns : goal.returns
 returns c =
     let asked = c.requires in

@@ -17,12 +17,6 @@ pub telling_of-clause-requires : goal.telling_of-clause-requires
 telling_of-clause-requires c =
     (c.requires.rules_read.0.laid.clauses_laid.schemas_laid.formed, omega (arith, clauses_few _ _ _ (c.requires.rules_read.0.laid, c.requires.rules_read.1, c.requires.rules_read.2, c.requires.rules_read.3)))
 
-pub clause_names-requires : goal.clause_names-requires
-clause_names-requires c = record {
-  record_read = (c.requires.record_read.0, c.requires.record_read.1);
-  rules_read = (c.requires.rules_read.0, c.telling_of-clause.ensures.tested);
-}
-
 pub returns-then-clause_names : goal.returns-then-clause_names
 returns-then-clause_names c =
     unnamed_is (doc_of c.args.«record».now c.args.text.now) c.args.row.0 _ _ _ (c.requires.rules_read.0.laid, c.requires.rules_read.1, c.requires.rules_read.2, c.requires.rules_read.3) c.args.rule_text.now true (named_here_lem (doc_of c.args.«record».now c.args.text.now) c.args.row.0 c.args.rules.now c.args.rule_text.now c.args.first c.loop-k.k _ (c.telling_of-clause.ensures.means_telling c.args.rule_text.now) _ c.clause_names.ensures c.args.i (omega arith) c.if-clause_names.true)

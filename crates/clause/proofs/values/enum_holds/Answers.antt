@@ -2,7 +2,7 @@ use mathlib.Core.Bool.{false}
 use mathlib.Core.Path.{◌≡◌, sym}
 use Prim.Native.Nat.{ℕ, ◌+◌, ◌<◌}
 use native.Mathlib.Omega.{arith}
-use borrow.Author.Count.{below_none, below_more}
+use borrow.Author.Count.{below_more}
 use Rattle.sheet.specs.Doc.{Value}
 use Rattle.sheet.specs.Record.{doc_of}
 use Rattle.rulesheet.specs.Codes.{entry_value}
@@ -11,19 +11,6 @@ use Rattle.meaning.specs.Tests.{equal}
 use Rattle.clause.proofs.Equality.{entry_told}
 use Rattle.clause.proofs.Listing.{entry_found, entry_nowhere}
 use Rattle.clause.proofs.values.enum_holds.Goals as goal
-
-pub loop-i-init : goal.loop-i-init
-loop-i-init c =
-    below_none (λ (k : ℕ). equal ((doc_of c.args.«record».now c.args.text.now).value c.args.row.0) (entry_value c.args.rule_text.now (entry_at c.args.rules.now (c.args.list.first + k))) ≡ false)
-
-pub entry_of-entry-requires : goal.entry_of-entry-requires
-entry_of-entry-requires c = (c.requires.rules_read.0.laid.clauses_laid.schemas_laid.formed, c.requires.rules_read.1.within, omega arith)
-
-pub equals_entry-requires : goal.equals_entry-requires
-equals_entry-requires c = record {
-  record_read = (c.requires.record_read.0, c.requires.record_read.1);
-  value = rw (c.entry_of-entry.ensures, c.requires.rules_read.0.text_length) (c.requires.rules_read.1.listed _ (omega arith));
-}
 
 pub returns-then-equals_entry : goal.returns-then-equals_entry
 returns-then-equals_entry c =

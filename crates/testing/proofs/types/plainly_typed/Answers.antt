@@ -1,14 +1,8 @@
 -- `plainly_typed` meets its contract: a number by its value, and what is none by the type of its kind. Assumes nothing.
 use mathlib.Core.Path.{sym, ap, ◌∙◌}
 use Rattle.testing.specs.Types.{type_number}
-use Rattle.testing.proofs.Found.{held_plain, typed_number, typed_other, type_positive}
+use Rattle.testing.proofs.Found.{typed_number, typed_other}
 use Rattle.testing.proofs.types.plainly_typed.Goals as goal
-
-pub plainly_numeric-requires : goal.plainly_numeric-requires
-plainly_numeric-requires c = held_plain _ _ c.in-Some.is c.requires
-
-pub has_type-requires : goal.has_type-requires
-has_type-requires c = rw c.type_of.ensures (type_positive c.args.kind)
 
 pub returns-in-Some : goal.returns-in-Some
 returns-in-Some c = λ t v found kind_is. sym (typed_number _ _ _ found _ c.in-Some.is (sym (c.plainly_numeric.ensures t)))

@@ -1,14 +1,8 @@
 -- `typed` meets its contract: a number by its value, and what is none by the type of its kind. Assumes nothing.
 use mathlib.Core.Path.{ap, ◌∙◌}
 use Rattle.testing.specs.Types.{type_number}
-use Rattle.testing.proofs.Found.{held_plain, typed_number, typed_other, type_positive}
+use Rattle.testing.proofs.Found.{typed_number, typed_other}
 use Rattle.testing.proofs.types.typed.Goals as goal
-
-pub numeric-requires : goal.numeric-requires
-numeric-requires c = held_plain _ _ c.in-Some.is c.requires
-
-pub has_type-requires : goal.has_type-requires
-has_type-requires c = rw c.type_of.ensures (type_positive c.args.kind)
 
 pub returns-in-Some : goal.returns-in-Some
 returns-in-Some c = λ v found kind_is. typed_number _ _ _ found _ c.in-Some.is c.numeric.ensures
