@@ -36,14 +36,11 @@ pub(crate) fn required<'a>(
         return true;
     }
     let members = children_of(record, form, row).count;
-    let many = list.count;
-    let mut i = 0;
-    while i < many {
+    for i in 0..list.count {
         let name = entry_name(rules, rule_form, list, i);
         if !has_member(record, text, form, row, rule_text, name, i, members) {
             return false;
         }
-        i += 1;
     }
     true
 }

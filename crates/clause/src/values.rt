@@ -65,14 +65,11 @@ pub(crate) fn enum_holds<'a>(
     requires rules_read { RulesRead rules.now rule_text.now rule_form × ListRead rules.now rule_form Values list }
     ensures { result ≡ any (map (λ v. equal ((doc_of «record».now text.now).value row.0) v) (map (entry_value rule_text.now) (entries_of rules.now list))) }
 {
-    let many = list.count;
-    let mut i = 0;
-    while i < many {
+    for i in 0..list.count {
         let entry = entry_of(rules, rule_form, list, i);
         if equals_entry(record, text, form, row, rule_text, entry) {
             return true;
         }
-        i += 1;
     }
     false
 }

@@ -2,8 +2,9 @@
 --     any_ends, one_ends, not_ends, if_ends, contains_ends, all_ends     what a clause says in the end, by the variant that was read and what is carried
 --     spared_ends, ends_finish     and by what is read of it
 --     all_after, next_after, applied_after       where a failure leads a clause, by the variant that was read and by what is read of it
---     enough_size, enough_none     of elements, by how many there are
+--     enough_held     of elements, by how many there are
 -- Assumes nothing.
+use Rattle.std.specs.Prelude.{Option as Found, Some, None, IsTrue, MatchOption}
 use mathlib.Core.Bool.{Bool, true, ◌&&◌}
 use mathlib.Core.Option.{some, none}
 use mathlib.Core.List.{List, [], ◌∷◌}
@@ -28,7 +29,7 @@ use Rattle.few.specs.Asked.{applying, sparing}
 use Rattle.rulesheet.proofs.Items.{schemas_long}
 use Rattle.meaning.specs.Tests.{elements?, given}
 use Rattle.meaning.specs.Rules.{Pair, within, contained}
-use Rattle.looking.specs.Read.{size_of}
+use Rattle.looking.specs.Read.{size_in, size_of}
 use Rattle.plan.specs.Plan.{ends_by, after_miss, finish_of}
 
 -- ---- what a clause says in the end, by what is carried
@@ -174,7 +175,7 @@ ends_finish d p (takes c) tally applies = refl
 
 -- ---- how many elements are enough
 
-pub enough_size : (v : Value) (least most tally n : ℕ) → some n ≡ size_of (elements? v) → (leb least tally && leb tally most) ≡ given (elements? v) (λ ks. within least most tally)
+enough_size : (v : Value) (least most tally n : ℕ) → some n ≡ size_of (elements? v) → (leb least tally && leb tally most) ≡ given (elements? v) (λ ks. within least most tally)
 unfolding elements? given within
 enough_size null least most tally n e = cc
 enough_size (bool b) least most tally n e = cc
@@ -183,7 +184,7 @@ enough_size (string bytes) least most tally n e = cc
 enough_size (array first k) least most tally n e = refl
 enough_size (object first k) least most tally n e = cc
 
-pub enough_none : (v : Value) (least most tally : ℕ) → none ≡ size_of (elements? v) → true ≡ given (elements? v) (λ ks. within least most tally)
+enough_none : (v : Value) (least most tally : ℕ) → none ≡ size_of (elements? v) → true ≡ given (elements? v) (λ ks. within least most tally)
 unfolding elements? given
 enough_none null least most tally e = refl
 enough_none (bool b) least most tally e = refl
@@ -191,3 +192,8 @@ enough_none (number z) least most tally e = refl
 enough_none (string bytes) least most tally e = refl
 enough_none (array first k) least most tally e = cc
 enough_none (object first k) least most tally e = refl
+
+pub enough_held : (v : Value) (least most tally : ℕ) (r : Found ℕ) {Made : ℕ → Type 0} (ok : Bool) → MatchOption r (IsTrue ok) Made → size_in r ≡ size_of (elements? v)
+    → ((n : ℕ) → Made n → ok ≡ (leb least tally && leb tally most)) → ok ≡ given (elements? v) (λ ks. within least most tally)
+enough_held v least most tally (Some n) ok made e is = is n made ∙ enough_size v least most tally n e
+enough_held v least most tally None ok made e is = made ∙ enough_none v least most tally e

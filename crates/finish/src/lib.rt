@@ -4,7 +4,7 @@
 // The contracts cite `ends_by` and `after_miss` of crate `plan` (`specs/Plan.antt`).
 #![tactic(auto)]
 
-ghost use Rattle.std.specs.Prelude.{List, ◌≡◌, ℕ, ◌-◌, ◌<◌, eqb};
+ghost use Rattle.std.specs.Prelude.{List, ◌≡◌, ℕ, ◌<◌};
 ghost use Rattle.sheet.specs.Record.{doc_of};
 ghost use Rattle.sheet.specs.Accepted.{Laid};
 ghost use Rattle.rulesheet.specs.Sheet.{schema_at};
@@ -16,21 +16,11 @@ ghost use Rattle.clause.specs.Read.{RulesRead, clause_in, words_in};
 ghost use Rattle.plan.specs.Plan.{ends_by, after_miss};
 
 use few::{applied_by, sparing_by};
-use looking::sizes::{Measured, elements_of};
+use looking::sizes::elements_of;
 use rulereader::entry_of;
 use rulesheet::clause::Clause;
 use rulesheet::form::{ClauseRow, RuleForm};
 use sheet::record::{Pair, RecordForm, RecordRow, RuleRow};
-
-// Whether all but one of `many` are missed.
-fn one_left(many: u32, misses: u32) -> bool
-    ensures { result ≡ eqb (many - misses) 1 }
-{
-    if misses < many {
-        return many - misses == 1;
-    }
-    false
-}
 
 // Whether so many elements that hold are enough: of a row that is no array any number is.
 fn enough(
@@ -44,10 +34,7 @@ fn enough(
     requires { Laid «record».now form × (row.0 < form.rows) }
     ensures { (ts : List ℕ) → result ≡ contained (doc_of «record».now ts) row.0 least most tally }
 {
-    match elements_of(record, form, row) {
-        Measured::Size(_) => (least <= tally) & (tally <= most),
-        Measured::Other => true,
-    }
+    elements_of(record, form, row).is_none_or(|_| (least <= tally) & (tally <= most))
 }
 
 // The clause, as it was read.
@@ -66,7 +53,7 @@ fn finish_in(
 {
     match clause {
         Clause::AnyOf(es) => tally < es.count,
-        Clause::OneOf(es) => one_left(es.count, tally),
+        Clause::OneOf(es) => es.count.saturating_sub(tally) == 1,
         Clause::Not(_) => tally == 1,
         Clause::IfThenElse(_) => tally < 2,
         Clause::Contains(es) => {

@@ -1,15 +1,21 @@
 -- How many members and elements a row has.
+--     or_nought                             0 where none were found
 --     members_counted, elements_counted    they are those of its value
 --     members_some, elements_some          and children of it
 -- Assumes nothing.
+use Rattle.std.specs.Prelude.{Option as Found, Some, None, unwrap_or}
 use mathlib.Core.Path.{◌≡◌, refl}
-use Prim.Native.Nat.{◌≤◌}
+use Prim.Native.Nat.{ℕ, ◌≤◌}
 use native.Mathlib.Omega.{arith}
 use Rattle.sheet.specs.Doc.{Value, null, bool, number, string, array, object, child_count}
 use Rattle.meaning.specs.Tests.{members?, elements?}
-use Rattle.looking.specs.Read.{size_of, or_none}
+use Rattle.looking.specs.Read.{size_in, size_of, or_none}
 use Rattle.meaning.proofs.Members.{range_length}
 use Rattle.plan.specs.Plan.{member_count, element_count}
+
+pub or_nought : (found : Found ℕ) → unwrap_or found 0 ≡ or_none (size_in found)
+or_nought (Some n) = refl
+or_nought None = refl
 
 pub members_counted : (v : Value) → or_none (size_of (members? v)) ≡ member_count v
 unfolding members?

@@ -2,28 +2,17 @@
 ghost use Rattle.std.specs.Prelude.{List, ◌≡◌, ℕ, ◌<◌};
 ghost use Rattle.sheet.specs.Record.{doc_of};
 ghost use Rattle.sheet.specs.Accepted.{Laid};
-ghost use Rattle.looking.specs.Read.{size_in, or_none};
 ghost use Rattle.plan.specs.Plan.{member_count, element_count};
 
-use looking::sizes::{Measured, elements_of, members_of};
+use looking::sizes::{elements_of, members_of};
 use sheet::record::{RecordForm, RecordRow};
-
-// A size, or 0 where there is none.
-fn count_of(found: Measured) -> u32
-    ensures { result ≡ or_none (size_in found) }
-{
-    match found {
-        Measured::Size(size) => size,
-        Measured::Other => 0,
-    }
-}
 
 // How many members the row has: none if it is no object.
 pub fn members_in(record: &[u32], form: RecordForm, row: RecordRow) -> u32
     requires { Laid «record».now form × (row.0 < form.rows) }
     ensures { (ts : List ℕ) → result ≡ member_count ((doc_of «record».now ts).value row.0) }
 {
-    count_of(members_of(record, form, row))
+    members_of(record, form, row).unwrap_or(0)
 }
 
 // How many elements it has: none if it is no array.
@@ -31,5 +20,5 @@ pub fn elements_in(record: &[u32], form: RecordForm, row: RecordRow) -> u32
     requires { Laid «record».now form × (row.0 < form.rows) }
     ensures { (ts : List ℕ) → result ≡ element_count ((doc_of «record».now ts).value row.0) }
 {
-    count_of(elements_of(record, form, row))
+    elements_of(record, form, row).unwrap_or(0)
 }

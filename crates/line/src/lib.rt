@@ -59,11 +59,7 @@ fn children_line(
     }
     let first = children_of(record, form, row).first + from;
     let count = many - from;
-    Line {
-        first: first,
-        count: count,
-        rule: rule,
-    }
+    Line { first, count, rule }
 }
 
 // The line of clause i, as it was read. No clause before an `additionalProperties` names a member if

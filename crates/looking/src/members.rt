@@ -70,19 +70,17 @@ fn first_named<'a>(
     let children = children_of(record, form, row);
     let first = children.first;
     let count = children.count;
-    let mut i = 0;
-    while i < count {
+    for i in 0..count {
         if has_name(record, text, form, RecordRow(first + i), rule_text, name) {
             return i;
         }
-        i += 1;
     }
-    i
+    count
 }
 
 // The place as far from the last of `count` places as `hint` is from the first.
 fn mirrored(count: u32, hint: u32) -> u32 {
-    if hint < count { count - 1 - hint } else { 0 }
+    count.saturating_sub(1).saturating_sub(hint)
 }
 
 // The same of an object. The child as far from the end as `hint` is from the start is tried first:

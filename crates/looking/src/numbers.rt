@@ -10,13 +10,6 @@ use decimal::Decimal;
 use sheet::kind::RowKind;
 use sheet::record::{RecordForm, RecordRow, kind_of, number_of};
 
-// A row's number, or that the row is none.
-#[derive(Clone, Copy)]
-pub enum Numbered {
-    Number(Decimal),
-    Other,
-}
-
 // Whether the row is of the kind that has this number.
 pub fn is_kind(record: &[u32], form: RecordForm, row: RecordRow, kind: u32) -> bool
     requires { Formed «record».now form × (row.0 < form.rows) }
@@ -26,12 +19,9 @@ pub fn is_kind(record: &[u32], form: RecordForm, row: RecordRow, kind: u32) -> b
 }
 
 // The row's number, if it is one.
-pub fn number_in(record: &[u32], form: RecordForm, row: RecordRow) -> Numbered
+pub fn number_in(record: &[u32], form: RecordForm, row: RecordRow) -> Option<Decimal>
     requires { Laid «record».now form × (row.0 < form.rows) }
     ensures { (ts : List ℕ) → NumberFound ((doc_of «record».now ts).value row.0) result }
 {
-    if !is_kind(record, form, row, RowKind::NUMBER) {
-        return Numbered::Other;
-    }
-    Numbered::Number(number_of(record, form, row))
+    is_kind(record, form, row, RowKind::NUMBER).then(|| number_of(record, form, row))
 }

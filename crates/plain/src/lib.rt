@@ -77,13 +77,11 @@ pub fn plainly_passed<'a>(
     ensures { PassedFirst (doc_of «record».now text.now) p.row.0 (clause_in rules.now rule_text.now p.rule.0) many result }
 {
     let first = schema_at(rules, rule_form, p.rule).first;
-    let mut i = 0;
-    while i < many {
+    for i in 0..many {
         let clause = plain_of(rules, rule_form, first + i);
         if !plainly(record, text, form, p.row, clause) {
             return i;
         }
-        i += 1;
     }
-    i
+    many
 }

@@ -1,10 +1,11 @@
 -- What is asked of a value, by the number that was found of it.
 --     held_plain                              what was read is within the limits of exact arithmetic
---     held_number, held_other                 a bound, of a number and of what is none
+--     held, told                              a bound, of a number and of what is none
 --     number_typed, integer_typed, untyped    the types of a number
 --     typed_number, typed_other               and of any value
 --     type_positive                           the number of a type is not 0
 -- Assumes nothing.
+use Rattle.std.specs.Prelude.{Option as Found, Some, None, IsTrue, MatchOption}
 use mathlib.Core.Bool.{Bool, true, false, ◌&&◌, ◌||◌}
 use mathlib.Core.Option.{Option, none, some}
 use mathlib.Core.Path.{◌≡◌, refl, sym, ap, ◌∙◌}
@@ -17,24 +18,27 @@ use Rattle.sheet.specs.declared.kind.RowKind.{RowKind}
 use Rattle.sheet.specs.declared.kind.RowKind.TheVariants as K
 use Rattle.sheet.specs.Doc.{Value, null, bool, number, string, array, object, value_kind}
 use Rattle.meaning.specs.Tests.{number?, given, has, typed}
-use Rattle.looking.specs.declared.numbers.Numbered.{Numbered}
-use Rattle.looking.specs.declared.numbers.Numbered.TheVariants.{Number, Other}
 use Rattle.looking.specs.Read.{PlainIn, NumberFound}
 use Rattle.testing.specs.Types.{type_number}
 
 -- ---- bounds
 
-pub held_plain : (r : Numbered) (d : Decimal) → r ≡ Number d → PlainIn r → Plain d
+pub held_plain : (r : Found Decimal) (d : Decimal) → r ≡ Some d → PlainIn r → Plain d
 held_plain r d e plain = rw e at plain
 
-module _ (v : Value) (r : Numbered) (found : NumberFound v r) where
-  pub held_number : (p : ℤ → Bool) (d : Decimal) → r ≡ Number d → p (value d) ≡ given (number? v) p
-  unfolding given
-  held_number p d e = rw (found.number_is, e)
+-- what was made of the number, if there is one, is the test of it
+pub held : {v : Value} {r : Found Decimal} {Made : Decimal → Type 0} (p : ℤ → Bool) (ok : Bool) → MatchOption r (IsTrue ok) Made → NumberFound v r
+    → ((d : Decimal) → Made d → ok ≡ p (value d)) → ok ≡ given (number? v) p
+unfolding given
+held {r = Some d} p ok made found is = rw found.number_is (is d made)
+held {r = None} p ok made found is = rw found.number_is made
 
-  pub held_other : (p : ℤ → Bool) → r ≡ Other → true ≡ given (number? v) p
-  unfolding given
-  held_other p e = rw (found.number_is, e)
+-- and where a yes is one
+pub told : {v : Value} {r : Found Decimal} {Made : Decimal → Type 0} (p : ℤ → Bool) (ok : Bool) → MatchOption r (IsTrue ok) Made → NumberFound v r → ok ≡ true
+    → ((d : Decimal) → Made d → ok ≡ true → p (value d) ≡ true) → given (number? v) p ≡ true
+unfolding given
+told {r = Some d} p ok made found t is = rw found.number_is (is d made t)
+told {r = None} p ok made found t is = rw found.number_is
 
 -- ---- types
 
@@ -84,11 +88,11 @@ as_number (string bytes) z e = cc
 as_number (array first k) z e = cc
 as_number (object first k) z e = cc
 
-module _ (mask : ℕ) (v : Value) (r : Numbered) (found : NumberFound v r) where
-  pub typed_number : (d : Decimal) {b : Bool} → r ≡ Number d → b ≡ typed mask (number (value d)) → b ≡ typed mask v
+module _ (mask : ℕ) (v : Value) (r : Found Decimal) (found : NumberFound v r) where
+  pub typed_number : (d : Decimal) {b : Bool} → r ≡ Some d → b ≡ typed mask (number (value d)) → b ≡ typed mask v
   typed_number d e f = f ∙ ap (typed mask) (as_number v (value d) (found.number_is ∙ rw e))
 
-  pub typed_other : {t : ℕ} {b : Bool} → r ≡ Other → t ≡ type_number (value_kind v) → b ≡ has mask t → b ≡ typed mask v
+  pub typed_other : {t : ℕ} {b : Bool} → r ≡ None → t ≡ type_number (value_kind v) → b ≡ has mask t → b ≡ typed mask v
   typed_other {t} e read f = f ∙ sym (typed_is mask v ∙ rw (found.number_is, e, ← read) (sym (or_none (has mask t) (has mask 4))))
 
 pub type_positive : (kind : RowKind) → 0 < type_number kind

@@ -7,105 +7,77 @@ ghost use Rattle.meaning.specs.Tests.{number?, given};
 ghost use Rattle.looking.specs.Read.{PlainIn, NumberFound};
 
 use decimal::{Decimal, at_most, less, plainly_at_most, plainly_less};
-use looking::numbers::Numbered;
 
 // Whether the number, if there is one, is at least the limit.
-pub fn minimum(found: Numbered, limit: Decimal) -> bool
+pub fn minimum(found: Option<Decimal>, limit: Decimal) -> bool
     requires { PlainIn found × Plain limit }
     ensures { (v : Value) → NumberFound v found → result ≡ given (number? v) (λ y. le_z (value limit) y) }
 {
-    match found {
-        Numbered::Number(number) => at_most(limit, number),
-        Numbered::Other => true,
-    }
+    found.is_none_or(|number| at_most(limit, number))
 }
 
 // Whether the number, if there is one, is at most the limit.
-pub fn maximum(found: Numbered, limit: Decimal) -> bool
+pub fn maximum(found: Option<Decimal>, limit: Decimal) -> bool
     requires { PlainIn found × Plain limit }
     ensures { (v : Value) → NumberFound v found → result ≡ given (number? v) (λ y. le_z y (value limit)) }
 {
-    match found {
-        Numbered::Number(number) => at_most(number, limit),
-        Numbered::Other => true,
-    }
+    found.is_none_or(|number| at_most(number, limit))
 }
 
 // Whether the number, if there is one, is above the limit.
-pub fn exclusive_minimum(found: Numbered, limit: Decimal) -> bool
+pub fn exclusive_minimum(found: Option<Decimal>, limit: Decimal) -> bool
     requires { PlainIn found × Plain limit }
     ensures { (v : Value) → NumberFound v found → result ≡ given (number? v) (λ y. lt_z (value limit) y) }
 {
-    match found {
-        Numbered::Number(number) => less(limit, number),
-        Numbered::Other => true,
-    }
+    found.is_none_or(|number| less(limit, number))
 }
 
 // Whether the number, if there is one, is below the limit.
-pub fn exclusive_maximum(found: Numbered, limit: Decimal) -> bool
+pub fn exclusive_maximum(found: Option<Decimal>, limit: Decimal) -> bool
     requires { PlainIn found × Plain limit }
     ensures { (v : Value) → NumberFound v found → result ≡ given (number? v) (λ y. lt_z y (value limit)) }
 {
-    match found {
-        Numbered::Number(number) => less(number, limit),
-        Numbered::Other => true,
-    }
+    found.is_none_or(|number| less(number, limit))
 }
 
 // Whether the number, if there is one, is the limit times a whole number.
-pub fn multiple_of(found: Numbered, limit: Decimal) -> bool
+pub fn multiple_of(found: Option<Decimal>, limit: Decimal) -> bool
     requires { PlainIn found × Plain limit }
     ensures { (v : Value) → NumberFound v found → result ≡ given (number? v) (λ y. is_multiple y (value limit)) }
 {
-    match found {
-        Numbered::Number(number) => decimal::multiple_of(number, limit),
-        Numbered::Other => true,
-    }
+    found.is_none_or(|number| decimal::multiple_of(number, limit))
 }
 
 // ---- as far as the digits tell as they stand
 
 // Whether its digits tell that the number, if there is one, is at least the limit. A yes is one.
-pub fn plainly_minimum(found: Numbered, limit: Decimal) -> bool
+pub fn plainly_minimum(found: Option<Decimal>, limit: Decimal) -> bool
     requires { PlainIn found × Plain limit }
     ensures { result ≡ true → (v : Value) → NumberFound v found → given (number? v) (λ y. le_z (value limit) y) ≡ true }
 {
-    match found {
-        Numbered::Number(number) => plainly_at_most(limit, number),
-        Numbered::Other => true,
-    }
+    found.is_none_or(|number| plainly_at_most(limit, number))
 }
 
 // Whether its digits tell that the number, if there is one, is at most the limit. A yes is one.
-pub fn plainly_maximum(found: Numbered, limit: Decimal) -> bool
+pub fn plainly_maximum(found: Option<Decimal>, limit: Decimal) -> bool
     requires { PlainIn found × Plain limit }
     ensures { result ≡ true → (v : Value) → NumberFound v found → given (number? v) (λ y. le_z y (value limit)) ≡ true }
 {
-    match found {
-        Numbered::Number(number) => plainly_at_most(number, limit),
-        Numbered::Other => true,
-    }
+    found.is_none_or(|number| plainly_at_most(number, limit))
 }
 
 // Whether its digits tell that the number, if there is one, is above the limit. A yes is one.
-pub fn plainly_exclusive_minimum(found: Numbered, limit: Decimal) -> bool
+pub fn plainly_exclusive_minimum(found: Option<Decimal>, limit: Decimal) -> bool
     requires { PlainIn found × Plain limit }
     ensures { result ≡ true → (v : Value) → NumberFound v found → given (number? v) (λ y. lt_z (value limit) y) ≡ true }
 {
-    match found {
-        Numbered::Number(number) => plainly_less(limit, number),
-        Numbered::Other => true,
-    }
+    found.is_none_or(|number| plainly_less(limit, number))
 }
 
 // Whether its digits tell that the number, if there is one, is below the limit. A yes is one.
-pub fn plainly_exclusive_maximum(found: Numbered, limit: Decimal) -> bool
+pub fn plainly_exclusive_maximum(found: Option<Decimal>, limit: Decimal) -> bool
     requires { PlainIn found × Plain limit }
     ensures { result ≡ true → (v : Value) → NumberFound v found → given (number? v) (λ y. lt_z y (value limit)) ≡ true }
 {
-    match found {
-        Numbered::Number(number) => plainly_less(number, limit),
-        Numbered::Other => true,
-    }
+    found.is_none_or(|number| plainly_less(number, limit))
 }

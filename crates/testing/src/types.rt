@@ -7,7 +7,6 @@ ghost use Rattle.looking.specs.Read.{PlainIn, NumberFound};
 ghost use Rattle.testing.specs.Types.{type_number};
 
 use decimal::{Decimal, whole};
-use looking::numbers::Numbered;
 use sheet::kind::RowKind;
 
 // The number of a whole number's other type.
@@ -48,13 +47,13 @@ fn numeric(mask: u32, it: Decimal) -> bool
 }
 
 // Whether a value has one of the mask's types, by its number, if it is one, and by its kind.
-pub fn typed(found: Numbered, kind: RowKind, mask: u32) -> bool
+pub fn typed(found: Option<Decimal>, kind: RowKind, mask: u32) -> bool
     requires { PlainIn found }
     ensures { (v : Value) → NumberFound v found → kind ≡ value_kind v → result ≡ typed mask v }
 {
     match found {
-        Numbered::Number(number) => numeric(mask, number),
-        Numbered::Other => has_type(mask, type_of(kind)),
+        Some(number) => numeric(mask, number),
+        None => has_type(mask, type_of(kind)),
     }
 }
 
@@ -70,12 +69,12 @@ fn plainly_numeric(mask: u32, it: Decimal) -> bool
 }
 
 // The same, as far as it tells without a division. A yes is one.
-pub fn plainly_typed(found: Numbered, kind: RowKind, mask: u32) -> bool
+pub fn plainly_typed(found: Option<Decimal>, kind: RowKind, mask: u32) -> bool
     requires { PlainIn found }
     ensures { result ≡ true → (v : Value) → NumberFound v found → kind ≡ value_kind v → typed mask v ≡ true }
 {
     match found {
-        Numbered::Number(number) => plainly_numeric(mask, number),
-        Numbered::Other => has_type(mask, type_of(kind)),
+        Some(number) => plainly_numeric(mask, number),
+        None => has_type(mask, type_of(kind)),
     }
 }

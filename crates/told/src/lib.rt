@@ -42,10 +42,8 @@ fn prefix_before(rules: &[u32], form: RuleForm, s: RuleRow, first: u32, i: u32) 
     ensures upper_bound { result ≤ parts_max * parts_max }
 {
     let mut elements = 0;
-    let mut k = 0;
-    while k < i {
+    for k in 0..i {
         elements += prefix_of(telling_of(rules, form, first + k));
-        k += 1;
     }
     elements
 }
@@ -54,10 +52,7 @@ fn prefix_before(rules: &[u32], form: RuleForm, s: RuleRow, first: u32, i: u32) 
 fn has_names(clause: Clause) -> bool
     ensures { (rs us : List ℕ) → result ≡ names_any (clause_means rs us clause) }
 {
-    match clause {
-        Clause::Properties(_) => true,
-        _ => false,
-    }
+    matches!(clause, Clause::Properties(_))
 }
 
 // From which of the first i clauses of the schema on they name members: i if none does.
@@ -66,14 +61,12 @@ fn names_from(rules: &[u32], form: RuleForm, s: RuleRow, first: u32, i: u32) -> 
     ensures by_index { (us : List ℕ) → concat_map names_of (take result (before_in rules.now us s.0 i)) ≡ [] }
     ensures upper_bound { result ≤ i }
 {
-    let mut k = 0;
-    while k < i {
+    for k in 0..i {
         if has_names(telling_of(rules, form, first + k)) {
             return k;
         }
-        k += 1;
     }
-    k
+    i
 }
 
 // Whether clause k marks no member but those that it names.
@@ -92,12 +85,10 @@ fn only_names(rules: &[u32], form: RuleForm, s: RuleRow, first: u32, i: u32) -> 
     requires { RulesLaid rules.now form × (s.0 < form.m) × (first ≡ (schema_at rules.now s.0).first) × (i ≤ (schema_at rules.now s.0).count) }
     ensures { result ≡ true → (us : List ℕ) → NamesOnly (before_in rules.now us s.0 i) }
 {
-    let mut k = 0;
-    while k < i {
+    for k in 0..i {
         if !marks_named(rules, form, first + k) {
             return false;
         }
-        k += 1;
     }
     true
 }
@@ -106,10 +97,7 @@ fn only_names(rules: &[u32], form: RuleForm, s: RuleRow, first: u32, i: u32) -> 
 fn last_names(rules: &[u32], form: RuleForm, s: RuleRow, first: u32, i: u32) -> bool
     requires { RulesLaid rules.now form × (s.0 < form.m) × (first ≡ (schema_at rules.now s.0).first) × (i ≤ (schema_at rules.now s.0).count) }
 {
-    if i == 0 {
-        return false;
-    }
-    has_names(telling_of(rules, form, first + (i - 1)))
+    i > 0 && has_names(telling_of(rules, form, first + (i - 1)))
 }
 
 // Said where the marks tell which members are named.
@@ -171,19 +159,14 @@ fn named_in<'a>(
 {
     let own = name_of(record, form, row);
     let many = list.count;
-    if hint < many {
-        let name = entry_name(rules, rule_form, list, hint);
-        if same_part(text, own, rule_text, name) {
-            return true;
-        }
+    let names = |i: u32| same_part(text, own, rule_text, entry_name(rules, rule_form, list, i));
+    if hint < many && names(hint) {
+        return true;
     }
-    let mut i = 0;
-    while i < many {
-        let name = entry_name(rules, rule_form, list, i);
-        if same_part(text, own, rule_text, name) {
+    for i in 0..many {
+        if names(i) {
             return true;
         }
-        i += 1;
     }
     false
 }
@@ -233,15 +216,13 @@ pub fn unnamed_in<'a>(
     requires none_named_before_from { (from ≤ i) × (concat_map names_of (take from (before_in rules.now rule_text.now s.0 i)) ≡ []) }
     ensures { (p : Pair) → result ≡ unnamed (doc_of «record».now text.now) p (before_in rules.now rule_text.now s.0 i) row.0 }
 {
-    let mut k = from;
-    while k < i {
+    for k in from..i {
         let clause = telling_of(rules, rule_form, first + k);
         if clause_names(
             record, text, form, rules, rule_text, rule_form, clause, row, hint,
         ) {
             return false;
         }
-        k += 1;
     }
     true
 }

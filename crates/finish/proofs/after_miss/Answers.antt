@@ -1,6 +1,5 @@
 -- `after_miss` meets its contract. Assumes nothing.
 use mathlib.Core.Path.{ap, ◌∙◌}
-use borrow.Author.Rules.{rules}
 use Rattle.clause.specs.Read.{clause_in}
 use Rattle.clause.proofs.Reading.{words_read}
 use Rattle.plan.specs.Plan.{after_miss}

@@ -10,16 +10,7 @@ use Rattle.meaning.specs.Rules.{contained}
 use borrow.Enum.Refused.{opened}
 use Rattle.finish.proofs.Ending.{Ends, any_ends, one_ends, not_ends, if_ends, contains_ends, all_ends}
 use Rattle.rulesheet.specs.Clauses as R
-use borrow.Author.Rules.{rules}
 use Rattle.finish.proofs.finish_in.Goals as goal
-
-pub entry_of-entry-requires : goal.entry_of-entry-requires
-entry_of-entry-requires c =
-    let few = (subst (λ x. R.Sized (R.held x)) c.in-Contains.is (c.requires.rules_laid.1.sized c.requires.rules_laid.0.clauses_laid)) in (c.requires.rules_laid.0.clauses_laid.schemas_laid.formed, (subst (λ x. R.Bounded c.args.rule_form (R.held x)) c.in-Contains.is (c.requires.rules_laid.1.bounded c.requires.rules_laid.0.clauses_laid)), omega (arith, few))
-
-pub enough-requires : goal.enough-requires
-enough-requires c =
-    c.requires.laid
 
 pub returns-in-AnyOf : goal.returns-in-AnyOf
 returns-in-AnyOf c =
@@ -27,7 +18,7 @@ returns-in-AnyOf c =
 
 pub returns-in-OneOf : goal.returns-in-OneOf
 returns-in-OneOf c =
-    λ ts us p same. subst (λ x. Ends (doc_of c.args.«record».now ts) p c.args.tally c.args.rules.now us x c.one_left.result) (sym c.in-OneOf.is) (rw c.one_left.ensures (one_ends (doc_of c.args.«record».now ts) p c.args.tally c.args.rules.now us c.in-OneOf.es))
+    λ ts us p same. subst (λ x. Ends (doc_of c.args.«record».now ts) p c.args.tally c.args.rules.now us x (eqb c.saturating_sub.result 1)) (sym c.in-OneOf.is) (rw c.saturating_sub.ensures (one_ends (doc_of c.args.«record».now ts) p c.args.tally c.args.rules.now us c.in-OneOf.es))
 
 pub returns-in-Not : goal.returns-in-Not
 returns-in-Not c =

@@ -1,6 +1,5 @@
 -- `finish_of` meets its contract. Assumes nothing.
 use mathlib.Core.Path.{refl, ap, ◌∙◌}
-use borrow.Author.Rules.{rules}
 use Rattle.sheet.specs.Record.{doc_of}
 use Rattle.areas.specs.Cells.{pair_is}
 use Rattle.clause.specs.Read.{clause_in}

@@ -6,64 +6,23 @@ use Rattle.sheet.specs.Record.{doc_of}
 use Rattle.rulesheet.specs.Clauses.{held}
 use Rattle.meaning.specs.Rules.{passes}
 use Rattle.clause.proofs.Asserting.{tried}
-use Rattle.looking.proofs.Having.{never}
-use Rattle.clause.proofs.Telling.{above}
 use Rattle.plain.proofs.plainly.Goals as goal
-
-pub number_in-requires : goal.number_in-requires
-number_in-requires c =
-    (c.requires.record_read.0.laid, c.requires.record_read.1)
-
-pub kind_of-requires : goal.kind_of-requires
-kind_of-requires c =
-    (c.requires.record_read.0.laid.formed, c.requires.record_read.1)
-
-pub plainly_typed-requires : goal.plainly_typed-requires
-plainly_typed-requires c = (c.number_in.ensures []).plain
-
-pub number_in-requires-in-Minimum : goal.number_in-requires-in-Minimum
-number_in-requires-in-Minimum c =
-    (c.requires.record_read.0.laid, c.requires.record_read.1)
 
 pub plainly_minimum-requires : goal.plainly_minimum-requires
 plainly_minimum-requires c =
     ((c.number_in-in-Minimum.ensures []).plain, c.requires.plain _ (ap held c.in-Minimum.is))
 
-pub number_in-requires-in-Maximum : goal.number_in-requires-in-Maximum
-number_in-requires-in-Maximum c =
-    (c.requires.record_read.0.laid, c.requires.record_read.1)
-
 pub plainly_maximum-requires : goal.plainly_maximum-requires
 plainly_maximum-requires c =
     ((c.number_in-in-Maximum.ensures []).plain, c.requires.plain _ (ap held c.in-Maximum.is))
-
-pub number_in-requires-in-ExclusiveMinimum : goal.number_in-requires-in-ExclusiveMinimum
-number_in-requires-in-ExclusiveMinimum c =
-    (c.requires.record_read.0.laid, c.requires.record_read.1)
 
 pub plainly_exclusive_minimum-requires : goal.plainly_exclusive_minimum-requires
 plainly_exclusive_minimum-requires c =
     ((c.number_in-in-ExclusiveMinimum.ensures []).plain, c.requires.plain _ (ap held c.in-ExclusiveMinimum.is))
 
-pub number_in-requires-in-ExclusiveMaximum : goal.number_in-requires-in-ExclusiveMaximum
-number_in-requires-in-ExclusiveMaximum c =
-    (c.requires.record_read.0.laid, c.requires.record_read.1)
-
 pub plainly_exclusive_maximum-requires : goal.plainly_exclusive_maximum-requires
 plainly_exclusive_maximum-requires c =
     ((c.number_in-in-ExclusiveMaximum.ensures []).plain, c.requires.plain _ (ap held c.in-ExclusiveMaximum.is))
-
-pub string_in-requires : goal.string_in-requires
-string_in-requires c =
-    (c.requires.record_read.0.laid, c.requires.record_read.1)
-
-pub few_characters-requires : goal.few_characters-requires
-few_characters-requires c =
-    (c.string_in.ensures c.args.text.now c.requires.record_read.0.text_length).inside
-
-pub string_in-requires-in-MaxLength : goal.string_in-requires-in-MaxLength
-string_in-requires-in-MaxLength c =
-    (c.requires.record_read.0.laid, c.requires.record_read.1)
 
 pub returns-in-Types : goal.returns-in-Types
 unfolding passes
@@ -95,9 +54,6 @@ unfolding passes
 returns-then-k-le-FEW c =
     λ t rs us. tried rs us (doc_of c.args.«record».now c.args.text.now) c.args.row.0 _ _ _ _ c.in-MinLength.is refl (sym t ∙ c.few_characters.ensures _ (c.string_in.ensures _ c.requires.record_read.0.text_length))
 
-pub returns-else-k-le-FEW : goal.returns-else-k-le-FEW
-returns-else-k-le-FEW c = λ t. absurd (above c.if-k-le-FEW.false t)
-
 pub returns-in-MaxLength : goal.returns-in-MaxLength
 unfolding passes
 returns-in-MaxLength c =
@@ -122,6 +78,3 @@ pub returns-in-MaxProperties : goal.returns-in-MaxProperties
 unfolding passes
 returns-in-MaxProperties c =
     λ t rs us. tried rs us (doc_of c.args.«record».now c.args.text.now) c.args.row.0 _ _ _ _ c.in-MaxProperties.is refl (sym t ∙ c.at_most-in-MaxProperties.ensures length _ (c.members_of-in-MaxProperties.ensures c.args.text.now))
-
-pub returns-in_default : goal.returns-in_default
-returns-in_default c = λ t. absurd (never t)

@@ -1,25 +1,15 @@
 use mathlib.Core.Bool.{true}
 use mathlib.Core.Path.{ap}
-use Prim.Native.Nat.{ℕ, ◌-◌}
+use Prim.Native.Nat.{ℕ}
 use native.Mathlib.Omega.{arith}
-use borrow.Author.Count.{below_none, below_more}
-use borrow.Author.Rules.{rules}
+use borrow.Author.Count.{below_more}
 use borrow.Author.Tests.{not-false}
 use Rattle.sheet.specs.Record.{doc_of}
 use Rattle.rulesheet.specs.declared.form.SchemaRow.{SchemaRow}
 use Rattle.clause.specs.Read.{clause_in, Tries}
 use Rattle.clause.proofs.Reading.{clause_low, clause_small}
-use Rattle.clause.proofs.Telling.{clause_told, limit_plain}
+use Rattle.clause.proofs.Telling.{clause_told}
 use Rattle.plain.proofs.plainly_passed.Goals as goal
-
-pub schema_at-first-requires : goal.schema_at-first-requires
-schema_at-first-requires c =
-    let rules = c.requires.rules_read in
-    (rules.0.laid.clauses_laid.schemas_laid.formed, rules.1)
-
-pub loop-i-init : goal.loop-i-init
-loop-i-init c =
-    (omega arith, below_none (λ (k : ℕ). Tries (doc_of c.args.«record».now c.args.text.now) c.args.p.row.0 (clause_in c.args.rules.now c.args.rule_text.now c.args.p.rule.0 k) true))
 
 pub overflow_add-first : goal.overflow_add-first
 overflow_add-first c =
@@ -31,19 +21,7 @@ plain_of-clause-requires c =
     let rules = c.requires.rules_read in
     (rules.0.laid.clauses_laid.schemas_laid.formed, clause_low rules.0 rules.1 (ap (λ (row : SchemaRow). row.first) c.schema_at-first.ensures) (omega (arith, rules.2)))
 
-pub plainly-requires : goal.plainly-requires
-plainly-requires c = record {
-  record_read = (c.requires.record_read.0, c.requires.record_read.1);
-  plain = limit_plain c.requires.rules_read.0 c.plain_of-clause.ensures.tested;
-}
-
-pub returns-then-not-plainly : goal.returns-then-not-plainly
-returns-then-not-plainly c = record { within = c.loop-i.invariant.0; passed = c.loop-i.invariant.1 }
-
 pub loop-i-preserved : goal.loop-i-preserved
 loop-i-preserved c =
     let rules = c.requires.rules_read in
-    (omega arith, below_more (λ (k : ℕ). Tries (doc_of c.args.«record».now c.args.text.now) c.args.p.row.0 (clause_in c.args.rules.now c.args.rule_text.now c.args.p.rule.0 k) true) c.loop-i.i c.loop-i.invariant.1 (clause_told (doc_of c.args.«record».now c.args.text.now) c.args.p.row.0 rules.0 rules.1 (ap (λ (row : SchemaRow). row.first) c.schema_at-first.ensures) (omega (arith, rules.2)) c.plain_of-clause.ensures (c.plainly.ensures (not-false _ c.if-not-plainly.false-raw) c.args.rules.now c.args.rule_text.now)))
-
-pub returns : goal.returns
-returns c = record { within = c.loop-i.invariant.0; passed = c.loop-i.invariant.1 }
+    below_more (λ (k : ℕ). Tries (doc_of c.args.«record».now c.args.text.now) c.args.p.row.0 (clause_in c.args.rules.now c.args.rule_text.now c.args.p.rule.0 k) true) c.loop-i.i c.loop-i.invariant (clause_told (doc_of c.args.«record».now c.args.text.now) c.args.p.row.0 rules.0 rules.1 (ap (λ (row : SchemaRow). row.first) c.schema_at-first.ensures) (omega (arith, rules.2)) c.plain_of-clause.ensures (c.plainly.ensures (not-false _ c.if-not-plainly.false-raw) c.args.rules.now c.args.rule_text.now))

@@ -1,28 +1,15 @@
 use mathlib.Core.Bool.{true}
 use mathlib.Core.Path.{ap}
-use Prim.Native.Nat.{ℕ, ◌-◌}
+use Prim.Native.Nat.{ℕ}
 use native.Mathlib.Omega.{arith}
-use borrow.Author.Count.{below_none, below_more}
-use borrow.Author.Rules.{rules}
+use borrow.Author.Count.{below_more}
 use Rattle.sheet.specs.Record.{doc_of}
 use Rattle.rulesheet.specs.declared.form.SchemaRow.{SchemaRow}
 use Rattle.clause.specs.Read.{clause_in, Tries}
 use Rattle.clause.proofs.Reading.{clause_low, clause_small}
-use Rattle.clause.proofs.Telling.{clause_told, limit_plain}
-use Rattle.rows.proofs.Firsts.{rows_all, rows_so, rows_both}
-use Rattle.rows.proofs.rows_passed.Invariants.{Passed}
+use Rattle.clause.proofs.Telling.{clause_told}
+use Rattle.rows.proofs.Firsts.{rows_both}
 use Rattle.rows.proofs.rows_passed.Goals as goal
-
-pub schema_at-first-requires : goal.schema_at-first-requires
-schema_at-first-requires c =
-    let rules = c.requires.rules_read in
-    (rules.0.laid.clauses_laid.schemas_laid.formed, rules.1)
-
-pub loop-i-init : goal.loop-i-init
-loop-i-init c =
-    let clauses = clause_in c.args.rules.now c.args.rule_text.now c.args.p.rule.0 in
-    let d = doc_of c.args.«record».now c.args.text.now in
-    (omega arith, rows_all (Passed d clauses 0) _ _ (λ (j : ℕ). below_none (λ (k : ℕ). Tries d j (clauses k) true)))
 
 pub overflow_add-first : goal.overflow_add-first
 overflow_add-first c =
@@ -34,19 +21,9 @@ plain_of-clause-requires c =
     let rules = c.requires.rules_read in
     (rules.0.laid.clauses_laid.schemas_laid.formed, clause_low rules.0 rules.1 (ap (λ (row : SchemaRow). row.first) c.schema_at-first.ensures) (omega (arith, rules.2)))
 
-pub rows_pass-left-requires : goal.rows_pass-left-requires
-rows_pass-left-requires c = record {
-  record_read = (c.requires.record_read.0, omega (arith, c.requires.record_read.1, c.loop-i.invariant.1.within));
-  plain = limit_plain c.requires.rules_read.0 c.plain_of-clause.ensures.tested;
-}
-
 pub loop-i-preserved : goal.loop-i-preserved
 loop-i-preserved c =
     let rules = c.requires.rules_read in
     let clauses = clause_in c.args.rules.now c.args.rule_text.now c.args.p.rule.0 in
     let d = doc_of c.args.«record».now c.args.text.now in
-    (omega arith, rows_both _ _ _ c.loop-i.invariant.1 c.rows_pass-left.ensures (λ (j : ℕ) told tries. below_more (λ (k : ℕ). Tries d j (clauses k) true) c.loop-i.i told (clause_told d j rules.0 rules.1 (ap (λ (row : SchemaRow). row.first) c.schema_at-first.ensures) (omega (arith, rules.2)) c.plain_of-clause.ensures (tries c.args.rules.now c.args.rule_text.now))))
-
-pub returns : goal.returns
-returns c =
-    rows_so _ _ _ c.loop-i.invariant.1 (λ (j : ℕ) told. record { within = omega arith; passed = λ (k : ℕ) low. told k (omega (arith, low)) })
+    rows_both _ _ _ c.loop-i.invariant c.rows_pass-left.ensures (λ (j : ℕ) told tries. below_more (λ (k : ℕ). Tries d j (clauses k) true) c.loop-i.i told (clause_told d j rules.0 rules.1 (ap (λ (row : SchemaRow). row.first) c.schema_at-first.ensures) (omega (arith, rules.2)) c.plain_of-clause.ensures (tries c.args.rules.now c.args.rule_text.now)))

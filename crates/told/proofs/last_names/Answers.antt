@@ -9,8 +9,4 @@ overflow_add-first c = omega (arith, clauses_few _ _ _ c.requires)
 pub telling_of-requires : goal.telling_of-requires
 telling_of-requires c =
     let asked = c.requires in
-    let some = c.if-i-eq0.false in
     (asked.0.clauses_laid.schemas_laid.formed, omega (arith, clauses_few _ _ _ asked))
-
-pub has_names-requires : goal.has_names-requires
-has_names-requires c = tt

@@ -1,12 +1,8 @@
 -- `marks_named` meets its contract, for a test and for a clause that applies schemas. Assumes nothing.
 use mathlib.Core.Path.{sym, ◌∙◌}
-use borrow.Author.Rules.{rules}
 use Rattle.rulesheet.specs.Sheet.{clause_of}
 use Rattle.told.proofs.Earlier.{test_marks, applied_marks}
 use Rattle.told.proofs.marks_named.Goals as goal
-
-pub has_names-requires : goal.has_names-requires
-has_names-requires c = tt
 
 pub returns-then-applies : goal.returns-then-applies
 returns-then-applies c =

@@ -1,14 +1,7 @@
 -- `names_told` meets its contract: the marks tell, or those before a clause name nothing. Assumes nothing.
-use mathlib.Core.Path.{refl}
 use native.Mathlib.Omega.{arith}
 use Rattle.told.proofs.Earlier.{before_long, clauses_few}
 use Rattle.told.proofs.names_told.Goals as goal
-
-pub returns-then-only_names : goal.returns-then-only_names
-returns-then-only_names c = record {
-  by_index = λ us f. absurd (f refl);
-  by_index_2 = λ us e. c.only_names.ensures c.if-only_names.true us;
-}
 
 pub returns : goal.returns
 returns c =

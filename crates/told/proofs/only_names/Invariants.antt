@@ -2,14 +2,10 @@
 use mathlib.Core.Bool.{true}
 use mathlib.Core.List.{List}
 use mathlib.Core.Path.{◌≡◌}
-use Prim.Native.Nat.{ℕ, ◌+◌, ◌-◌, ◌≤◌, ◌<◌}
-use borrow.Author.Rules.{rules}
+use Prim.Native.Nat.{ℕ, ◌+◌, ◌<◌}
 use Rattle.rulesheet.specs.Sheet.{clause_of}
 use Rattle.told.specs.Read.{marks_named}
 use Rattle.told.proofs.only_names.Given as goal
 
 abbrev pub invariant-loop-k : goal.invariant-loop-k
-invariant-loop-k l = (l.k ≤ l.i) × ((us : List ℕ) (j : ℕ) → j < l.k → marks_named (clause_of l.rules us (l.first + j)) ≡ true)
-
-abbrev pub decreases-loop-k : goal.decreases-loop-k
-decreases-loop-k l = l.i - l.k
+invariant-loop-k l = (us : List ℕ) (j : ℕ) → j < l.k → marks_named (clause_of l.rules us (l.first + j)) ≡ true

@@ -1,8 +1,6 @@
 use mathlib.Core.List.{List}
 use mathlib.Core.Path.{refl, ap, ◌∙◌}
-use Prim.Native.Nat.{◌-◌}
 use native.Mathlib.Omega.{arith}
-use borrow.Author.Rules.{rules}
 use lib.ListN.{length}
 use Rattle.rulesheet.specs.Ruleset.{Clause}
 use Rattle.rulesheet.specs.Sheet.{run}
@@ -13,7 +11,7 @@ use Rattle.told.proofs.prefix_before.Goals as goal
 
 pub loop-k-init : goal.loop-k-init
 unfolding concat_map run
-loop-k-init c = (omega arith, omega arith, λ us. refl)
+loop-k-init c = (omega arith, λ us. refl)
 
 pub overflow_add-first : goal.overflow_add-first
 overflow_add-first c =
@@ -23,9 +21,6 @@ pub telling_of-requires : goal.telling_of-requires
 telling_of-requires c =
     (c.requires.0.clauses_laid.schemas_laid.formed, omega (arith, clauses_few _ _ _ c.requires))
 
-pub prefix_of-elements-requires : goal.prefix_of-elements-requires
-prefix_of-elements-requires c = tt
-
 pub overflow_add-elements : goal.overflow_add-elements
 overflow_add-elements c =
     omega (arith, clauses_few _ _ _ c.requires, entries_few c.requires.0, c.prefix_of-elements.ensures.upper_bound c.args.form (c.telling_of.ensures.tested.bounded c.requires.0.clauses_laid))
@@ -33,10 +28,10 @@ overflow_add-elements c =
 pub loop-k-preserved : goal.loop-k-preserved
 loop-k-preserved c =
     let small = c.prefix_of-elements.ensures.upper_bound c.args.form (c.telling_of.ensures.tested.bounded c.requires.0.clauses_laid) in
-    (omega arith, omega (arith, entries_few c.requires.0), λ us. prefix_more c.args.rules.now us c.args.first c.loop-k.k _ (c.telling_of.ensures.means_telling us) _ _ (c.loop-k.invariant.2 us) (c.prefix_of-elements.ensures.by_index c.args.rules.now us))
+    (omega (arith, entries_few c.requires.0), λ us. prefix_more c.args.rules.now us c.args.first c.loop-k.k _ (c.telling_of.ensures.means_telling us) _ _ (c.loop-k.invariant.1 us) (c.prefix_of-elements.ensures.by_index c.args.rules.now us))
 
-pub returns : goal.returns
-returns c = record {
-  by_index = λ us. c.loop-k.invariant.2 us ∙ ap (λ (cs : List Clause). length (concat_map prefix_of cs)) (before_is _ _ _ c.requires us c.loop-k.k (omega arith));
-  upper_bound = omega (arith, clauses_few _ _ _ c.requires);
-}
+pub returns-clause-by_index : goal.returns-clause-by_index
+returns-clause-by_index c = λ us. c.loop-k.invariant.1 us ∙ ap (λ (cs : List Clause). length (concat_map prefix_of cs)) (before_is _ _ _ c.requires us c.loop-k.k (omega arith))
+
+pub returns-clause-upper_bound : goal.returns-clause-upper_bound
+returns-clause-upper_bound c = omega (arith, clauses_few _ _ _ c.requires)

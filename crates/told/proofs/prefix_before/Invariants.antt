@@ -1,8 +1,7 @@
 -- `prefix_before` meets its contract: the elements of the clauses passed. Assumes nothing.
 use mathlib.Core.List.{List}
 use mathlib.Core.Path.{◌≡◌}
-use Prim.Native.Nat.{ℕ, ◌-◌, ◌*◌, ◌≤◌}
-use borrow.Author.Rules.{rules}
+use Prim.Native.Nat.{ℕ, ◌*◌, ◌≤◌}
 use lib.ListN.{length}
 use Rattle.rulesheet.specs.Faults.{parts_max}
 use Rattle.meaning.specs.Lists.{concat_map}
@@ -11,7 +10,4 @@ use Rattle.told.proofs.Earlier.{first_clauses}
 use Rattle.told.proofs.prefix_before.Given as goal
 
 abbrev pub invariant-loop-k : goal.invariant-loop-k
-invariant-loop-k l = (l.k ≤ l.i) × (l.elements ≤ parts_max * l.k) × ((us : List ℕ) → l.elements ≡ length (concat_map prefix_of (first_clauses l.rules us l.first l.k)))
-
-abbrev pub decreases-loop-k : goal.decreases-loop-k
-decreases-loop-k l = l.i - l.k
+invariant-loop-k l = (l.elements ≤ parts_max * l.k) × ((us : List ℕ) → l.elements ≡ length (concat_map prefix_of (first_clauses l.rules us l.first l.k)))

@@ -2,21 +2,15 @@
 use mathlib.Core.Path.{sym, ap}
 use native.Mathlib.Omega.{arith}
 use lib.ListN.{length}
-use Rattle.rulesheet.specs.declared.clause.Clause.TheVariants.{PrefixItems}
-use Rattle.rulesheet.specs.Clauses.{held, Bounded}
 use Rattle.rulesheet.proofs.Items.{schemas_long}
 use Rattle.meaning.specs.Rules.{prefix_of}
 use borrow.Enum.Refused.{opened}
 use Rattle.told.proofs.Earlier.{prefix_none}
 use Rattle.told.proofs.prefix_of.Goals as goal
 
-pub returns-in-PrefixItems : goal.returns-in-PrefixItems
+pub returns-in-PrefixItems-clause-by_index : goal.returns-in-PrefixItems-clause-by_index
 unfolding prefix_of
-returns-in-PrefixItems c =
-    record {
-      by_index = λ rs us. rw c.in-PrefixItems.is (sym (schemas_long rs c.in-PrefixItems.schemas));
-      upper_bound = λ form b. let l : Bounded form (held (PrefixItems c.in-PrefixItems.schemas)) = rw c.in-PrefixItems.is at b in omega arith;
-    }
+returns-in-PrefixItems-clause-by_index c = λ rs us. rw c.in-PrefixItems.is (sym (schemas_long rs c.in-PrefixItems.schemas))
 
 pub returns-in_default : goal.returns-in_default
 returns-in_default c = record {

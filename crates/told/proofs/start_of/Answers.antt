@@ -7,7 +7,6 @@ use Rattle.clause.specs.Read.{clause_in, before_in}
 use Rattle.clause.proofs.Reading.{clause_low, clause_small, clause_read}
 use Rattle.told.specs.Read.{Started}
 use Rattle.told.proofs.Earlier.{told_started}
-use borrow.Author.Rules.{rules}
 use Rattle.told.proofs.start_of.Goals as goal
 
 pub overflow_add-first : goal.overflow_add-first
@@ -19,12 +18,6 @@ pub told_of-clause-requires : goal.told_of-clause-requires
 told_of-clause-requires c =
     let asked = c.requires in
     (asked.0.laid.clauses_laid.schemas_laid.formed, clause_low asked.0 asked.1 (ap (λ (row : SchemaRow). row.first) c.schema_at-first.ensures) asked.2)
-
-pub start_in-requires : goal.start_in-requires
-start_in-requires c =
-    let asked = c.requires in
-    let low = asked.2 in
-    (asked.0.laid, asked.1, ap (λ (row : SchemaRow). row.first) c.schema_at-first.ensures, omega arith)
 
 pub returns : goal.returns
 returns c =

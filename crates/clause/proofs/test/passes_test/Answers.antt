@@ -1,76 +1,10 @@
 -- `passes_test` meets its contract, keyword by keyword. Assumes nothing.
-use mathlib.Core.List.{[]}
 use mathlib.Core.Path.{refl}
 use lib.ListN.{length}
 use Rattle.sheet.specs.Record.{doc_of}
-use Rattle.rulesheet.specs.declared.code.Fields.TheVariants.{Values, Names}
 use Rattle.meaning.specs.Rules.{passes}
-use Rattle.clause.proofs.Asserting.{answered, no_test, bounds, list_read}
-use borrow.Author.Rules.{rules}
+use Rattle.clause.proofs.Asserting.{answered}
 use Rattle.clause.proofs.test.passes_test.Goals as goal
-
-pub number_in-requires : goal.number_in-requires
-number_in-requires c =
-    (c.requires.record_read.0.laid, c.requires.record_read.1)
-
-pub kind_of-requires : goal.kind_of-requires
-kind_of-requires c =
-    (c.requires.record_read.0.laid.formed, c.requires.record_read.1)
-
-pub typed-requires : goal.typed-requires
-typed-requires c = (c.number_in.ensures []).plain
-
-pub enum_holds-requires : goal.enum_holds-requires
-enum_holds-requires c = record {
-  record_read = (c.requires.record_read.0, c.requires.record_read.1);
-  rules_read = (c.requires.rules_read.0, list_read c.requires.rules_read.1 c.requires.rules_read.0 _ c.in-Enum.is Values _ refl);
-}
-
-pub number_in-requires-in-Minimum : goal.number_in-requires-in-Minimum
-number_in-requires-in-Minimum c =
-    (c.requires.record_read.0.laid, c.requires.record_read.1)
-
-pub minimum-requires : goal.minimum-requires
-minimum-requires c =
-    ((c.number_in-in-Minimum.ensures []).plain, bounds c.requires.rules_read.1 c.requires.rules_read.0 _ c.in-Minimum.is)
-
-pub number_in-requires-in-Maximum : goal.number_in-requires-in-Maximum
-number_in-requires-in-Maximum c =
-    (c.requires.record_read.0.laid, c.requires.record_read.1)
-
-pub maximum-requires : goal.maximum-requires
-maximum-requires c =
-    ((c.number_in-in-Maximum.ensures []).plain, bounds c.requires.rules_read.1 c.requires.rules_read.0 _ c.in-Maximum.is)
-
-pub number_in-requires-in-ExclusiveMinimum : goal.number_in-requires-in-ExclusiveMinimum
-number_in-requires-in-ExclusiveMinimum c =
-    (c.requires.record_read.0.laid, c.requires.record_read.1)
-
-pub exclusive_minimum-requires : goal.exclusive_minimum-requires
-exclusive_minimum-requires c =
-    ((c.number_in-in-ExclusiveMinimum.ensures []).plain, bounds c.requires.rules_read.1 c.requires.rules_read.0 _ c.in-ExclusiveMinimum.is)
-
-pub number_in-requires-in-ExclusiveMaximum : goal.number_in-requires-in-ExclusiveMaximum
-number_in-requires-in-ExclusiveMaximum c =
-    (c.requires.record_read.0.laid, c.requires.record_read.1)
-
-pub exclusive_maximum-requires : goal.exclusive_maximum-requires
-exclusive_maximum-requires c =
-    ((c.number_in-in-ExclusiveMaximum.ensures []).plain, bounds c.requires.rules_read.1 c.requires.rules_read.0 _ c.in-ExclusiveMaximum.is)
-
-pub number_in-requires-in-MultipleOf : goal.number_in-requires-in-MultipleOf
-number_in-requires-in-MultipleOf c =
-    (c.requires.record_read.0.laid, c.requires.record_read.1)
-
-pub multiple_of-requires : goal.multiple_of-requires
-multiple_of-requires c =
-    ((c.number_in-in-MultipleOf.ensures []).plain, bounds c.requires.rules_read.1 c.requires.rules_read.0 _ c.in-MultipleOf.is)
-
-pub required-requires : goal.required-requires
-required-requires c = record {
-  record_read = (c.requires.record_read.0, c.requires.record_read.1);
-  rules_read = (c.requires.rules_read.0, list_read c.requires.rules_read.1 c.requires.rules_read.0 _ c.in-Required.is Names _ refl);
-}
 
 pub returns-in-Never : goal.returns-in-Never
 unfolding passes
@@ -146,7 +80,3 @@ pub returns-in-Required : goal.returns-in-Required
 unfolding passes
 returns-in-Required c =
     answered c.args.rules.now c.args.rule_text.now (doc_of c.args.«record».now c.args.text.now) c.args.row.0 _ _ _ _ c.in-Required.is refl c.required.ensures
-
-pub returns-in_default : goal.returns-in_default
-returns-in_default c =
-    λ t e. absurd (no_test c.args.rules.now c.args.rule_text.now c.args.clause c.in_default.in_default-own.keys16 t e)

@@ -1,5 +1,5 @@
 -- `first_named` meets its contract: what is left of the search tells what the whole tells. Assumes nothing.
-use Prim.Native.Nat.{◌+◌, ◌-◌}
+use Prim.Native.Nat.{◌+◌}
 use Rattle.laws.proofs.Passing.{Passing}
 use Rattle.text.specs.Part.{part}
 use Rattle.sheet.specs.Record.{doc_of}
@@ -8,6 +8,3 @@ use Rattle.looking.proofs.members.first_named.Given as goal
 
 abbrev pub invariant-loop-i : goal.invariant-loop-i
 invariant-loop-i l = Passing (λ k. called (doc_of l.«record» l.text) (part l.rule_text l.name) (l.first + k)) l.count l.i
-
-abbrev pub decreases-loop-i : goal.decreases-loop-i
-decreases-loop-i l = l.count - l.i

@@ -1,14 +1,8 @@
--- `string_in` meets its contract, for a row that is a string and for one that is not. Assumes nothing.
-use mathlib.Core.Path.{sym, ◌∙◌}
-use borrow.Author.Tests.{not-true, not-false}
-use Rattle.looking.proofs.Having.{bytes_found, string_in, no_bytes}
+-- `string_in` meets its contract. Assumes nothing.
+use mathlib.Core.Path.{◌∙◌}
+use borrow.Author.Rules.{rules}
+use Rattle.looking.proofs.Having.{string_read}
 use Rattle.looking.proofs.sizes.string_in.Goals as goal
 
-pub returns-then-not-is_kind : goal.returns-then-not-is_kind
-returns-then-not-is_kind c = λ ts long. record { bytes_is = no_bytes _ (sym (c.is_kind.ensures ts) ∙ not-true _ c.if-not-is_kind.true-raw); inside = tt }
-
 pub returns : goal.returns
-returns c =
-    λ ts long.
-    let is = sym (c.is_kind.ensures ts) ∙ not-false _ c.if-not-is_kind.false-raw in
-    record { bytes_is = bytes_found _ _ is (c.string_of.ensures.string_is ts); inside = rw long (string_in c.string_of.ensures ts is) }
+returns c = λ ts long. string_read ts _ long (c.then.ensures.variant ∙ c.is_kind.ensures ts) c.then.ensures.some (λ own made. search rules)

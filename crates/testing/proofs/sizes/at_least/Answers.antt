@@ -1,13 +1,10 @@
 -- `at_least` meets its contract, for a size and for none. Assumes nothing.
+use borrow.Author.Rules.{rules}
 use lib.Dec.{leb}
 use Rattle.meaning.specs.Tests.{at_least}
-use Rattle.testing.proofs.Limits.{size_holds, other_holds}
+use Rattle.testing.proofs.Limits.{size_holds}
 use Rattle.testing.proofs.sizes.at_least.Goals as goal
 
-pub returns-in-Size : goal.returns-in-Size
+pub returns : goal.returns
 unfolding at_least
-returns-in-Size c = λ size xs e. size_holds (λ n. leb c.args.k n) size _ _ c.in-Size.is xs e
-
-pub returns-in-Other : goal.returns-in-Other
-unfolding at_least
-returns-in-Other c = λ size xs e. other_holds (λ n. leb c.args.k n) size _ c.in-Other.is xs e
+returns c = λ size xs e. size_holds size _ (λ n. leb c.args.k n) _ c.is_none_or.ensures xs e (λ n made. search rules)

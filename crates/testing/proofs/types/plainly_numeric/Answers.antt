@@ -3,8 +3,5 @@ use mathlib.Core.Path.{sym, ◌∙◌}
 use Rattle.testing.proofs.Found.{number_typed}
 use Rattle.testing.proofs.types.plainly_numeric.Goals as goal
 
-pub returns-then-it-eq0 : goal.returns-then-it-eq0
-returns-then-it-eq0 c = λ t. sym c.numeric.ensures ∙ t
-
 pub returns : goal.returns
 returns c = λ t. sym (number_typed _ _ c.type_of.ensures (sym c.has_type.ensures ∙ t))

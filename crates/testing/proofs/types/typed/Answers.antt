@@ -1,17 +1,11 @@
 -- `typed` meets its contract: a number by its value, and what is none by the type of its kind. Assumes nothing.
 use mathlib.Core.Path.{ap, ◌∙◌}
 use Rattle.testing.specs.Types.{type_number}
-use Rattle.testing.proofs.Found.{held_plain, typed_number, typed_other, type_positive}
+use Rattle.testing.proofs.Found.{typed_number, typed_other}
 use Rattle.testing.proofs.types.typed.Goals as goal
 
-pub numeric-requires : goal.numeric-requires
-numeric-requires c = held_plain _ _ c.in-Number.is c.requires
+pub returns-in-Some : goal.returns-in-Some
+returns-in-Some c = λ v found kind_is. typed_number _ _ _ found _ c.in-Some.is c.numeric.ensures
 
-pub has_type-requires : goal.has_type-requires
-has_type-requires c = rw c.type_of.ensures (type_positive c.args.kind)
-
-pub returns-in-Number : goal.returns-in-Number
-returns-in-Number c = λ v found kind_is. typed_number _ _ _ found _ c.in-Number.is c.numeric.ensures
-
-pub returns-in-Other : goal.returns-in-Other
-returns-in-Other c = λ v found kind_is. typed_other _ _ _ found c.in-Other.is (c.type_of.ensures ∙ ap type_number kind_is) c.has_type.ensures
+pub returns-in-None : goal.returns-in-None
+returns-in-None c = λ v found kind_is. typed_other _ _ _ found c.in-None.is (c.type_of.ensures ∙ ap type_number kind_is) c.has_type.ensures
