@@ -1,6 +1,6 @@
 -- A clause between two of its steps: which step is applied next, if one is. κ are the marks that stand in the cells, t what is carried.
 -- Assumes nothing.
-use Rattle.std.specs.Prelude.{ℕ, ◌*◌, ◌≤◌, ◌<◌, Bool, true, false, not, List, ◌≡◌, length}
+use Rattle.std.specs.Prelude.{ℕ, ◌*◌, ◌≤◌, ◌<◌, Bool, true, false, not, List, ◌≡◌, length, Option, Some, None}
 use Rattle.sheet.specs.declared.record.RecordForm.{RecordForm}
 use Rattle.sheet.specs.declared.record.Pair as P
 use Rattle.sheet.specs.Doc.{Doc}
@@ -14,8 +14,21 @@ use Rattle.looking.specs.Read.{RecordRead}
 use Rattle.clause.specs.Read.{RulesRead, clause_in, before_in, words_in}
 use Rattle.areas.specs.Cells.{pair_is, Unsettled, column}
 use Rattle.steps.specs.declared.turn.Turn.{Turn}
+use Rattle.steps.specs.declared.turn.Counts.{Counts}
+use Rattle.steps.specs.declared.turn.Counts.TheVariants.{Misses, Hits, Branches}
 use Rattle.plan.specs.Plan.{member_count, own, child_row, unnamed, counts_hits, branches, steps_of, aim_of, go_of}
 use Rattle.told.specs.Read.{by_marks, Started}
+
+-- of what a clause counts: whether it is its hits, and whether it has a condition and branches
+abbrev pub is_hits : Counts → Bool
+is_hits Misses = false
+is_hits Hits = true
+is_hits Branches = false
+
+abbrev pub is_branches : Counts → Bool
+is_branches Misses = false
+is_branches Hits = false
+is_branches Branches = true
 
 module _ (D : Doc) (p : Pair) (before : List Clause) (c : Clause) where
   -- step k is applied
@@ -33,17 +46,17 @@ module _ (D : Doc) (p : Pair) (before : List Clause) (c : Clause) where
     pub small : r.step < 4294967295
     pub skipped : Skipped κ t x r.step
     pub applied : goes_at κ t r.step ≡ true
-    pub hits_is : r.hits ≡ counts_hits c
-    pub branch_is : r.branch ≡ branches c
+    pub hits_is : is_hits r.counts ≡ counts_hits c
+    pub branch_is : is_branches r.counts ≡ branches c
     pub aim_is : pair_is r.pair ≡ aim_of D p before c r.step
 
   -- where the clause stands after x steps: at the next that is applied, or at its end
-  pub record Turned (x : ℕ) (κ : Marks) (t : ℕ) (r : Turn) : Type 0 where
-    pub goes : r.go ≡ true → Goes x κ t r
-    pub ends : r.go ≡ false → Skipped κ t x (steps_of D p before c)
+  pub record Turned (x : ℕ) (κ : Marks) (t : ℕ) (r : Option Turn) : Type 0 where
+    pub goes : {turn : Turn} → r ≡ Some turn → Goes x κ t turn
+    pub ends : r ≡ None → Skipped κ t x (steps_of D p before c)
 
 -- the same on row j, whatever is carried, and whatever schema the clause is of, the clauses before it and the marks
-abbrev pub TurnedOn : Doc → ℕ → Clause → ℕ → Turn → Type 0
+abbrev pub TurnedOn : Doc → ℕ → Clause → ℕ → Option Turn → Type 0
 TurnedOn D j c x r = (t : ℕ) (p : Pair) (before : List Clause) (κ : Marks) → p.row ≡ j → Turned D p before c x κ t r
 
 -- of the members from number x on the marks tell which the clauses before name
@@ -66,9 +79,9 @@ pub record TurnAsked (ws ts : List ℕ) (form : RecordForm) (rs us : List ℕ) (
   pub unsettled : Unsettled rule_form.m (pair_is p) cells
 
 -- where clause i of p's schema, which means c, stands after x steps, with t carried: over the two sheets and the marks of p in the cells
-abbrev pub TurnedIn : (ws ts rs us : List ℕ) → P.Pair → ℕ → Clause → ℕ → ℕ → ℕ → List ℕ → Turn → Type 0
+abbrev pub TurnedIn : (ws ts rs us : List ℕ) → P.Pair → ℕ → Clause → ℕ → ℕ → ℕ → List ℕ → Option Turn → Type 0
 TurnedIn ws ts rs us p i c x t m cells r = Turned (doc_of ws ts) (pair_is p) (before_in rs us p.rule.0 i) c x (column m cells p.rule.0) t r
 
 -- the same of a clause that is told nothing by those before it
-abbrev pub TurnedFresh : (ws ts : List ℕ) → P.Pair → Clause → ℕ → ℕ → List ℕ → Turn → Type 0
+abbrev pub TurnedFresh : (ws ts : List ℕ) → P.Pair → Clause → ℕ → ℕ → List ℕ → Option Turn → Type 0
 TurnedFresh ws ts p c x m cells r = (t : ℕ) (before : List Clause) → Turned (doc_of ws ts) (pair_is p) before c x (column m cells p.rule.0) t r

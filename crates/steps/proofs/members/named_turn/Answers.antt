@@ -1,6 +1,6 @@
 use mathlib.Core.Path.{refl, sym, ◌∙◌}
 use native.Mathlib.Omega.{arith}
-use Prim.Native.Nat.{◌-◌, ◌<◌}
+use Prim.Native.Nat.{◌<◌}
 use Rattle.text.specs.Part.{part}
 use Rattle.sheet.specs.Record.{doc_of}
 use Rattle.rulesheet.specs.declared.code.Fields.TheVariants.{Members}
@@ -10,7 +10,6 @@ use Rattle.plan.specs.Plan.{member_count}
 use Rattle.steps.proofs.Turns.{skipped_none}
 use Rattle.line.proofs.Counted.{members_some}
 use Rattle.steps.proofs.Aiming.{members_object, no_members, named_turn, named_more, named_end}
-use borrow.Author.Rules.{rules}
 use Rattle.steps.proofs.members.named_turn.Goals as goal
 
 pub members_in-members-requires : goal.members_in-members-requires
@@ -19,13 +18,13 @@ members_in-members-requires c = (c.requires.record_read.0.laid, c.requires.recor
 pub returns-then-members-eq0 : goal.returns-then-members-eq0
 returns-then-members-eq0 c =
     λ t p before κ same.
-    no_members t (doc_of c.args.«record».now c.args.text.now) p before κ c.args.rules.now c.args.rule_text.now c.args.list c.args.x _ (rw same (sym (c.members_in-members.ensures c.args.text.now) ∙ c.if-members-eq0.true)) c.ended.ensures
+    no_members t (doc_of c.args.«record».now c.args.text.now) p before κ c.args.rules.now c.args.rule_text.now c.args.list c.args.x _ (rw same (sym (c.members_in-members.ensures c.args.text.now) ∙ c.if-members-eq0.true)) refl
 
 pub children_of-first-requires : goal.children_of-first-requires
 children_of-first-requires c = (c.requires.record_read.0.laid.formed, c.requires.record_read.1)
 
 pub loop-at-init : goal.loop-at-init
-loop-at-init c = (omega arith, λ t p before κ same. skipped_none (omega arith))
+loop-at-init c = λ t p before κ same. skipped_none (omega arith)
 
 pub entry_name-name-requires : goal.entry_name-name-requires
 entry_name-name-requires c = (c.requires.rules_read.0.laid.clauses_laid.schemas_laid.formed, c.requires.rules_read.1.within, omega arith)
@@ -51,20 +50,15 @@ returns-then-n-members c =
     let us = c.args.rule_text.now in
     let some : 0 < member_count ((doc_of c.args.«record».now c.args.text.now).value c.args.row.0) = omega (arith, c.members_in-members.ensures c.args.text.now, c.if-members-eq0.false) in
     λ t p before κ same.
-    named_turn t (doc_of c.args.«record».now c.args.text.now) p before κ c.args.rules.now us c.args.list c.args.x (rw same some) c.loop-at.at c.child_named-n.result (part us c.entry_name-name.result) (rw same c.child_named-n.ensures) (c.entry_name-name.ensures.member_is us) _ _ _ _ (rw same (c.children_of-first.ensures.first_is c.args.text.now)) (inv.1 t p before κ same) inv.0 below (omega (arith, list_few c.requires.rules_read.0 c.requires.rules_read.1)) (rw same (rw (← c.members_in-members.ensures c.args.text.now) c.if-n-members.true)) refl (c.member_schema.ensures us) c.at_step.ensures
-
-pub overflow_add-at : goal.overflow_add-at
-overflow_add-at c = omega (arith, list_few c.requires.rules_read.0 c.requires.rules_read.1)
+    named_turn t (doc_of c.args.«record».now c.args.text.now) p before κ c.args.rules.now us c.args.list c.args.x (rw same some) c.loop-at.at c.child_named-n.result (part us c.entry_name-name.result) (rw same c.child_named-n.ensures) (c.entry_name-name.ensures.member_is us) _ _ _ _ (rw same (c.children_of-first.ensures.first_is c.args.text.now)) (inv t p before κ same) c.loop-at.auto.at below (omega (arith, list_few c.requires.rules_read.0 c.requires.rules_read.1)) (rw same (rw (← c.members_in-members.ensures c.args.text.now) c.if-n-members.true)) refl (c.member_schema.ensures us) c.at_step.ensures
 
 pub loop-at-preserved : goal.loop-at-preserved
 loop-at-preserved c =
     let inv = c.loop-at.invariant in
     let us = c.args.rule_text.now in
-    let some : 0 < member_count ((doc_of c.args.«record».now c.args.text.now).value c.args.row.0) = omega (arith, c.members_in-members.ensures c.args.text.now, c.if-members-eq0.false) in (
-      omega arith,
-      λ t p before κ same.
-          named_more t (doc_of c.args.«record».now c.args.text.now) p before κ c.args.rules.now us c.args.list c.args.x (rw same some) c.loop-at.at c.child_named-n.result (part us c.entry_name-name.result) (rw same c.child_named-n.ensures) (c.entry_name-name.ensures.member_is us) (inv.1 t p before κ same) (rw same (rw (← c.members_in-members.ensures c.args.text.now) (omega (arith, c.if-n-members.false)))),
-    )
+    let some : 0 < member_count ((doc_of c.args.«record».now c.args.text.now).value c.args.row.0) = omega (arith, c.members_in-members.ensures c.args.text.now, c.if-members-eq0.false) in
+    λ t p before κ same.
+    named_more t (doc_of c.args.«record».now c.args.text.now) p before κ c.args.rules.now us c.args.list c.args.x (rw same some) c.loop-at.at c.child_named-n.result (part us c.entry_name-name.result) (rw same c.child_named-n.ensures) (c.entry_name-name.ensures.member_is us) (inv t p before κ same) (rw same (rw (← c.members_in-members.ensures c.args.text.now) (omega (arith, c.if-n-members.false))))
 
 pub returns : goal.returns
 returns c =
@@ -72,4 +66,4 @@ returns c =
     let past = c.loop-at-test.false in
     let some : 0 < member_count ((doc_of c.args.«record».now c.args.text.now).value c.args.row.0) = omega (arith, c.members_in-members.ensures c.args.text.now, c.if-members-eq0.false) in
     λ t p before κ same.
-    named_end t (doc_of c.args.«record».now c.args.text.now) p before κ c.args.rules.now c.args.rule_text.now c.args.list c.args.x (rw same some) c.loop-at.at _ (inv.1 t p before κ same) (omega arith) c.ended-2.ensures
+    named_end t (doc_of c.args.«record».now c.args.text.now) p before κ c.args.rules.now c.args.rule_text.now c.args.list c.args.x (rw same some) c.loop-at.at _ (inv t p before κ same) (omega arith) refl
