@@ -18,14 +18,14 @@ use lib.Dec.{eqb}
 use lib.ListN.{length, get_or}
 use Rattle.std.specs.Prelude.{Option, Some, None}
 use Rattle.sheet.specs.Doc.{Doc}
-use Rattle.rulesheet.specs.Ruleset.{Test, asserts, Ruleset}
-use Rattle.meaning.specs.Rules.{Pair, Marks, Way, whole, cut, stops, passes}
+use Rattle.rulesheet.specs.Ruleset.{Ruleset}
+use Rattle.meaning.specs.Rules.{Pair, Marks, Way, whole, cut}
 use Rattle.meaning.specs.Fit.{rank}
 use Rattle.areas.specs.Cells.{pair_is, cell_at, verd, Unsettled, column}
 use Rattle.areas.specs.Writers.{Marked}
 use Rattle.areas.proofs.Cells.{settled_le}
 use Rattle.steps.specs.declared.turn.Turn.{Turn}
-use Rattle.plan.specs.Plan.{counts_hits, branches, moved, steps_of, finish_of, way_of, stops_by}
+use Rattle.plan.specs.Plan.{counts_hits, branches, moved, finish_of, way_of, stops_by}
 use Rattle.told.specs.Read.{Started}
 use Rattle.steps.specs.Turns.{is_hits, is_branches, Skipped, Turned}
 use Rattle.lent.specs.Lent.{Case, Fits, InCase, first_kid, kid_count, clauses_of, clause_at, before_of, Turns, TurnsTo, next_at, HandsOn, given_on}
@@ -34,7 +34,7 @@ use Rattle.progress.specs.Steps.{many, aims, stopped, fresh, goes, Stepped, Stan
 use Rattle.progress.specs.declared.Done.{Done}
 use Rattle.progress.specs.State.{Named, rank_of, bits_of, Areas, Ready, WhereDone, Judged, ClauseJudged}
 use Rattle.progress.proofs.State.{areas_cell, areas_long}
-use Rattle.progress.proofs.Going.{Aim, ready_as, stepped_none, stepped_few, stepped_go, stepped_goes, stepped_aim, stepped_skips, stepped_stops, stepped_went, stepped_hands, stepped_end, going_unsettled, going_ready, going_aimed, going_apply}
+use Rattle.progress.proofs.Going.{Aim, ready_as, stepped_none, stepped_few, stepped_go, stepped_goes, stepped_aim, stepped_skips, stepped_stops, stepped_went, stepped_hands, stepped_end, going_unsettled, going_aimed, going_apply}
 use Rattle.laws.proofs.Tests.{decide}
 use Rattle.plan.proofs.Plans.{Aimed, after_miss_lem}
 use Rattle.progress.proofs.Named.{standing_marked}

@@ -1,5 +1,5 @@
 // Where a clause that applies schemas stands between two of its steps.
-ghost use Rattle.std.specs.Prelude.{◌≡◌};
+ghost use Rattle.std.specs.Prelude.{◌≡◌, not, ◌||◌};
 ghost use Rattle.rulesheet.specs.Clauses.{clause_means};
 ghost use Rattle.few.specs.Asked.{applying};
 ghost use Rattle.clause.specs.Read.{clause_in, words_in, ClauseRead};
@@ -17,11 +17,26 @@ use sheet::record::{Pair, RecordForm, RecordRow, RuleRow};
 
 // What a clause counts: the steps that fail, or those that hold, or which of a condition and its two
 // branches failed.
-#[derive(Clone, Copy, PartialEq, Eq)]
+#[derive(Clone, Copy)]
 pub enum Counts {
     Misses,
     Hits,
     Branches,
+}
+
+impl Counts {
+    ghost use Rattle.steps.specs.Turns.{is_hits};
+
+    // Whether a step hands on the marks of its pair, which held or not: where hits are counted only a hit
+    // does.
+    pub fn keeps(self, held: bool) -> bool
+        ensures { result ≡ (not (is_hits self) || held) }
+    {
+        match self {
+            Counts::Hits => held,
+            Counts::Misses | Counts::Branches => true,
+        }
+    }
 }
 
 // A step of a clause that is applied next, and the pair that it applies.
