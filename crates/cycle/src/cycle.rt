@@ -13,7 +13,7 @@
 // where no pair is open.
 //
 // One cycle serves both calls: whether judging goes on after a failure, in whole, or stops, cut, is
-// asked of `Lent::next_clause` and `stepping::next_step`, so both loops go by a step that is worked out.
+// asked of `lent::next_clause` and `stepping::next_step`, so both loops go by a step that is worked out.
 //
 // The contracts cite `specs/State.antt` of `progress`, and of what is lent `specs/Lent.antt` and
 // `specs/Reads.antt` of `lent`.
@@ -26,7 +26,7 @@ ghost use Rattle.progress.specs.State.{Named, rank_of, Ready, Judged, ClauseJudg
 
 use areas::settle;
 use few::applies;
-use lent::Lent;
+use lent::{Lent, next_clause};
 use lines::in_line;
 use marking::{give, shut, verdict_of};
 use progress::Done;
@@ -82,7 +82,7 @@ pub fn judge_pair(
         } else {
             ok = ok & holds(lent, cells, p, i);
         }
-        i = lent.next_clause(many, i, ok);
+        i = next_clause(lent.cut, many, i, ok);
     }
     shut(lent, cells, p, ok);
     settle(cells, list, lent.schemas(), p, ok, now)

@@ -57,21 +57,23 @@ impl<'a> Lent<'a> {
         let schema = schema_at(self.rules, self.rule_form, p.rule);
         clause_at(self.rules, self.rule_form, schema.first + i)
     }
+}
 
-    // Whether judging goes on after what is `ok` or not: always in whole, and else where it is. Here alone
-    // it is asked whether judging is cut.
-    pub fn goes_on(&self, ok: bool) -> bool
-        ensures { result ≡ goes_on (way_by self.now.cut) ok }
-    {
-        ok || !self.cut
-    }
+// ---- after a failure
 
-    // The clause after clause i of `many`, where those up to it hold or not; none if judging stops.
-    pub fn next_clause(&self, many: u32, i: u32, ok: bool) -> u32
-        requires { i < many }
-        ensures next_or_end { result ≡ cond (goes_on (way_by self.now.cut) ok) (i + 1) many }
-        ensures onward_within_many { (i < result) × (result ≤ many) }
-    {
-        if self.goes_on(ok) { i + 1 } else { many }
-    }
+// Whether judging goes on after what is `ok` or not: always in whole, and else where it is. Here alone
+// it is asked whether judging is cut.
+pub fn goes_on(cut: bool, ok: bool) -> bool
+    ensures { result ≡ goes_on (way_by cut) ok }
+{
+    ok || !cut
+}
+
+// The clause after clause i of `many`, where those up to it hold or not; none if judging stops.
+pub fn next_clause(cut: bool, many: u32, i: u32, ok: bool) -> u32
+    requires { i < many }
+    ensures next_or_end { result ≡ cond (goes_on (way_by cut) ok) (i + 1) many }
+    ensures onward_within_many { (i < result) × (result ≤ many) }
+{
+    if goes_on(cut, ok) { i + 1 } else { many }
 }

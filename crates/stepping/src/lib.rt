@@ -15,7 +15,7 @@ ghost use Rattle.lent.specs.Lent.{clause_at, before_of, Applying, Turns, TurnsTo
 ghost use Rattle.lent.specs.Reads.{lent_case, row_of, ReadsClause};
 
 use finish::{after_miss, finish_of};
-use lent::Lent;
+use lent::{Lent, goes_on};
 use line::{Line, line_of};
 use rulesheet::form::ClauseRow;
 use sheet::record::Pair;
@@ -99,7 +99,7 @@ pub fn next_step(lent: &Lent<'_>, p: Pair, i: u32, row: ClauseRow, step: u32, ta
     requires { ReadsClause lent.now (pair_is p) i × (row ≡ row_of lent.now (pair_is p) i) × (step < 4294967295) }
     ensures { result ≡ next_at (lent_case lent.now) (pair_is p) i step tally }
 {
-    if lent.goes_on(tally == 0) {
+    if goes_on(lent.cut, tally == 0) {
         return step + 1;
     }
     after_miss(
