@@ -1,6 +1,6 @@
 -- Where a clause stands that chooses schemas for the row itself, or counts elements.
 --     branch_first, branch_then, branch_else, branch_end     36: the condition, the one branch or the other
---     depended_turn, depended_more, depended_end, depended_none     37: schemas whose names members have
+--     depended_turn, depended_end     37: schemas whose names members have
 --     counted_turn, counted_end     45: each element
 -- Assumes nothing.
 use mathlib.Core.Bool.{false}
@@ -25,14 +25,12 @@ use Rattle.rulesheet.specs.Clauses.{entry_in, schemas_in, members_in}
 use Rattle.rulesheet.proofs.Items.{members_long}
 use Rattle.rulesheet.proofs.Reaching.{made_at, item_is}
 use Rattle.meaning.specs.Rules.{Pair, Marks, to}
-use Rattle.looking.specs.Read as C
 use Rattle.std.specs.Prelude.{Option, None}
 use Rattle.steps.specs.declared.turn.Turn.{Turn}
 use Rattle.steps.specs.declared.turn.Counts.TheVariants.{Hits, Branches}
 use Rattle.plan.specs.Plan.{member_count, element_count, no_member, counts_hits, branches, branch_goes, branch_of, own, child_named, steps_of, aim_of, go_of}
-use Rattle.steps.specs.Turns.{goes_at, Skipped, Turned}
-use Rattle.steps.proofs.Turns.{at, at_of, skipped_none, skipped_more, goes_on, goes_of, stops}
-use Rattle.steps.proofs.Aiming.{named_place}
+use Rattle.steps.specs.Turns.{goes_at, Skipped, NoneNamed, NamedAt, Turned}
+use Rattle.steps.proofs.Turns.{at, at_of, skipped_none, goes_on, goes_of, stops}
 
 -- the schema of entry i, as it is read of a list of schemas
 pub first_in : (rs : List ℕ) (list : Entries) (i : ℕ) {s : ℕ} → i < list.count → s ≡ get_or (schemas_in rs list) i 0 → s ≡ (entry_in rs list i).first
@@ -82,31 +80,21 @@ module _ (t : ℕ) (d : Doc) (p : Pair) (before : List R.Clause) (κ : Marks) wh
     abbrev depends : R.Clause
     depends = R.dependent_schemas (members_in rs us list)
 
-    pub depended_none : (r : Option Turn) → member_count (own d p) ≡ 0 → r ≡ None → Stands depends x r
-    unfolding steps_of go_of
-    depended_none r none is =
-        stops {y = list.count} is (record { idle = λ k a b. le-ltb (child_named d p (get_or (members_in rs us list) k no_member).0) (member_count (own d p)) (omega arith) })
-        (omega (arith, members_long rs list us))
+    idle_depends : (y : ℕ) → NoneNamed d p (members_in rs us list) x y → Idle depends x y
+    unfolding go_of
+    idle_depends y N = record { idle = λ k a b. le-ltb (child_named d p (get_or (members_in rs us list) k no_member).0) (member_count (own d p)) (N.none k a b) }
 
-    module _ (some : 0 < member_count (own d p)) where
-      pub depended_end : (y : ℕ) (r : Option Turn) → Idle depends x y → list.count ≤ y → r ≡ None → Stands depends x r
-      unfolding steps_of
-      depended_end y r idle h is = stops is idle (omega (arith, members_long rs list us))
+    pub depended_end : (r : Option Turn) → NoneNamed d p (members_in rs us list) x list.count → r ≡ None → Stands depends x r
+    unfolding steps_of
+    depended_end r N is = stops is (idle_depends list.count N) (omega (arith, members_long rs list us))
 
-      -- n is the first child that has the name of entry y
-      module _ (y n : ℕ) (name : List ℕ) (found : n ≡ C.child_named d p.row name) (name_is : name ≡ (get_or (members_in rs us list) y no_member).0) where
-        goes_if : goes_at d p before depends κ t y ≡ ltb n (member_count (own d p))
-        unfolding go_of
-        goes_if = rw (← named_place t d p before κ rs us list x some y n name found name_is)
-
-        pub depended_turn : (row : RecordRow) (rule : RuleRow) (r : Option Turn) → p.row ≡ row.0 → Idle depends x y → x ≤ y → y < list.count → y < 4294967295
-            → n < member_count (own d p) → rule.0 ≡ (get_or (members_in rs us list) y no_member).1 → r ≡ at y row rule → Stands depends x r
-        unfolding counts_hits branches steps_of aim_of to
-        depended_turn row rule r same idle ahead h small here schema is =
-            goes_on is refl refl ahead (omega (arith, members_long rs list us)) small idle (goes_if ∙ lt-ltb n (member_count (own d p)) here) (rw (same, schema))
-
-        pub depended_more : Idle depends x y → member_count (own d p) ≤ n → Idle depends x (y + 1)
-        depended_more idle h = skipped_more idle (goes_if ∙ le-ltb n (member_count (own d p)) h)
+    pub depended_turn : {y n : ℕ} (row : RecordRow) (rule : RuleRow) (r : Option Turn) → p.row ≡ row.0 → NamedAt d p (members_in rs us list) x list.count y n
+        → rule.0 ≡ (get_or (members_in rs us list) y no_member).1 → r ≡ at y row rule → Stands depends x r
+    unfolding counts_hits branches steps_of go_of aim_of to
+    depended_turn {y} {n} row rule r same N schema is =
+        goes_on is refl refl N.ahead (let w = N.within in omega (arith, members_long rs list us)) N.small (idle_depends y N.before)
+        (ap (λ (i : ℕ). ltb i (member_count (own d p))) (sym N.place_is) ∙ lt-ltb n (member_count (own d p)) N.member)
+        (rw (same, schema))
 
   -- ---- 45
 

@@ -2,6 +2,7 @@
 --     skipped_none, skipped_more, skipped_least   no step is passed over; one more that is not applied; fewer of them
 --     goes_on, goes_of, stops                              at a step that is applied, and at the end
 --     applied_turned, applied_child, turned_as    as far as the clause applies schemas, and by the variant that was read
+--     named_none, named_pair                       an entry whose name a member has
 --     marked_turned                               additionalProperties by the marks
 -- Assumes nothing.
 use mathlib.Core.Bool.{Bool, true, false, not}
@@ -9,6 +10,7 @@ use mathlib.Core.List.{List}
 use mathlib.Core.Path.{◌≡◌, refl, sym, ap, ◌∙◌, subst}
 use Prim.Native.Nat.{ℕ, ◌+◌, ◌≤◌, ◌<◌}
 use native.Mathlib.Omega.{arith}
+use lib.ListN.{get_or}
 use borrow.Author.Count.{below_more}
 use Rattle.sheet.specs.declared.record.RecordRow.{RecordRow}
 use Rattle.sheet.specs.declared.record.RuleRow.{RuleRow}
@@ -24,8 +26,8 @@ use Rattle.looking.proofs.Having.{never_not}
 use Rattle.steps.specs.declared.turn.Turn.{Turn}
 use Rattle.steps.specs.declared.turn.Counts.{Counts}
 use Rattle.steps.specs.declared.turn.Counts.TheVariants.{Misses}
-use Rattle.plan.specs.Plan.{member_count, own, child_row, unnamed, counts_hits, branches, steps_of, steps_in, go_of, go_in, aim_of, aim_in}
-use Rattle.steps.specs.Turns.{is_hits, is_branches, goes_at, Skipped, Goes, NamesMarked, Turned}
+use Rattle.plan.specs.Plan.{member_count, no_member, own, child_row, child_named, unnamed, counts_hits, branches, steps_of, steps_in, go_of, go_in, aim_of, aim_in}
+use Rattle.steps.specs.Turns.{is_hits, is_branches, goes_at, Skipped, Goes, NoneNamed, NamedAt, FirstNamed, NamesMarked, Turned}
 
 -- at step x, which applies the schema to the row
 abbrev pub at : ℕ → RecordRow → RuleRow → Option Turn
@@ -37,6 +39,22 @@ at_of counts x row rule = Some (record { step = x; pair = record { row = row; ru
 
 some_is : {a b : Turn} → Some a ≡ Some b → a ≡ b
 some_is {a} e = ap (λ (o : Option Turn). unwrap_or o a) e
+
+-- entry y is passed over too
+pub named_none : (D : Doc) (p : Pair) (es : List (List ℕ × ℕ)) {x y n : ℕ} → NoneNamed D p es x y → n ≡ child_named D p (get_or es y no_member).0 → member_count (own D p) ≤ n → NoneNamed D p es x (y + 1)
+named_none D p es {x} {y} N e h =
+    record { none = λ k a b. below_more (λ j. x ≤ j → member_count (own D p) ≤ child_named D p (get_or es j no_member).0) y (λ j d f. N.none j f d) (λ f. rw e at h) k b a }
+
+-- it is the first
+pub named_pair : (D : Doc) (p : Pair) (es : List (List ℕ × ℕ)) {x many y n : ℕ} → NamedAt D p es x many y n → FirstNamed D p es x many (Some (y, n))
+named_pair D p es {x} {many} {y} {n} N =
+    record {
+      found = λ e. subst (λ (z : ℕ × ℕ). NamedAt D p es x many z.0 z.1) (pair_is e) N;
+      past = λ e. absurd (none-some _ (sym e));
+    }
+  where
+    pair_is : {z : ℕ × ℕ} → Some (y, n) ≡ Some z → (y, n) ≡ z
+    pair_is e = ap (λ (o : Option (ℕ × ℕ)). unwrap_or o (y, n)) e
 
 module _ {D : Doc} {p : Pair} {before : List Clause} {c : Clause} {κ : Marks} {t : ℕ} where
   pub skipped_none : {x y : ℕ} → y ≤ x → Skipped D p before c κ t x y

@@ -1,6 +1,6 @@
 -- A clause between two of its steps: which step is applied next, if one is. κ are the marks that stand in the cells, t what is carried.
 -- Assumes nothing.
-use Rattle.std.specs.Prelude.{ℕ, ◌*◌, ◌≤◌, ◌<◌, Bool, true, false, not, List, ◌≡◌, length, Option, Some, None}
+use Rattle.std.specs.Prelude.{ℕ, ◌*◌, ◌≤◌, ◌<◌, Bool, true, false, not, List, ◌≡◌, length, get_or, Option, Some, None}
 use Rattle.sheet.specs.declared.record.RecordForm.{RecordForm}
 use Rattle.sheet.specs.declared.record.Pair as P
 use Rattle.sheet.specs.Doc.{Doc}
@@ -16,7 +16,7 @@ use Rattle.areas.specs.Cells.{pair_is, Unsettled, column}
 use Rattle.steps.specs.declared.turn.Turn.{Turn}
 use Rattle.steps.specs.declared.turn.Counts.{Counts}
 use Rattle.steps.specs.declared.turn.Counts.TheVariants.{Misses, Hits, Branches}
-use Rattle.plan.specs.Plan.{member_count, own, child_row, unnamed, counts_hits, branches, steps_of, aim_of, go_of}
+use Rattle.plan.specs.Plan.{member_count, no_member, own, child_row, child_named, unnamed, counts_hits, branches, steps_of, aim_of, go_of}
 use Rattle.told.specs.Read.{by_marks, Started}
 
 -- of what a clause counts: whether it is its hits, and whether it has a condition and branches
@@ -58,6 +58,24 @@ module _ (D : Doc) (p : Pair) (before : List Clause) (c : Clause) where
 -- the same on row j, whatever is carried, and whatever schema the clause is of, the clauses before it and the marks
 abbrev pub TurnedOn : Doc → ℕ → Clause → ℕ → Option Turn → Type 0
 TurnedOn D j c x r = (t : ℕ) (p : Pair) (before : List Clause) (κ : Marks) → p.row ≡ j → Turned D p before c x κ t r
+
+-- no member of p's row has the name of an entry from number x up to y
+pub record NoneNamed (D : Doc) (p : Pair) (es : List (List ℕ × ℕ)) (x y : ℕ) : Type 0 where
+  pub none : (k : ℕ) → x ≤ k → k < y → member_count (own D p) ≤ child_named D p (get_or es k no_member).0
+
+-- entry y of `many` is the first from number x on whose name a member has: child n
+pub record NamedAt (D : Doc) (p : Pair) (es : List (List ℕ × ℕ)) (x many y n : ℕ) : Type 0 where
+  pub ahead : x ≤ y
+  pub within : y < many
+  pub small : y < 4294967295
+  pub member : n < member_count (own D p)
+  pub place_is : n ≡ child_named D p (get_or es y no_member).0
+  pub before : NoneNamed D p es x y
+
+-- r is that entry and that child, or no entry is
+pub record FirstNamed (D : Doc) (p : Pair) (es : List (List ℕ × ℕ)) (x many : ℕ) (r : Option (ℕ × ℕ)) : Type 0 where
+  pub found : {y n : ℕ} → r ≡ Some (y, n) → NamedAt D p es x many y n
+  pub past : r ≡ None → NoneNamed D p es x many
 
 -- of the members from number x on the marks tell which the clauses before name
 abbrev pub NamesMarked : Doc → Pair → List Clause → ℕ → Marks → Type 0

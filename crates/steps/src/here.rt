@@ -12,10 +12,9 @@ ghost use Rattle.looking.specs.Read.{RecordRead};
 ghost use Rattle.clause.specs.Read.{RulesRead, ListRead};
 ghost use Rattle.steps.specs.Turns.{Turned, TurnedOn};
 
+use crate::members::first_named;
 use crate::turn::{Counts, Turn, at_step, at_step_of};
-use line::counts::members_in;
-use looking::members::child_named;
-use rulereader::{entry_name, entry_schema, member_schema};
+use rulereader::{entry_schema, member_schema};
 use rulesheet::clause::Entries;
 use rulesheet::form::RuleForm;
 use sheet::record::{RecordForm, RecordRow, RuleRow};
@@ -83,18 +82,10 @@ pub(crate) fn depended_turn<'a>(
     requires rules_read { RulesRead rules.now rule_text.now rule_form × ListRead rules.now rule_form Members list }
     ensures { TurnedOn (doc_of «record».now text.now) row.0 (R.dependent_schemas (members_in rules.now rule_text.now list)) x result }
 {
-    let members = members_in(record, form, row);
-    if members == 0 {
-        return None;
-    }
-    for at in x..list.count {
-        let name = entry_name(rules, rule_form, list, at);
-        let n = child_named(record, text, form, row, rule_text, name, at);
-        if n < members {
-            return at_step(at, row, member_schema(rules, rule_form, list, at));
-        }
-    }
-    None
+    let (at, _) = first_named(
+        record, text, form, rules, rule_text, rule_form, row, list, x,
+    )?;
+    at_step(at, row, member_schema(rules, rule_form, list, at))
 }
 
 // Of one schema.
