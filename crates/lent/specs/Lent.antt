@@ -1,22 +1,18 @@
--- What is judged, as it is lent: the two sheets with their texts and forms, and the case that they are. What is read of them where a pair is judged, and what is
--- written of its marks.
+-- What is judged: two sheets with their texts and forms, and the case that they are. What is asked where a pair is judged, and what is written of its marks.
 -- Assumes nothing.
-use Rattle.std.specs.Prelude.{ℕ, ◌+◌, ◌*◌, ◌≤◌, ◌<◌, Bool, true, false, ◌&&◌, ◌||◌, cond, List, [], ◌∷◌, ◌≡◌, eqb, length, get_or, take}
-use Rattle.std.specs.Borrow.{Bor}
+use Rattle.std.specs.Prelude.{ℕ, ◌+◌, ◌*◌, ◌≤◌, ◌<◌, Bool, true, false, ◌&&◌, ◌||◌, cond, List, ◌≡◌, eqb, length, get_or, take, Option}
 use Rattle.sheet.specs.Doc.{Doc, first_child, child_count, Child}
 use Rattle.sheet.specs.declared.record.RecordForm.{RecordForm}
-use Rattle.sheet.specs.Record.{rows_word, form_of, doc_of}
+use Rattle.sheet.specs.Record.{rows_word, doc_of}
 use Rattle.rulesheet.specs.declared.form.RuleForm.{RuleForm}
-use Rattle.rulesheet.specs.declared.form.ClauseRow.{ClauseRow}
 use Rattle.rulesheet.specs.Ruleset.{Test, never, additional_properties, Clause, asserts, takes, Ruleset}
-use Rattle.rulesheet.specs.Sheet as S
-use Rattle.rulesheet.specs.Sheet.{schemas_word, schema_at, rules_of}
+use Rattle.rulesheet.specs.Sheet.{schemas_word, rules_of}
 use Rattle.meaning.specs.Rules.{Pair, Marks, Way, whole, cut}
 use Rattle.meaning.specs.Fit.{Fit, Inside}
 use Rattle.areas.specs.Cells.{Unsettled, column}
 use Rattle.areas.specs.Writers.{Writes, Marked}
 use Rattle.looking.specs.Read.{RecordRead}
-use Rattle.clause.specs.Read.{RulesRead, words_in, PassedFirst}
+use Rattle.clause.specs.Read.{RulesRead, PassedFirst}
 use Rattle.plan.specs.Plan.{finish_of, stops_by, after_miss}
 use Rattle.steps.specs.declared.turn.Turn.{Turn}
 use Rattle.told.specs.Read.{by_marks, Started}
@@ -47,46 +43,10 @@ abbrev pub way_by : Bool → Way
 way_by true = cut
 way_by false = whole
 
--- number k of two slices that are lent in an array: the record's, then the rules'
-abbrev pub lent : List (Bor (List ℕ)) → ℕ → List ℕ
-lent slices k = (get_or slices k (record { ref_ptr = (0, 0); now = [] })).now
-
--- 1 if judging is cut
-abbrev pub way_word : Way → ℕ
-way_word whole = 0
-way_word cut = 1
-
--- where the parts of both sheets lie, as one array lends it: what a form of the record says, then what one of the rules says; and last whether judging is cut
-abbrev pub forms_of : RecordForm → RuleForm → Way → List ℕ
-forms_of r f w = r.start ∷ r.rows ∷ f.schemas ∷ f.clauses ∷ f.entries ∷ f.m ∷ f.c ∷ f.e ∷ way_word w ∷ []
-
--- and the forms as they are read from it
-abbrev pub record_form_in : List ℕ → RecordForm
-record_form_in forms = record { start = get_or forms 0 0; rows = get_or forms 1 0 }
-
-abbrev pub rule_form_in : List ℕ → RuleForm
-rule_form_in forms =
-    record { schemas = get_or forms 2 0; clauses = get_or forms 3 0; entries = get_or forms 4 0; m = get_or forms 5 0; c = get_or forms 6 0; e = get_or forms 7 0 }
-
-abbrev pub way_lent : List ℕ → Way
-way_lent forms = cond (eqb (get_or forms 8 0) 0) whole cut
-
 -- whether judging goes on after what holds or fails
 abbrev pub goes_on : Way → Bool → Bool
 goes_on whole ok = true
 goes_on cut ok = ok
-
--- the numbers that are words of a sheet are words
-abbrev pub FormsFit : List ℕ → Type 0
-FormsFit forms = (get_or forms 1 0 < 4294967296) × (get_or forms 5 0 < 4294967296) × (get_or forms 6 0 < 4294967296) × (get_or forms 7 0 < 4294967296)
-
--- both sheets are read by their own forms, which `forms` lends
-pub record Lent (words texts : List (Bor (List ℕ))) (forms : List ℕ) : Type 0 where
-  pub sheets : Sheets (lent words 0) (lent texts 0) (lent words 1) (lent texts 1) (form_of (lent words 0)) (S.form_of (lent words 1))
-  pub forms_are : forms ≡ forms_of (form_of (lent words 0)) (S.form_of (lent words 1)) (way_lent forms)
-
-abbrev pub lent_case : (words texts : List (Bor (List ℕ))) → List ℕ → Case
-lent_case words texts forms = case_of (way_lent forms) (lent words 0) (lent texts 0) (lent words 1) (lent texts 1)
 
 abbrev pub Fits : Case → Type 0
 Fits T = Fit T.doc T.rules T.n T.m
@@ -115,25 +75,11 @@ clause_at T p i = get_or (clauses_of T p) i (asserts never)
 abbrev pub before_of : Case → Pair → ℕ → List Clause
 before_of T p i = take i (clauses_of T p)
 
--- the words of clause i of p's schema
-abbrev pub row_of : List (Bor (List ℕ)) → Pair → ℕ → ClauseRow
-row_of words p i = words_in (lent words 1) p.rule i
-
 -- the first r of the n clauses of p's schema are tests that its row passes
 abbrev pub PassesFirst : Case → Pair → ℕ → ℕ → Type 0
 PassesFirst T p n r = PassedFirst T.doc p.row (clause_at T p) n r
 
 -- ---- what is read of a pair
-
--- both sheets are lent with their forms, and p is one of their pairs
-pub record Reads (words texts : List (Bor (List ℕ))) (forms : List ℕ) (p : Pair) : Type 0 where
-  pub all : Lent words texts forms
-  pub inside : InCase (lent_case words texts forms) p
-
--- and i is a clause of its schema
-pub record ReadsClause (words texts : List (Bor (List ℕ))) (forms : List ℕ) (p : Pair) (i : ℕ) : Type 0 where
-  pub reads : Reads words texts forms p
-  pub clause_inside : i < (schema_at (lent words 1) p.rule).count
 
 -- none of the n rows from q's on is settled by its schema, and each passes all its `many` clauses, which are tests
 pub record RowsPass (T : Case) (q : Pair) (many n : ℕ) (cells : List ℕ) : Type 0 where
@@ -152,7 +98,7 @@ pub record Turns (T : Case) (p : Pair) (i from x : ℕ) (cells : List ℕ) : Typ
   pub unsettled : Unsettled T.m p cells
 
 -- where it stands once its first x steps are taken and t is carried
-abbrev pub TurnsTo : Case → Pair → ℕ → ℕ → ℕ → List ℕ → Turn → Type 0
+abbrev pub TurnsTo : Case → Pair → ℕ → ℕ → ℕ → List ℕ → Option Turn → Type 0
 TurnsTo T p i x t cells r = Turned T.doc p (before_of T p i) (clause_at T p i) x (column T.m cells p.rule) t r
 
 -- what it says in the end, by what is carried

@@ -10,7 +10,7 @@ use mathlib.Core.Bool.{Bool, true, false, not, ◌&&◌, ◌||◌, cond}
 use mathlib.Core.List.{List, Memᴰ as Has}
 use mathlib.Core.Logic.{⊎_elim}
 use mathlib.Core.Path.{◌≡◌, refl, sym, ap, ap₂, ◌∙◌, subst}
-use Prim.Native.Nat.{ℕ, zero, suc, ◌+◌, ◌-◌, ◌<◌, ◌≤◌}
+use Prim.Native.Nat.{ℕ, zero, suc, ◌+◌, ◌<◌, ◌≤◌}
 use native.Mathlib.Nat.{le_refl}
 use native.Mathlib.Numerals.{add-one}
 use native.Mathlib.Omega.{arith}
@@ -26,13 +26,13 @@ use Rattle.areas.specs.Cells.{verd, column, cell_at, Unsettled}
 use Rattle.areas.specs.Writers.{Open, Writes, Marked}
 use Rattle.areas.proofs.Cells.{settled_as_read, settled_room}
 use Rattle.plan.specs.Folds.{tally_by, gives, marks_by, done_by}
-use Rattle.plan.specs.Plan.{counts_hits, branches, moved, steps_of, aim_of, go_of, finish_of, way_of, stops_by}
+use Rattle.plan.specs.Plan.{counts_hits, branches, moved, go_of, finish_of}
 use Rattle.steps.specs.Turns.{Skipped}
 use Rattle.plan.proofs.Folds.{or_no, tally_few, done_picked}
 use Rattle.plan.proofs.Plans.{Aimed, applied_is, holds_is, marks_is, go_is, go_same, aimed}
-use Rattle.lent.specs.Lent.{Case, Fits, InCase, Kid, first_kid, kid_count, clauses_of, clause_at, before_of, handed_on, HandsOn, given_on}
+use Rattle.lent.specs.Lent.{Case, InCase, Kid, first_kid, kid_count, clauses_of, clause_at, before_of, handed_on, HandsOn, given_on}
 use Rattle.meaning.proofs.Answers.{pairs_few}
-use Rattle.progress.specs.Steps.{Going, aims, stopped, fresh, carries, goes, keeps, many, Stepped}
+use Rattle.progress.specs.Steps.{Going, aims, stopped, fresh, goes, keeps, many, Stepped}
 use Rattle.progress.specs.declared.Done.{Done}
 use Rattle.progress.specs.State.{rank_of, truth_of, settle_of, bits_of, overlay, Areas, Quiet, Ready, WhereDone, Judged, ClauseJudged}
 use Rattle.progress.proofs.Pairs.{settle_self, settle_still, settle_new, settle_grows}

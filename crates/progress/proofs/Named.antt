@@ -3,13 +3,13 @@
 --     claused_named   what judging a clause asks of them
 --     standing-marked what standing at one of its steps does
 -- Assumes nothing.
-use mathlib.Core.Bool.{Bool, true, false, not, ◌||◌, true≢false}
+use mathlib.Core.Bool.{Bool, true, false, ◌||◌, true≢false}
 use mathlib.Core.List.{List, [], ◌∷◌, ◌++◌, append-nil}
 use mathlib.Core.Logic.{⊎_elim}
 use mathlib.Core.Path.{◌≡◌, refl, sym, ap, ap₂, ◌∙◌}
 use Prim.Native.Nat.{ℕ, zero, suc, ◌+◌, ◌≤◌, ◌<◌}
 use native.Mathlib.Omega.{arith}
-use lib.ListN.{length, get_or}
+use lib.ListN.{length}
 use lib.Seq.{get_or-take, length-take-le}
 use Rattle.laws.proofs.Tests.{decide}
 use Rattle.rulesheet.specs.Ruleset.{never, additional_properties, Clause, asserts, takes}
@@ -17,10 +17,10 @@ use Rattle.meaning.specs.Lists.{any, elem, concat_map}
 use Rattle.meaning.specs.Rules.{Pair, nothing, ◌∪◌, Result, none?, stops, names_of, members_of}
 use Rattle.meaning.proofs.Members.{concat_append}
 use Rattle.areas.specs.Cells.{column}
-use Rattle.plan.specs.Plan.{member_count, own, child_row, unnamed}
+use Rattle.plan.specs.Plan.{own, child_row, unnamed}
 use Rattle.plan.proofs.Children.{member_in}
 use Rattle.plan.proofs.Plans.{later_is}
-use Rattle.told.specs.Read.{marks_named, named_by, NamesOnly, by_marks, Started}
+use Rattle.told.specs.Read.{marks_named, named_by, by_marks, Started}
 use Rattle.told.proofs.Earlier.{named_append}
 use Rattle.told.proofs.Marking.{named_marks, member_elem}
 use Rattle.steps.specs.Turns.{NamesMarked}
@@ -28,7 +28,7 @@ use Rattle.steps.proofs.Turns.{twice}
 use Rattle.lent.specs.Lent.{Case, clauses_of, clause_at, before_of}
 use Rattle.progress.specs.Steps.{Stepped, goes}
 use Rattle.progress.specs.State.{truth_of, bits_of, Named}
-use Rattle.progress.proofs.Pairs.{res_at, both, start, res_stays, res_next, one_before}
+use Rattle.progress.proofs.Pairs.{res_at, both, res_stays, res_next, one_before}
 use Rattle.progress.proofs.Going.{going_bits, open_bits}
 use Rattle.progress.proofs.Claused.{Clausing}
 

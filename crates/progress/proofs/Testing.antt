@@ -10,7 +10,6 @@ use mathlib.Core.Path.{◌≡◌, refl, sym, ap, ◌∙◌, subst}
 use Prim.Native.Nat.{ℕ, zero, suc, ◌+◌, ◌≤◌, ◌<◌}
 use native.Mathlib.Numerals.{add-one}
 use native.Mathlib.Omega.{arith}
-use denote.Ref.{Bor}
 use lib.ListN.{length}
 use Rattle.sheet.specs.Doc.{Doc}
 use Rattle.rulesheet.specs.declared.form.ClauseRow.{ClauseRow}
@@ -28,7 +27,9 @@ use Rattle.areas.proofs.Writers.{marked_same}
 use Rattle.clause.specs.Read.{Tries, PassedFirst}
 use Rattle.clause.proofs.Reading.{clause_low}
 use Rattle.plan.specs.Plan.{steps_of, finish_of}
-use Rattle.lent.specs.Lent.{Case, lent, Lent, lent_case, InCase, clauses_of, clause_at, row_of, PassesFirst}
+use Rattle.lent.specs.declared.Lent.{Lent}
+use Rattle.lent.specs.Lent.{Case, InCase, clauses_of, clause_at, PassesFirst}
+use Rattle.lent.specs.Reads.{lent_case, row_of}
 use Rattle.lent.proofs.Ways.{goes_on_lem}
 use Rattle.lent.proofs.Reading.{rule_low}
 use Rattle.lent.proofs.Marks.{kept_all}
@@ -60,13 +61,12 @@ claused_test {T} {p} {i = i} {c} {l} {n} {so = so} C on t e =
 
 -- ---- whether a clause applies schemas, as its words tell
 
-pub applies_lent : {words texts : List (Bor (List ℕ))} {forms : List ℕ} → Lent words texts forms → {p : Pair} {i : ℕ} {row : ClauseRow} {r : Bool} → InCase (lent_case words texts forms) p
-    → i < (schema_at (lent words 1) p.rule).count → row ≡ row_of words p i
-    → ((vs xs : List ℕ) (k : ℕ) → clause_fine vs k ≡ true → row ≡ RS.clause_at vs k → r ≡ applies_any (RS.clause_of vs xs k)) → r ≡ applies_any (clause_at (lent_case words texts forms) p i)
-applies_lent {words} {texts} all {p} {i} I h e f =
-    let read = all.sheets.rules_read in
-    let fine = read.laid.clauses_laid.clauses_fine _ (clause_low read (rule_low all.sheets I) refl h) in
-    f (lent words 1) (lent texts 1) _ fine e ∙ ap applies_any (sym (clause_item (lent words 1) (lent texts 1) p.rule I.rule_in i (asserts never) h))
+pub applies_lent : (L : Lent) {p : Pair} {i : ℕ} {row : ClauseRow} {r : Bool} → InCase (lent_case L) p → i < (schema_at L.rules.now p.rule).count → row ≡ row_of L p i
+    → ((vs xs : List ℕ) (k : ℕ) → clause_fine vs k ≡ true → row ≡ RS.clause_at vs k → r ≡ applies_any (RS.clause_of vs xs k)) → r ≡ applies_any (clause_at (lent_case L) p i)
+applies_lent L {p} {i} I h e f =
+    let read = L.sheets.rules_read in
+    let fine = read.laid.clauses_laid.clauses_fine _ (clause_low read (rule_low L.sheets I) refl h) in
+    f L.rules.now L.rule_text.now _ fine e ∙ ap applies_any (sym (clause_item L.rules.now L.rule_text.now p.rule I.rule_in i (asserts never) h))
 
 pub applying_by : (c : R.Clause) → applies_any c ≡ true → (t : Test) → c ≡ asserts t → ⊥
 unfolding applies_any

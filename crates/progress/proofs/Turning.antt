@@ -16,24 +16,25 @@ use Prim.Native.Nat.{ℕ, ◌+◌, ◌-◌, ◌*◌, ◌<◌, ◌≤◌}
 use native.Mathlib.Omega.{arith}
 use lib.Dec.{eqb}
 use lib.ListN.{length, get_or}
+use Rattle.std.specs.Prelude.{Option, Some, None}
 use Rattle.sheet.specs.Doc.{Doc}
-use Rattle.rulesheet.specs.Ruleset.{Test, asserts, Ruleset}
-use Rattle.meaning.specs.Rules.{Pair, Marks, Way, whole, cut, stops, passes}
+use Rattle.rulesheet.specs.Ruleset.{Ruleset}
+use Rattle.meaning.specs.Rules.{Pair, Marks, Way, whole, cut}
 use Rattle.meaning.specs.Fit.{rank}
 use Rattle.areas.specs.Cells.{pair_is, cell_at, verd, Unsettled, column}
 use Rattle.areas.specs.Writers.{Marked}
 use Rattle.areas.proofs.Cells.{settled_le}
 use Rattle.steps.specs.declared.turn.Turn.{Turn}
-use Rattle.plan.specs.Plan.{counts_hits, branches, moved, steps_of, finish_of, way_of, stops_by}
+use Rattle.plan.specs.Plan.{counts_hits, branches, moved, finish_of, way_of, stops_by}
 use Rattle.told.specs.Read.{Started}
-use Rattle.steps.specs.Turns.{Skipped, Turned}
+use Rattle.steps.specs.Turns.{is_hits, is_branches, Skipped, Turned}
 use Rattle.lent.specs.Lent.{Case, Fits, InCase, first_kid, kid_count, clauses_of, clause_at, before_of, Turns, TurnsTo, next_at, HandsOn, given_on}
 use Rattle.meaning.proofs.Answers.{pairs_few}
 use Rattle.progress.specs.Steps.{many, aims, stopped, fresh, goes, Stepped, Standing}
 use Rattle.progress.specs.declared.Done.{Done}
 use Rattle.progress.specs.State.{Named, rank_of, bits_of, Areas, Ready, WhereDone, Judged, ClauseJudged}
 use Rattle.progress.proofs.State.{areas_cell, areas_long}
-use Rattle.progress.proofs.Going.{Aim, ready_as, stepped_none, stepped_few, stepped_go, stepped_goes, stepped_aim, stepped_skips, stepped_stops, stepped_went, stepped_hands, stepped_end, going_unsettled, going_ready, going_aimed, going_apply}
+use Rattle.progress.proofs.Going.{Aim, ready_as, stepped_none, stepped_few, stepped_go, stepped_goes, stepped_aim, stepped_skips, stepped_stops, stepped_went, stepped_hands, stepped_end, going_unsettled, going_aimed, going_apply}
 use Rattle.laws.proofs.Tests.{decide}
 use Rattle.plan.proofs.Plans.{Aimed, after_miss_lem}
 use Rattle.progress.proofs.Named.{standing_marked}
@@ -41,18 +42,18 @@ use Rattle.progress.proofs.Claused.{cells_kept}
 
 -- ---- the clause stands where `at` says
 
-pub record Turning (T : Case) (p : Pair) (cl : ℕ) (d₀ : List Pair) (c₀ l₀ : List ℕ) (cells list : List ℕ) (count tally : ℕ) (at : Turn) : Type 0 where
-  pub goes_on : at.go ≡ true → Stepped T p cl d₀ c₀ l₀ at.step cells list count tally
-      × ((at.step < many T p cl) × (at.step < 4294967295) × (true ≡ goes T p cl (bits_of T.m c₀ p) at.step) × (pair_is at.pair ≡ aims T p cl at.step) × (at.hits ≡ counts_hits (clause_at T p cl)) × (at.branch ≡ branches (clause_at T p cl)))
-  pub ends : at.go ≡ false → Stepped T p cl d₀ c₀ l₀ (many T p cl) cells list count tally
+pub record Turning (T : Case) (p : Pair) (cl : ℕ) (d₀ : List Pair) (c₀ l₀ : List ℕ) (cells list : List ℕ) (count tally : ℕ) (r : Option Turn) : Type 0 where
+  pub goes_on : {at : Turn} → r ≡ Some at → Stepped T p cl d₀ c₀ l₀ at.step cells list count tally
+      × ((at.step < many T p cl) × (at.step < 4294967295) × (true ≡ goes T p cl (bits_of T.m c₀ p) at.step) × (pair_is at.pair ≡ aims T p cl at.step) × (is_hits at.counts ≡ counts_hits (clause_at T p cl)) × (is_branches at.counts ≡ branches (clause_at T p cl)))
+  pub ends : r ≡ None → Stepped T p cl d₀ c₀ l₀ (many T p cl) cells list count tally
 
-pub turning : {T : Case} {p : Pair} {cl : ℕ} {d₀ : List Pair} {c₀ l₀ : List ℕ} {x : ℕ} {c l : List ℕ} {n tally : ℕ} {at : Turn} → Standing T p cl d₀ c₀ l₀ x c l n tally
-    → Turned T.doc p (before_of T p cl) (clause_at T p cl) x (column T.m c p.rule) tally at → Turning T p cl d₀ c₀ l₀ c l n tally at
-turning {T} {p} {cl} {d₀} {c₀} {l₀} {x} {c} {l} {n} {tally} {at} Z t =
+pub turning : {T : Case} {p : Pair} {cl : ℕ} {d₀ : List Pair} {c₀ l₀ : List ℕ} {x : ℕ} {c l : List ℕ} {n tally : ℕ} {r : Option Turn} → Standing T p cl d₀ c₀ l₀ x c l n tally
+    → Turned T.doc p (before_of T p cl) (clause_at T p cl) x (column T.m c p.rule) tally r → Turning T p cl d₀ c₀ l₀ c l n tally r
+turning {T} {p} {cl} {d₀} {c₀} {l₀} {x} {c} {l} {n} {tally} {r} Z t =
     let low = Z.low in
     record {
       goes_on =
-          λ e.
+          λ {at} e.
           let G = t.goes e in
           let R = reach at.step G.ahead (let w = G.within in omega arith) G.skipped in
           let on : stopped T p cl tally ≡ false = Z.unstopped (let w = G.within in let a = G.ahead in omega arith) in
@@ -82,7 +83,7 @@ module _ {T : Case} {p : Pair} {cl : ℕ} {d₀ : List Pair} {c₀ l₀ : List �
       let e = Z.steps.going.areas.long in
       record { started = started; marked = standing_marked Z.steps named started; room = omega arith; unsettled = going_unsettled Z.steps.going }
 
-  pub standing_turn : {at : Turn} → TurnsTo T p cl x tally c at → Turning T p cl d₀ c₀ l₀ c l n tally at
+  pub standing_turn : {r : Option Turn} → TurnsTo T p cl x tally c r → Turning T p cl d₀ c₀ l₀ c l n tally r
   standing_turn t = turning Z t
 
   -- no more pairs are settled than there are
@@ -111,7 +112,7 @@ cell_asks {T} {q} fit I A =
 pub falls_by : {D : Doc} {R : Ruleset} {n m : ℕ} {p q : Pair} {t : ℕ} → 3 * rank D R p + 0 ≡ t → Aimed D R n m p q → 3 * rank D R q + 2 < t
 falls_by e z = let g = z.lower in omega arith
 
-module _ {T : Case} {p : Pair} {cl : ℕ} {d₀ : List Pair} {c₀ l₀ : List ℕ} {c l : List ℕ} {n tally : ℕ} {at : Turn} (W : Turning T p cl d₀ c₀ l₀ c l n tally at) (go : at.go ≡ true) where
+module _ {T : Case} {p : Pair} {cl : ℕ} {d₀ : List Pair} {c₀ l₀ : List ℕ} {c l : List ℕ} {n tally : ℕ} {r : Option Turn} {at : Turn} (W : Turning T p cl d₀ c₀ l₀ c l n tally r) (go : r ≡ Some at) where
   pub turning_low : (at.step < 4294967295) × (tally ≤ at.step)
   turning_low = let G = W.goes_on go in (G.1.1, stepped_few G.0)
 
@@ -145,8 +146,8 @@ module _ {T : Case} {p : Pair} {cl : ℕ} {d₀ : List Pair} {c₀ l₀ : List �
       turning_hands = stepped_hands (going_apply (W.goes_on go).0.going turning_aim J) turning_aim
 
       -- its marks were handed on
-      module _ {v h : ℕ} {c₂ : List ℕ} (read : v ≡ verd (get_or c₁ (cell_at T.m (pair_is at.pair)) 0)) (e : h ≡ moved at.hits at.branch at.step tally (eqb v 1))
-          (M : Marked T.m (first_kid T p) (kid_count T p) p.rule (given_on (not at.hits || eqb v 1) T.m c₁ p.row p.rule (pair_is at.pair).row (pair_is at.pair).rule) c₁ c₂) where
+      module _ {v h : ℕ} {c₂ : List ℕ} (read : v ≡ verd (get_or c₁ (cell_at T.m (pair_is at.pair)) 0)) (e : h ≡ moved (is_hits at.counts) (is_branches at.counts) at.step tally (eqb v 1))
+          (M : Marked T.m (first_kid T p) (kid_count T p) p.rule (given_on (not (is_hits at.counts) || eqb v 1) T.m c₁ p.row p.rule (pair_is at.pair).row (pair_is at.pair).rule) c₁ c₂) where
         stepped : Stepped T p cl d₀ c₀ l₀ (at.step + 1) c₂ l₁ n₁ h
         stepped =
             let G = W.goes_on go in
@@ -176,7 +177,7 @@ module _ {T : Case} {p : Pair} {cl : ℕ} {d₀ : List Pair} {c₀ l₀ : List �
 
 -- ---- it ends
 
-pub turning_end : {T : Case} {t : ℕ} {p : Pair} {cl : ℕ} {c₀ l₀ : List ℕ} {n₀ : ℕ} {c l : List ℕ} {n tally : ℕ} {at : Turn} {r : Done}
+pub turning_end : {T : Case} {t : ℕ} {p : Pair} {cl : ℕ} {c₀ l₀ : List ℕ} {n₀ : ℕ} {c l : List ℕ} {n tally : ℕ} {at : Option Turn} {r : Done}
     → Ready T t p c₀ l₀ n₀ → WhereDone T c₀ l₀ n₀ (λ d. Turning T p cl d c₀ l₀ c l n tally at)
-    → at.go ≡ false → r.ok ≡ finish_of T.doc p (clause_at T p cl) tally → r.count ≡ n → ClauseJudged T p cl c₀ l₀ n₀ c l r
+    → at ≡ None → r.ok ≡ finish_of T.doc p (clause_at T p cl) tally → r.count ≡ n → ClauseJudged T p cl c₀ l₀ n₀ c l r
 turning_end R W e f q = stepped_end R (λ d A. (W d A).ends e) f q

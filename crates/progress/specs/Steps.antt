@@ -1,6 +1,6 @@
 -- A pair in progress, and a clause of it between two of its steps.
 -- Assumes nothing.
-use Rattle.std.specs.Prelude.{Bool, true, false, not, ◌&&◌, List, ◌≡◌, ℕ, ◌+◌, ◌≤◌, ◌<◌}
+use Rattle.std.specs.Prelude.{Bool, false, not, ◌&&◌, List, ◌≡◌, ℕ, ◌+◌, ◌≤◌, ◌<◌}
 use Rattle.meaning.specs.Rules.{Pair, Marks}
 use Rattle.meaning.specs.Settling.{listed}
 use Rattle.plan.specs.Folds.{tally_by, marks_by, done_by}

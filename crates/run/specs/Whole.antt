@@ -1,6 +1,6 @@
 -- The whole run, after both sheets were checked: what it asks, and what it leaves.
 -- Assumes nothing.
-use Rattle.std.specs.Prelude.{ℕ, ◌*◌, ◌≤◌, Bool, List, ◌≡◌, length, get_or}
+use Rattle.std.specs.Prelude.{ℕ, ◌*◌, ◌≤◌, List, ◌≡◌, length, get_or}
 use Rattle.meaning.specs.Answer.{Left, verdict, list_room, judged}
 use Rattle.run.specs.declared.Verdict.{Verdict}
 use Rattle.lent.specs.Lent.{Case, Fits}

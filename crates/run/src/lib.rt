@@ -5,7 +5,8 @@
 
 ghost use Rattle.std.specs.Prelude.{◌≡◌, ◌+◌};
 ghost use Rattle.areas.specs.Cells.{pair_is, Unsettled};
-ghost use Rattle.lent.specs.Lent.{Lent, lent_case, Sheets, case_of, way_by};
+ghost use Rattle.lent.specs.Lent.{Sheets, case_of, way_by};
+ghost use Rattle.lent.specs.Reads.{lent_case};
 ghost use Rattle.meaning.specs.Answer.{list_room};
 ghost use Rattle.progress.specs.State.{rank_of, Ready, Judged};
 ghost use Rattle.run.specs.Whole.{Exact, Roomy, left_by, judged_of};
@@ -13,7 +14,7 @@ ghost use Rattle.run.specs.Whole.{Exact, Roomy, left_by, judged_of};
 use areas::clear;
 use columns::marked_of;
 use cycle::cycle::judge_pair;
-use lent::{RULES, clauses_of, forms_of};
+use lent::Lent;
 use marking::verdict_of;
 use rulesheet::form::RuleForm;
 use sheet::record::{Pair, RecordForm, RecordRow, RuleRow, children_of, wide};
@@ -36,57 +37,31 @@ pub fn list_room(pairs: usize, cut: bool) -> usize
 }
 
 // Judges the root pair, or any other that is not settled where none is.
-fn judge_root<'a, 'b>(
-    sheets: &'a [&'b [u32]; 2],
-    texts: &'a [&'b [u8]; 2],
-    forms: &'a [usize; 9],
-    cells: &mut [u8],
-    list: &mut [u32],
-    p: Pair,
-) -> usize
-    requires lent { Lent sheets.now texts.now forms.now }
-    requires ready { Ready (lent_case sheets.now texts.now forms.now) (rank_of (lent_case sheets.now texts.now forms.now) (pair_is p) + 1) (pair_is p) cells.old list.old 0 }
-    requires unsettled { Unsettled (lent_case sheets.now texts.now forms.now).m (pair_is p) cells.old }
-    ensures { Judged (lent_case sheets.now texts.now forms.now) (pair_is p) cells.old list.old 0 cells.new list.new result }
+fn judge_root(lent: &Lent<'_>, cells: &mut [u8], list: &mut [u32], p: Pair) -> usize
+    requires ready { Ready (lent_case lent.now) (rank_of (lent_case lent.now) (pair_is p) + 1) (pair_is p) cells.old list.old 0 }
+    requires unsettled { Unsettled (lent_case lent.now).m (pair_is p) cells.old }
+    ensures { Judged (lent_case lent.now) (pair_is p) cells.old list.old 0 cells.new list.new result }
 {
-    let many = clauses_of(sheets[RULES], forms, p.rule);
-    let passed = plain(sheets, texts, forms, cells, p, many);
-    judge_pair(sheets, texts, forms, cells, list, 0, p, passed)
+    let many = lent.clauses_of(p.rule);
+    let passed = plain(lent, cells, p, many);
+    judge_pair(lent, cells, list, 0, p, passed)
 }
 
 // In areas of exactly as many places as there are pairs.
-fn run_exact<'a>(
-    record: &'a [u32],
-    text: &'a [u8],
-    rules: &'a [u32],
-    rule_text: &'a [u8],
-    cells: &mut [u8],
-    list: &mut [u32],
-    form: RecordForm,
-    rule_form: RuleForm,
-    cut: bool,
-) -> Verdict
-    requires sheets { Sheets «record».now text.now rules.now rule_text.now form rule_form }
-    requires exact { Exact (case_of (way_by cut) «record».now text.now rules.now rule_text.now) cells.old list.old }
-    ensures { left_by result cells.new list.new ≡ judged_of (case_of (way_by cut) «record».now text.now rules.now rule_text.now) cells.old list.old }
+fn run_exact(lent: &Lent<'_>, cells: &mut [u8], list: &mut [u32]) -> Verdict
+    requires { Exact (lent_case lent.now) cells.old list.old }
+    ensures { left_by result cells.new list.new ≡ judged_of (lent_case lent.now) cells.old list.old }
 {
     clear(cells);
-    let sheets = [record, rules];
-    let texts = [text, rule_text];
     let root = Pair {
         row: RecordRow(0),
         rule: RuleRow(0),
     };
-    let forms = forms_of(form, rule_form, cut);
-    let count = judge_root(&sheets, &texts, &forms, cells, list, root);
-    let ok = verdict_of(&forms, cells, root) == 1;
-    let kids = children_of(record, form, RecordRow(0));
-    let marked = marked_of(cells, wide(rule_form.m), kids);
-    Verdict {
-        ok: ok,
-        count: count,
-        marked: marked,
-    }
+    let count = judge_root(lent, cells, list, root);
+    let ok = verdict_of(lent, cells, root) == 1;
+    let kids = children_of(lent.record, lent.form, root.row);
+    let marked = marked_of(cells, lent.schemas(), kids);
+    Verdict { ok, count, marked }
 }
 
 // In areas of as many places or more, of which the first are used.
@@ -105,16 +80,15 @@ pub fn run<'a>(
     requires roomy { Roomy (case_of (way_by cut) «record».now text.now rules.now rule_text.now) cells.old list.old }
     ensures { left_by result cells.new list.new ≡ judged_of (case_of (way_by cut) «record».now text.now rules.now rule_text.now) cells.old list.old }
 {
-    let k = wide(form.rows) * wide(rule_form.m);
-    run_exact(
+    let lent = Lent {
         record,
         text,
+        form,
         rules,
         rule_text,
-        &mut cells[..k],
-        &mut list[..list_room(k, cut)],
-        form,
         rule_form,
         cut,
-    )
+    };
+    let k = wide(form.rows) * wide(rule_form.m);
+    run_exact(&lent, &mut cells[..k], &mut list[..list_room(k, cut)])
 }

@@ -1,9 +1,9 @@
 -- Where a clause stands that chooses schemas for the row itself, or counts elements.
 --     branch_first, branch_then, branch_else, branch_end     36: the condition, the one branch or the other
---     depended_turn, depended_more, depended_end, depended_none     37: schemas whose names members have
+--     depended_turn, depended_end     37: schemas whose names members have
 --     counted_turn, counted_end     45: each element
 -- Assumes nothing.
-use mathlib.Core.Bool.{true, false}
+use mathlib.Core.Bool.{false}
 use mathlib.Core.List.{List}
 use mathlib.Core.Path.{◌≡◌, refl, sym, ap, ◌∙◌}
 use mathlib.Core.Logic.{⊎_elim}
@@ -25,12 +25,12 @@ use Rattle.rulesheet.specs.Clauses.{entry_in, schemas_in, members_in}
 use Rattle.rulesheet.proofs.Items.{members_long}
 use Rattle.rulesheet.proofs.Reaching.{made_at, item_is}
 use Rattle.meaning.specs.Rules.{Pair, Marks, to}
-use Rattle.looking.specs.Read as C
+use Rattle.std.specs.Prelude.{Option, None}
 use Rattle.steps.specs.declared.turn.Turn.{Turn}
+use Rattle.steps.specs.declared.turn.Counts.TheVariants.{Hits, Branches}
 use Rattle.plan.specs.Plan.{member_count, element_count, no_member, counts_hits, branches, branch_goes, branch_of, own, child_named, steps_of, aim_of, go_of}
-use Rattle.steps.specs.Turns.{goes_at, Skipped, Turned}
-use Rattle.steps.proofs.Turns.{at, at_of, skipped_none, skipped_more, goes_on, goes_of, stops}
-use Rattle.steps.proofs.Aiming.{named_place}
+use Rattle.steps.specs.Turns.{goes_at, Skipped, NoneNamed, NamedAt, Turned}
+use Rattle.steps.proofs.Turns.{at, at_of, skipped_none, goes_on, goes_of, stops}
 
 -- the schema of entry i, as it is read of a list of schemas
 pub first_in : (rs : List ℕ) (list : Entries) (i : ℕ) {s : ℕ} → i < list.count → s ≡ get_or (schemas_in rs list) i 0 → s ≡ (entry_in rs list i).first
@@ -40,7 +40,7 @@ first_in rs list i h e =
     ∙ sym (ap (λ (x : EntryRow). x.first) (made_at (entry_at rs) list.count list.first i no_entry h))
 
 module _ (t : ℕ) (d : Doc) (p : Pair) (before : List R.Clause) (κ : Marks) where
-  abbrev Stands : R.Clause → ℕ → Turn → Type 0
+  abbrev Stands : R.Clause → ℕ → Option Turn → Type 0
   Stands c x r = Turned d p before c x κ t r
 
   abbrev Idle : R.Clause → ℕ → ℕ → Type 0
@@ -48,23 +48,23 @@ module _ (t : ℕ) (d : Doc) (p : Pair) (before : List R.Clause) (κ : Marks) wh
 
   -- ---- 36
 
-  module _ (i th el x : ℕ) (r : Turn) (row : RecordRow) (rule : RuleRow) (same : p.row ≡ row.0) where
-    pub branch_first : x ≡ 0 → rule.0 ≡ i → r ≡ at_of false true 0 row rule → Stands (R.if_then_else i th el) x r
+  module _ (i th el x : ℕ) (r : Option Turn) (row : RecordRow) (rule : RuleRow) (same : p.row ≡ row.0) where
+    pub branch_first : x ≡ 0 → rule.0 ≡ i → r ≡ at_of Branches 0 row rule → Stands (R.if_then_else i th el) x r
     unfolding counts_hits branches steps_of go_of branch_goes aim_of branch_of to
     branch_first z schema is = goes_of is refl refl (omega arith) (omega arith) (omega arith) (skipped_none (omega arith)) refl (rw (same, schema))
 
-    pub branch_then : x ≡ 1 → t ≡ 0 → rule.0 ≡ th → r ≡ at_of false true 1 row rule → Stands (R.if_then_else i th el) x r
+    pub branch_then : x ≡ 1 → t ≡ 0 → rule.0 ≡ th → r ≡ at_of Branches 1 row rule → Stands (R.if_then_else i th el) x r
     unfolding counts_hits branches steps_of go_of branch_goes aim_of branch_of to
     branch_then z c schema is = goes_of is refl refl (omega arith) (omega arith) (omega arith) (skipped_none (omega arith)) (eq-eqb t 0 c) (rw (same, schema))
 
-    pub branch_else : (x ≡ 0 → ⊥) → x ≤ 2 → t ≡ 1 → rule.0 ≡ el → r ≡ at_of false true 2 row rule → Stands (R.if_then_else i th el) x r
+    pub branch_else : (x ≡ 0 → ⊥) → x ≤ 2 → t ≡ 1 → rule.0 ≡ el → r ≡ at_of Branches 2 row rule → Stands (R.if_then_else i th el) x r
     unfolding counts_hits branches steps_of go_of branch_goes aim_of branch_of to
     branch_else z h c schema is =
         goes_of is refl refl h (omega arith) (omega arith)
         (record { idle = λ k a b. let w : k ≡ 1 = omega arith in rw w (ne_eqb t 0 (λ (y : t ≡ 0). omega arith)) }) (eq-eqb t 1 c) (rw (same, schema))
 
-  module _ (i th el x : ℕ) (r : Turn) where
-    pub branch_end : (x ≡ 0 → ⊥) → (x ≤ 1 → t ≡ 0 → ⊥) → (x ≤ 2 → t ≡ 1 → ⊥) → r.go ≡ false → Stands (R.if_then_else i th el) x r
+  module _ (i th el x : ℕ) (r : Option Turn) where
+    pub branch_end : (x ≡ 0 → ⊥) → (x ≤ 1 → t ≡ 0 → ⊥) → (x ≤ 2 → t ≡ 1 → ⊥) → r ≡ None → Stands (R.if_then_else i th el) x r
     unfolding steps_of go_of branch_goes aim_of
     branch_end z a b is = stops {y = 3} is (record { idle = idle }) (omega arith)
       where
@@ -80,40 +80,30 @@ module _ (t : ℕ) (d : Doc) (p : Pair) (before : List R.Clause) (κ : Marks) wh
     abbrev depends : R.Clause
     depends = R.dependent_schemas (members_in rs us list)
 
-    pub depended_none : (r : Turn) → member_count (own d p) ≡ 0 → r.go ≡ false → Stands depends x r
-    unfolding steps_of go_of
-    depended_none r none is =
-        stops {y = list.count} is (record { idle = λ k a b. le-ltb (child_named d p (get_or (members_in rs us list) k no_member).0) (member_count (own d p)) (omega arith) })
-        (omega (arith, members_long rs list us))
+    idle_depends : (y : ℕ) → NoneNamed d p (members_in rs us list) x y → Idle depends x y
+    unfolding go_of
+    idle_depends y N = record { idle = λ k a b. le-ltb (child_named d p (get_or (members_in rs us list) k no_member).0) (member_count (own d p)) (N.none k a b) }
 
-    module _ (some : 0 < member_count (own d p)) where
-      pub depended_end : (y : ℕ) (r : Turn) → Idle depends x y → list.count ≤ y → r.go ≡ false → Stands depends x r
-      unfolding steps_of
-      depended_end y r idle h is = stops is idle (omega (arith, members_long rs list us))
+    pub depended_end : (r : Option Turn) → NoneNamed d p (members_in rs us list) x list.count → r ≡ None → Stands depends x r
+    unfolding steps_of
+    depended_end r N is = stops is (idle_depends list.count N) (omega (arith, members_long rs list us))
 
-      -- n is the first child that has the name of entry y
-      module _ (y n : ℕ) (name : List ℕ) (found : n ≡ C.child_named d p.row name) (name_is : name ≡ (get_or (members_in rs us list) y no_member).0) where
-        goes_if : goes_at d p before depends κ t y ≡ ltb n (member_count (own d p))
-        unfolding go_of
-        goes_if = rw (← named_place t d p before κ rs us list x some y n name found name_is)
-
-        pub depended_turn : (row : RecordRow) (rule : RuleRow) (r : Turn) → p.row ≡ row.0 → Idle depends x y → x ≤ y → y < list.count → y < 4294967295
-            → n < member_count (own d p) → rule.0 ≡ (get_or (members_in rs us list) y no_member).1 → r ≡ at y row rule → Stands depends x r
-        unfolding counts_hits branches steps_of aim_of to
-        depended_turn row rule r same idle ahead h small here schema is =
-            goes_on is refl refl ahead (omega (arith, members_long rs list us)) small idle (goes_if ∙ lt-ltb n (member_count (own d p)) here) (rw (same, schema))
-
-        pub depended_more : Idle depends x y → member_count (own d p) ≤ n → Idle depends x (y + 1)
-        depended_more idle h = skipped_more idle (goes_if ∙ le-ltb n (member_count (own d p)) h)
+    pub depended_turn : {y n : ℕ} (row : RecordRow) (rule : RuleRow) (r : Option Turn) → p.row ≡ row.0 → NamedAt d p (members_in rs us list) x list.count y n
+        → rule.0 ≡ (get_or (members_in rs us list) y no_member).1 → r ≡ at y row rule → Stands depends x r
+    unfolding counts_hits branches steps_of go_of aim_of to
+    depended_turn {y} {n} row rule r same N schema is =
+        goes_on is refl refl N.ahead (let w = N.within in omega (arith, members_long rs list us)) N.small (idle_depends y N.before)
+        (ap (λ (i : ℕ). ltb i (member_count (own d p))) (sym N.place_is) ∙ lt-ltb n (member_count (own d p)) N.member)
+        (rw (same, schema))
 
   -- ---- 45
 
-  module _ (s least most x : ℕ) (r : Turn) where
+  module _ (s least most x : ℕ) (r : Option Turn) where
     pub counted_turn : (first : ℕ) (row : RecordRow) (rule : RuleRow) → first ≡ first_child (own d p) → x < element_count (own d p) → x < 4294967295
-        → row.0 ≡ first + x → rule.0 ≡ s → r ≡ at_of true false x row rule → Stands (R.contains s least most) x r
+        → row.0 ≡ first + x → rule.0 ≡ s → r ≡ at_of Hits x row rule → Stands (R.contains s least most) x r
     unfolding counts_hits branches steps_of go_of aim_of to
     counted_turn first row rule f h small there schema is = goes_of is refl refl (omega arith) h small (skipped_none (omega arith)) refl (rw (there, f, schema))
 
-    pub counted_end : element_count (own d p) ≤ x → r.go ≡ false → Stands (R.contains s least most) x r
+    pub counted_end : element_count (own d p) ≤ x → r ≡ None → Stands (R.contains s least most) x r
     unfolding steps_of
     counted_end h is = stops {y = x} is (skipped_none (omega arith)) h

@@ -11,27 +11,13 @@ ghost use Rattle.plan.specs.Plan.{member_count, element_count};
 ghost use Rattle.told.specs.Read.{Started};
 ghost use Rattle.steps.specs.Turns.{Turned, TurnedOn, TurnedFresh};
 
-use crate::turn::{Turn, at_step, at_step_of, ended};
+use crate::turn::{Counts, Turn, at_step, at_step_of};
 use areas::is_marked;
 use line::counts::elements_in;
 use rulereader::entry_schema;
 use rulesheet::clause::Entries;
 use rulesheet::form::RuleForm;
 use sheet::record::{Pair, RecordForm, RecordRow, RuleRow, children_of, wide};
-
-// The lesser of two numbers.
-fn lesser(a: u32, b: u32) -> u32
-    ensures { result ≡ min a b }
-{
-    if a < b { a } else { b }
-}
-
-// What is left of a number after the first `from`.
-fn after(a: u32, from: u32) -> u32
-    ensures { result ≡ a - from }
-{
-    if a < from { 0 } else { a - from }
-}
 
 // ---- by their place
 
@@ -44,17 +30,17 @@ pub(crate) fn placed_turn(
     row: RecordRow,
     list: Entries,
     x: u32,
-) -> Turn
+) -> Option<Turn>
     requires laid { Laid «record».now form × (row.0 < form.rows) }
     requires list_inside { RulesFormed rules.now rule_form × (list.first + list.count ≤ rule_form.e) }
     ensures { (ts : List ℕ) → TurnedOn (doc_of «record».now ts) row.0 (R.takes (R.prefix_items (schemas_in rules.now list))) x result }
 {
-    let many = lesser(elements_in(record, form, row), list.count);
+    let many = elements_in(record, form, row).min(list.count);
     if x < many {
         let child = children_of(record, form, row).first + x;
         return at_step(x, RecordRow(child), entry_schema(rules, rule_form, list, x));
     }
-    ended()
+    None
 }
 
 // Of `items`: each element after those that the clauses before speak of.
@@ -65,16 +51,16 @@ pub(crate) fn rest_turn(
     rule: RuleRow,
     from: u32,
     x: u32,
-) -> Turn
+) -> Option<Turn>
     requires { Laid «record».now form × (row.0 < form.rows) }
     ensures { (ts : List ℕ) (p : Meant) (before : List R.Clause) (κ : Marks) → p.row ≡ row.0 → Started before (R.takes (R.items rule.0)) from → (t : ℕ) → Turned (doc_of «record».now ts) p before (R.takes (R.items rule.0)) x κ t result }
 {
-    let many = after(elements_in(record, form, row), from);
+    let many = elements_in(record, form, row).saturating_sub(from);
     if x < many {
         let child = children_of(record, form, row).first + from + x;
         return at_step(x, RecordRow(child), rule);
     }
-    ended()
+    None
 }
 
 // Of `contains`: each element, with the one schema.
@@ -86,7 +72,7 @@ pub(crate) fn counted_turn(
     row: RecordRow,
     list: Entries,
     x: u32,
-) -> Turn
+) -> Option<Turn>
     requires laid { Laid «record».now form × (row.0 < form.rows) }
     requires one_entry_inside { RulesFormed rules.now rule_form × (list.first + list.count ≤ rule_form.e) × (list.count ≡ 1) }
     ensures { (ts : List ℕ) (least most : ℕ) → TurnedOn (doc_of «record».now ts) row.0 (R.contains (entry_in rules.now list 0).first least most) x result }
@@ -95,9 +81,9 @@ pub(crate) fn counted_turn(
     if x < many {
         let child = children_of(record, form, row).first + x;
         let schema = entry_schema(rules, rule_form, list, 0);
-        return at_step_of(x, RecordRow(child), schema, true, false);
+        return at_step_of(x, RecordRow(child), schema, Counts::Hits);
     }
-    ended()
+    None
 }
 
 // ---- by the marks on them
@@ -113,28 +99,18 @@ pub(crate) fn fresh_turn(
     rule: RuleRow,
     many: u32,
     x: u32,
-) -> Turn
+) -> Option<Turn>
     requires laid_many_children { Laid «record».now form × (p.row.0 < form.rows) × ((ts : List ℕ) → many ≤ child_count ((doc_of «record».now ts).value p.row.0)) }
     requires table_in_cells { (form.rows * m ≤ length cells.now) × (p.rule.0 < m) }
     ensures fresh_members { (ts : List ℕ) → many ≡ member_count ((doc_of «record».now ts).value p.row.0) → TurnedFresh «record».now ts p (R.takes (R.unevaluated_properties rule.0)) x m cells.now result }
     ensures fresh_elements { (ts : List ℕ) → many ≡ element_count ((doc_of «record».now ts).value p.row.0) → TurnedFresh «record».now ts p (R.takes (R.unevaluated_items rule.0)) x m cells.now result }
 {
     let first = children_of(record, form, p.row).first;
-    let column = p.rule;
-    let mut at = x;
-    while at < many {
+    for at in x..many {
         let row = RecordRow(first + at);
-        if !is_marked(
-            cells,
-            wide(m),
-            Pair {
-                row: row,
-                rule: column,
-            },
-        ) {
+        if !is_marked(cells, wide(m), Pair { row, ..p }) {
             return at_step(at, row, rule);
         }
-        at += 1;
     }
-    ended()
+    None
 }

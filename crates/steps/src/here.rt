@@ -12,10 +12,9 @@ ghost use Rattle.looking.specs.Read.{RecordRead};
 ghost use Rattle.clause.specs.Read.{RulesRead, ListRead};
 ghost use Rattle.steps.specs.Turns.{Turned, TurnedOn};
 
-use crate::turn::{Turn, at_step, at_step_of, ended};
-use line::counts::members_in;
-use looking::members::child_named;
-use rulereader::{entry_name, entry_schema, member_schema};
+use crate::members::first_named;
+use crate::turn::{Counts, Turn, at_step, at_step_of};
+use rulereader::{entry_schema, member_schema};
 use rulesheet::clause::Entries;
 use rulesheet::form::RuleForm;
 use sheet::record::{RecordForm, RecordRow, RuleRow};
@@ -27,14 +26,14 @@ pub(crate) fn listed_turn(
     row: RecordRow,
     list: Entries,
     x: u32,
-) -> Turn
+) -> Option<Turn>
     requires { RulesFormed rules.now form × (list.first + list.count ≤ form.e) }
     ensures { (d : Doc) (m : Mode) → TurnedOn d row.0 (in_place m (schemas_in rules.now list)) x result }
 {
     if x < list.count {
         return at_step(x, row, entry_schema(rules, form, list, x));
     }
-    ended()
+    None
 }
 
 // Of a condition and two branches: the condition first, then the branch that it chooses.
@@ -45,26 +44,26 @@ pub(crate) fn branch_turn(
     list: Entries,
     x: u32,
     tally: u32,
-) -> Turn
+) -> Option<Turn>
     requires { RulesFormed rules.now form × (list.first + list.count ≤ form.e) × (list.count ≡ 3) }
     ensures { (d : Doc) (p : Meant) (before : List R.Clause) (κ : Marks) → p.row ≡ row.0 → Turned d p before (R.if_then_else (entry_in rules.now list 0).first (entry_in rules.now list 1).first (entry_in rules.now list 2).first) x κ tally result }
 {
     if x == 0 {
-        return at_step_of(0, row, entry_schema(rules, form, list, 0), false, true);
+        return at_step_of(0, row, entry_schema(rules, form, list, 0), Counts::Branches);
     }
     if tally == 0 {
         if x == 1 {
-            return at_step_of(1, row, entry_schema(rules, form, list, 1), false, true);
+            return at_step_of(1, row, entry_schema(rules, form, list, 1), Counts::Branches);
         }
-        return ended();
+        return None;
     }
     if tally == 1 {
         if x <= 2 {
-            return at_step_of(2, row, entry_schema(rules, form, list, 2), false, true);
+            return at_step_of(2, row, entry_schema(rules, form, list, 2), Counts::Branches);
         }
-        return ended();
+        return None;
     }
-    ended()
+    None
 }
 
 // Of schemas that go with names: each whose name a member has.
@@ -78,34 +77,23 @@ pub(crate) fn depended_turn<'a>(
     row: RecordRow,
     list: Entries,
     x: u32,
-) -> Turn
+) -> Option<Turn>
     requires record_read { RecordRead «record».now text.now form × (row.0 < form.rows) }
     requires rules_read { RulesRead rules.now rule_text.now rule_form × ListRead rules.now rule_form Members list }
     ensures { TurnedOn (doc_of «record».now text.now) row.0 (R.dependent_schemas (members_in rules.now rule_text.now list)) x result }
 {
-    let members = members_in(record, form, row);
-    if members == 0 {
-        return ended();
-    }
-    let many = list.count;
-    let mut at = x;
-    while at < many {
-        let name = entry_name(rules, rule_form, list, at);
-        let n = child_named(record, text, form, row, rule_text, name, at);
-        if n < members {
-            return at_step(at, row, member_schema(rules, rule_form, list, at));
-        }
-        at += 1;
-    }
-    ended()
+    let (at, _) = first_named(
+        record, text, form, rules, rule_text, rule_form, row, list, x,
+    )?;
+    at_step(at, row, member_schema(rules, rule_form, list, at))
 }
 
 // Of one schema.
-pub(crate) fn single_turn(row: RecordRow, rule: RuleRow, x: u32) -> Turn
+pub(crate) fn single_turn(row: RecordRow, rule: RuleRow, x: u32) -> Option<Turn>
     ensures { (d : Doc) (m : Mode) → TurnedOn d row.0 (in_place m (rule.0 ∷ [])) x result }
 {
     if x < 1 {
         return at_step(x, row, rule);
     }
-    ended()
+    None
 }

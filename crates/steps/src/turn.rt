@@ -1,8 +1,9 @@
 // Where a clause that applies schemas stands between two of its steps.
-ghost use Rattle.std.specs.Prelude.{true, false, ◌≡◌};
+ghost use Rattle.std.specs.Prelude.{◌≡◌, not, ◌||◌};
 ghost use Rattle.rulesheet.specs.Clauses.{clause_means};
 ghost use Rattle.few.specs.Asked.{applying};
 ghost use Rattle.clause.specs.Read.{clause_in, words_in, ClauseRead};
+ghost use Rattle.steps.specs.declared.turn.Counts.TheVariants.{Misses};
 ghost use Rattle.steps.specs.Turns.{TurnAsked, TurnedIn};
 
 use crate::children::{counted_turn, fresh_turn, placed_turn, rest_turn};
@@ -12,60 +13,59 @@ use few::applied_by;
 use line::counts::{elements_in, members_in};
 use rulesheet::clause::Clause;
 use rulesheet::form::{ClauseRow, RuleForm};
-use sheet::record::{Pair, RecordForm, RecordRow, RuleRow, wide};
+use sheet::record::{Pair, RecordForm, RecordRow, RuleRow};
 
-// Where a clause stands: at a step that applies `pair`, or at its end. A clause counts the steps that
-// fail, or those that hold (`hits`), or it has a condition with branches (`branch`).
+// What a clause counts: the steps that fail, or those that hold, or which of a condition and its two
+// branches failed.
+#[derive(Clone, Copy)]
+pub enum Counts {
+    Misses,
+    Hits,
+    Branches,
+}
+
+impl Counts {
+    ghost use Rattle.steps.specs.Turns.{is_hits};
+
+    // Whether a step hands on the marks of its pair, which held or not: where hits are counted only a hit
+    // does.
+    pub fn keeps(self, held: bool) -> bool
+        ensures { result ≡ (not (is_hits self) || held) }
+    {
+        match self {
+            Counts::Hits => held,
+            Counts::Misses | Counts::Branches => true,
+        }
+    }
+}
+
+// A step of a clause that is applied next, and the pair that it applies.
 #[derive(Clone, Copy)]
 pub struct Turn {
-    pub go: bool,
     pub step: u32,
     pub pair: Pair,
-    pub hits: bool,
-    pub branch: bool,
+    pub counts: Counts,
 }
 
-// At its end.
-pub(crate) fn ended() -> Turn
-    ensures { result.go ≡ false }
+// Step x, which applies the schema to the row; of a clause that counts its hits, or that has branches.
+pub(crate) fn at_step_of(x: u32, row: RecordRow, rule: RuleRow, counts: Counts) -> Option<Turn>
+    ensures { result ≡ Some (record { step = x; pair = record { row = row; rule = rule }; counts = counts }) }
 {
-    Turn {
-        go: false,
-        step: 0,
-        pair: Pair {
-            row: RecordRow(0),
-            rule: RuleRow(0),
-        },
-        hits: false,
-        branch: false,
-    }
-}
-
-// At step x, which applies the schema to the row; of a clause that counts steps that hold, or that
-// has branches.
-pub(crate) fn at_step_of(x: u32, row: RecordRow, rule: RuleRow, hits: bool, branch: bool) -> Turn
-    ensures { result ≡ record { go = true; step = x; pair = record { row = row; rule = rule }; hits = hits; branch = branch } }
-{
-    Turn {
-        go: true,
+    Some(Turn {
         step: x,
-        pair: Pair {
-            row: row,
-            rule: rule,
-        },
-        hits: hits,
-        branch: branch,
-    }
+        pair: Pair { row, rule },
+        counts,
+    })
 }
 
 // The same of any other clause.
-pub(crate) fn at_step(x: u32, row: RecordRow, rule: RuleRow) -> Turn
-    ensures { result ≡ record { go = true; step = x; pair = record { row = row; rule = rule }; hits = false; branch = false } }
+pub(crate) fn at_step(x: u32, row: RecordRow, rule: RuleRow) -> Option<Turn>
+    ensures { result ≡ Some (record { step = x; pair = record { row = row; rule = rule }; counts = Misses }) }
 {
-    at_step_of(x, row, rule, false, false)
+    at_step_of(x, row, rule, Counts::Misses)
 }
 
-// Where the clause stands, as it was read.
+// Where the clause stands, as it was read: at a step, or at its end.
 fn turn_in<'a>(
     record: &[u32],
     text: &'a [u8],
@@ -80,7 +80,7 @@ fn turn_in<'a>(
     from: u32,
     x: u32,
     tally: u32,
-) -> Turn
+) -> Option<Turn>
     requires turn_asked { TurnAsked «record».now text.now form rules.now rule_text.now rule_form cells.now p i (words_in rules.now p.rule.0 i) from x }
     requires clause_read { ClauseRead applying rules.now rule_text.now rule_form p.rule.0 i clause }
     ensures { TurnedIn «record».now text.now rules.now rule_text.now p i (clause_means rules.now rule_text.now clause) x tally rule_form.m cells.now result }
@@ -113,7 +113,7 @@ fn turn_in<'a>(
             let many = elements_in(record, form, row);
             fresh_turn(record, form, cells, rule_form.m, p, rule, many, x)
         }
-        _ => ended(),
+        _ => None,
     }
 }
 
@@ -134,7 +134,7 @@ pub fn turn_of<'a>(
     from: u32,
     x: u32,
     tally: u32,
-) -> Turn
+) -> Option<Turn>
     requires { TurnAsked «record».now text.now form rules.now rule_text.now rule_form cells.now p i row from x }
     ensures { TurnedIn «record».now text.now rules.now rule_text.now p i (clause_in rules.now rule_text.now p.rule.0 i) x tally rule_form.m cells.now result }
 {

@@ -2,7 +2,7 @@
 use Rattle.marking.proofs.verdict_of.Goals as goal
 
 pub verdict_of-requires : goal.verdict_of-requires
-verdict_of-requires c = rw c.schemas_of.ensures c.requires
+verdict_of-requires c = rw c.schemas.ensures c.requires
 
 pub returns : goal.returns
-returns c = rw c.schemas_of.ensures at c.verdict_of.ensures
+returns c = rw c.schemas.ensures at c.verdict_of.ensures

@@ -1,21 +1,18 @@
 -- `judge_root` meets its contract. Assumes nothing.
-use Rattle.lent.proofs.Reading.{forms_fit, schemas_lent, formed_lent, reads_by}
 use Rattle.progress.proofs.Testing.{passes_many}
 use Rattle.run.proofs.judge_root.Goals as goal
 
 pub clauses_of-many-requires : goal.clauses_of-many-requires
-clauses_of-many-requires c =
-    (forms_fit c.requires.lent, rw (schemas_lent c.requires.lent) c.requires.ready.inside.rule_in, formed_lent c.requires.lent)
+clauses_of-many-requires c = c.requires.ready.inside.rule_in
 
 pub plain-passed-requires : goal.plain-passed-requires
 plain-passed-requires c = record {
-  reads_all_clauses = (reads_by c.requires.lent c.requires.ready.inside, c.clauses_of-many.ensures);
+  reads_all_clauses = (c.requires.ready.inside, c.clauses_of-many.ensures);
   unsettled = c.requires.unsettled;
 }
 
 pub judge_pair-requires : goal.judge_pair-requires
 judge_pair-requires c = record {
-  lent = c.requires.lent;
   ready = c.requires.ready;
   unsettled = c.requires.unsettled;
   passes_first = passes_many c.clauses_of-many.ensures c.plain-passed.ensures;

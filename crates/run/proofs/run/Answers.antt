@@ -36,10 +36,8 @@ slice_bounds-run_exact-end-4 c =
     sym (length-take-le _ _ (part_room c.requires.roomy (size_is c.requires.sheets_read c.wide.ensures c.wide-2.ensures) c.list_room.ensures))
 
 pub run_exact-requires : goal.run_exact-requires
-run_exact-requires c = record {
-  sheets = c.requires.sheets_read;
-  exact = part_exact (size_is c.requires.sheets_read c.wide.ensures c.wide-2.ensures) c.list_room.ensures c.requires.roomy;
-}
+run_exact-requires c =
+    part_exact (size_is c.requires.sheets_read c.wide.ensures c.wide-2.ensures) c.list_room.ensures c.requires.roomy
 
 pub returns : goal.returns
 returns c =

@@ -1,18 +1,12 @@
 -- `holds` meets its contract. Assumes nothing.
-use Rattle.lent.proofs.Reading.{lent_sheets, forms_fit, record_lent, rules_lent, row_low, rule_low, schemas_are}
+use Rattle.lent.proofs.Reading.{row_low, rule_low, schemas_are}
 use Rattle.trying.proofs.holds.Goals as goal
-
-pub record_form-form-requires : goal.record_form-form-requires
-record_form-form-requires c = forms_fit c.requires.reads_clause.reads.all
-
-pub rules_form-rule_form-requires : goal.rules_form-rule_form-requires
-rules_form-rule_form-requires c = forms_fit c.requires.reads_clause.reads.all
 
 pub passes_clause-requires : goal.passes_clause-requires
 passes_clause-requires c =
-    let A = c.requires.reads_clause.reads in
-    let S = lent_sheets A.all.sheets (record_lent A.all c.record_form-form.ensures) (rules_lent A.all c.rules_form-rule_form.ensures) in record {
+    let A = c.requires.reads_clause in
+    let S = c.args.lent.now.sheets in record {
       record_read = (S.record_read, row_low S A.inside);
-      rules_read = (S.rules_read, rule_low S A.inside, c.requires.reads_clause.clause_inside);
+      rules_read = (S.rules_read, rule_low S A.inside, A.clause_inside);
       unsettled = rw (schemas_are S) c.requires.unsettled;
     }

@@ -6,7 +6,6 @@ use Rattle.sheet.specs.Record.{doc_of}
 use Rattle.looking.proofs.Naming.{child_inside}
 use Rattle.line.proofs.Counted.{elements_some}
 use Rattle.steps.proofs.Choosing.{first_in, counted_turn, counted_end}
-use borrow.Author.Rules.{rules}
 use Rattle.steps.proofs.children.counted_turn.Goals as goal
 
 pub overflow_add-child : goal.overflow_add-child
@@ -23,4 +22,4 @@ returns-then-x-many c =
 
 pub returns : goal.returns
 returns c =
-    let past = c.if-x-many.false in λ ts least most t p before κ same. counted_end t (doc_of c.args.«record».now ts) p before κ _ least most c.args.x _ (rw same (rw (← c.elements_in-many.ensures ts) (omega arith))) c.ended.ensures
+    let past = c.if-x-many.false in λ ts least most t p before κ same. counted_end t (doc_of c.args.«record».now ts) p before κ _ least most c.args.x _ (rw same (rw (← c.elements_in-many.ensures ts) (omega arith))) refl

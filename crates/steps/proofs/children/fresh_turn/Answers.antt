@@ -2,7 +2,7 @@ use mathlib.Core.List.{[]}
 use mathlib.Core.Bool.{true, false}
 use mathlib.Core.Path.{◌≡◌, refl, sym, ◌∙◌}
 use native.Mathlib.Omega.{arith}
-use Prim.Native.Nat.{◌+◌, ◌-◌, ◌≤◌}
+use Prim.Native.Nat.{◌+◌, ◌≤◌}
 use borrow.Author.Count.{below_more}
 use borrow.Author.Tests.{not-true, not-false}
 use Rattle.sheet.specs.Record.{doc_of}
@@ -15,7 +15,7 @@ pub children_of-first-requires : goal.children_of-first-requires
 children_of-first-requires c = (c.requires.laid_many_children.0.formed, c.requires.laid_many_children.1)
 
 pub loop-at-init : goal.loop-at-init
-loop-at-init c = (omega arith, λ k a b. absurd (omega arith))
+loop-at-init c = λ k a b. absurd (omega arith)
 
 pub overflow_add-row : goal.overflow_add-row
 overflow_add-row c =
@@ -33,17 +33,17 @@ returns-then-not-is_marked c =
     let fresh : column c.args.m c.args.cells.now c.args.p.rule.0 (c.children_of-first.result.first + c.loop-at.at) ≡ false = rw c.wide.ensures at (sym c.is_marked.ensures ∙ not-true _ c.if-not-is_marked.true-raw) in record {
       fresh_members = λ ts all t before.
           let f = c.children_of-first.ensures.first_is ts in
-          member_turn t (doc_of c.args.«record».now ts) (pair_is c.args.p) before (column c.args.m c.args.cells.now c.args.p.rule.0) c.args.x c.loop-at.at _ f c.args.rule.0 _ c.args.rule _ (skip_members t (doc_of c.args.«record».now ts) (pair_is c.args.p) before (column c.args.m c.args.cells.now c.args.p.rule.0) _ f c.args.rule.0 _ _ inv.1) inv.0 (omega arith) (omega arith) refl refl fresh c.at_step.ensures;
+          member_turn t (doc_of c.args.«record».now ts) (pair_is c.args.p) before (column c.args.m c.args.cells.now c.args.p.rule.0) c.args.x c.loop-at.at _ f c.args.rule.0 _ c.args.rule _ (skip_members t (doc_of c.args.«record».now ts) (pair_is c.args.p) before (column c.args.m c.args.cells.now c.args.p.rule.0) _ f c.args.rule.0 _ _ inv) c.loop-at.auto.at (omega arith) (omega arith) refl refl fresh c.at_step.ensures;
       fresh_elements = λ ts all t before.
           let f = c.children_of-first.ensures.first_is ts in
-          element_turn t (doc_of c.args.«record».now ts) (pair_is c.args.p) before (column c.args.m c.args.cells.now c.args.p.rule.0) c.args.x c.loop-at.at _ f c.args.rule.0 _ c.args.rule _ (skip_elements t (doc_of c.args.«record».now ts) (pair_is c.args.p) before (column c.args.m c.args.cells.now c.args.p.rule.0) _ f c.args.rule.0 _ _ inv.1) inv.0 (omega arith) (omega arith) refl refl fresh c.at_step.ensures;
+          element_turn t (doc_of c.args.«record».now ts) (pair_is c.args.p) before (column c.args.m c.args.cells.now c.args.p.rule.0) c.args.x c.loop-at.at _ f c.args.rule.0 _ c.args.rule _ (skip_elements t (doc_of c.args.«record».now ts) (pair_is c.args.p) before (column c.args.m c.args.cells.now c.args.p.rule.0) _ f c.args.rule.0 _ _ inv) c.loop-at.auto.at (omega arith) (omega arith) refl refl fresh c.at_step.ensures;
     }
 
 pub loop-at-preserved : goal.loop-at-preserved
 loop-at-preserved c =
     let inv = c.loop-at.invariant in
     let marked : column c.args.m c.args.cells.now c.args.p.rule.0 (c.children_of-first.result.first + c.loop-at.at) ≡ true = rw c.wide.ensures at (sym c.is_marked.ensures ∙ not-false _ c.if-not-is_marked.false-raw) in
-    (omega arith, λ j a b. below_more (λ k. c.args.x ≤ k → column c.args.m c.args.cells.now c.args.p.rule.0 (c.children_of-first.result.first + k) ≡ true) c.loop-at.at (λ k e f. inv.1 k f e) (λ e. marked) j b a)
+    λ j a b. below_more (λ k. c.args.x ≤ k → column c.args.m c.args.cells.now c.args.p.rule.0 (c.children_of-first.result.first + k) ≡ true) c.loop-at.at (λ k e f. inv k f e) (λ e. marked) j b a
 
 pub returns : goal.returns
 returns c =
@@ -51,8 +51,8 @@ returns c =
     let past = c.loop-at-test.false in record {
       fresh_members = λ ts all t before.
           let f = c.children_of-first.ensures.first_is ts in
-          member_end t (doc_of c.args.«record».now ts) (pair_is c.args.p) before (column c.args.m c.args.cells.now c.args.p.rule.0) c.args.x c.loop-at.at c.args.rule.0 _ c.ended.ensures (skip_members t (doc_of c.args.«record».now ts) (pair_is c.args.p) before (column c.args.m c.args.cells.now c.args.p.rule.0) _ f c.args.rule.0 _ _ inv.1) (omega arith);
+          member_end t (doc_of c.args.«record».now ts) (pair_is c.args.p) before (column c.args.m c.args.cells.now c.args.p.rule.0) c.args.x c.loop-at.at c.args.rule.0 _ refl (skip_members t (doc_of c.args.«record».now ts) (pair_is c.args.p) before (column c.args.m c.args.cells.now c.args.p.rule.0) _ f c.args.rule.0 _ _ inv) (omega arith);
       fresh_elements = λ ts all t before.
           let f = c.children_of-first.ensures.first_is ts in
-          element_end t (doc_of c.args.«record».now ts) (pair_is c.args.p) before (column c.args.m c.args.cells.now c.args.p.rule.0) c.args.x c.loop-at.at c.args.rule.0 _ c.ended.ensures (skip_elements t (doc_of c.args.«record».now ts) (pair_is c.args.p) before (column c.args.m c.args.cells.now c.args.p.rule.0) _ f c.args.rule.0 _ _ inv.1) (omega arith);
+          element_end t (doc_of c.args.«record».now ts) (pair_is c.args.p) before (column c.args.m c.args.cells.now c.args.p.rule.0) c.args.x c.loop-at.at c.args.rule.0 _ refl (skip_elements t (doc_of c.args.«record».now ts) (pair_is c.args.p) before (column c.args.m c.args.cells.now c.args.p.rule.0) _ f c.args.rule.0 _ _ inv) (omega arith);
     }

@@ -15,7 +15,7 @@ overflow_add-child c =
     let most = c.elements_in.ensures [] in
     let all = elements_some ((doc_of c.args.«record».now []).value c.args.row.0) in
     let count = c.children_of.ensures.count_is [] in
-    let left = c.after-many.ensures in
+    let left = c.saturating_sub-many.ensures in
     omega (arith, child_inside c.args.«record».now [] c.args.form c.requires.0 c.args.row.0 c.children_of.result.first c.children_of.result.count (c.args.from + c.args.x) c.requires.1 (c.children_of.ensures.first_is []) (c.children_of.ensures.count_is []) (omega arith))
 
 pub overflow_add-child-then-x-many : goal.overflow_add-child-then-x-many
@@ -24,17 +24,17 @@ overflow_add-child-then-x-many c =
     let most = c.elements_in.ensures [] in
     let all = elements_some ((doc_of c.args.«record».now []).value c.args.row.0) in
     let count = c.children_of.ensures.count_is [] in
-    let left = c.after-many.ensures in
+    let left = c.saturating_sub-many.ensures in
     omega (arith, child_inside c.args.«record».now [] c.args.form c.requires.0 c.args.row.0 c.children_of.result.first c.children_of.result.count (c.args.from + c.args.x) c.requires.1 (c.children_of.ensures.first_is []) (c.children_of.ensures.count_is []) (omega arith))
 
 pub returns-then-x-many : goal.returns-then-x-many
 returns-then-x-many c =
     let below = c.if-x-many.true in
     λ ts p before κ same told t.
-    rest_turn t (doc_of c.args.«record».now ts) p before κ c.args.x _ c.args.rule.0 c.args.from c.after-many.result told (rw same (rw (← c.elements_in.ensures ts) c.after-many.ensures)) _ _ c.args.rule refl (rw same (c.children_of.ensures.first_is ts)) below (omega arith) refl c.at_step.ensures
+    rest_turn t (doc_of c.args.«record».now ts) p before κ c.args.x _ c.args.rule.0 c.args.from c.saturating_sub-many.result told (rw same (rw (← c.elements_in.ensures ts) c.saturating_sub-many.ensures)) _ _ c.args.rule refl (rw same (c.children_of.ensures.first_is ts)) below (omega arith) refl c.at_step.ensures
 
 pub returns : goal.returns
 returns c =
     let past = c.if-x-many.false in
     λ ts p before κ same told t.
-    rest_end t (doc_of c.args.«record».now ts) p before κ c.args.x _ c.args.rule.0 c.args.from c.after-many.result told (rw same (rw (← c.elements_in.ensures ts) c.after-many.ensures)) (omega arith) c.ended.ensures
+    rest_end t (doc_of c.args.«record».now ts) p before κ c.args.x _ c.args.rule.0 c.args.from c.saturating_sub-many.result told (rw same (rw (← c.elements_in.ensures ts) c.saturating_sub-many.ensures)) (omega arith) refl

@@ -1,7 +1,7 @@
 -- `branch_turn` meets its contract: the condition, the one branch or the other. Assumes nothing.
+use mathlib.Core.Path.{refl}
 use native.Mathlib.Omega.{arith}
 use Rattle.steps.proofs.Choosing.{branch_first, branch_then, branch_else, branch_end, first_in}
-use borrow.Author.Rules.{rules}
 use Rattle.steps.proofs.here.branch_turn.Goals as goal
 
 pub entry_schema-requires : goal.entry_schema-requires
@@ -22,7 +22,7 @@ returns-then-x-eq1 c =
 
 pub returns-then-tally-eq0 : goal.returns-then-tally-eq0
 returns-then-tally-eq0 c =
-    λ d p before κ same. branch_end c.args.tally d p before κ _ _ _ c.args.x _ c.if-x-eq0.false (λ a b. c.if-x-eq1.false (omega (arith, c.if-x-eq0.false))) (λ a b. omega (arith, c.if-tally-eq0.true)) c.ended.ensures
+    λ d p before κ same. branch_end c.args.tally d p before κ _ _ _ c.args.x _ c.if-x-eq0.false (λ a b. c.if-x-eq1.false (omega (arith, c.if-x-eq0.false))) (λ a b. omega (arith, c.if-tally-eq0.true)) refl
 
 pub entry_schema-requires-then-x-le2 : goal.entry_schema-requires-then-x-le2
 entry_schema-requires-then-x-le2 c =
@@ -34,8 +34,8 @@ returns-then-x-le2 c =
 
 pub returns-then-tally-eq1 : goal.returns-then-tally-eq1
 returns-then-tally-eq1 c =
-    λ d p before κ same. branch_end c.args.tally d p before κ _ _ _ c.args.x _ c.if-x-eq0.false (λ a b. omega (arith, c.if-x-le2.false)) (λ a b. omega (arith, c.if-x-le2.false)) c.ended-then-tally-eq1.ensures
+    λ d p before κ same. branch_end c.args.tally d p before κ _ _ _ c.args.x _ c.if-x-eq0.false (λ a b. omega (arith, c.if-x-le2.false)) (λ a b. omega (arith, c.if-x-le2.false)) refl
 
 pub returns : goal.returns
 returns c =
-    λ d p before κ same. branch_end c.args.tally d p before κ _ _ _ c.args.x _ c.if-x-eq0.false (λ a b. c.if-tally-eq0.false b) (λ a b. c.if-tally-eq1.false b) c.ended-2.ensures
+    λ d p before κ same. branch_end c.args.tally d p before κ _ _ _ c.args.x _ c.if-x-eq0.false (λ a b. c.if-tally-eq0.false b) (λ a b. c.if-tally-eq1.false b) refl

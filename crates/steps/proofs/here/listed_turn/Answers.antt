@@ -1,7 +1,7 @@
 -- `listed_turn` meets its contract. Assumes nothing.
+use mathlib.Core.Path.{refl}
 use native.Mathlib.Omega.{arith}
 use Rattle.steps.proofs.Aiming.{listed_turn, listed_end}
-use borrow.Author.Rules.{rules}
 use Rattle.steps.proofs.here.listed_turn.Goals as goal
 
 pub returns-then-x-list : goal.returns-then-x-list
@@ -12,4 +12,4 @@ returns-then-x-list c =
 pub returns : goal.returns
 returns c =
     let past = c.if-x-list.false in
-    λ d m t p before κ same. listed_end t d p before κ m c.args.x _ c.args.rules.now c.args.list (omega arith) c.ended.ensures
+    λ d m t p before κ same. listed_end t d p before κ m c.args.x _ c.args.rules.now c.args.list (omega arith) refl

@@ -1,4 +1,5 @@
 -- `single_turn` meets its contract. Assumes nothing.
+use mathlib.Core.Path.{refl}
 use native.Mathlib.Omega.{arith}
 use Rattle.steps.proofs.Aiming.{single_turn, single_end}
 use Rattle.steps.proofs.here.single_turn.Goals as goal
@@ -11,4 +12,4 @@ returns-then-x-lt1 c =
 pub returns : goal.returns
 returns c =
     let past = c.if-x-lt1.false in
-    λ d m t p before κ same. single_end t d p before κ m c.args.x _ c.args.rule.0 (omega arith) c.ended.ensures
+    λ d m t p before κ same. single_end t d p before κ m c.args.x _ c.args.rule.0 (omega arith) refl

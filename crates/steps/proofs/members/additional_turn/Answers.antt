@@ -5,7 +5,6 @@ use Rattle.areas.specs.Cells.{column}
 use Rattle.clause.specs.Read.{before_in}
 use Rattle.steps.proofs.Turns.{marked_turned}
 use Rattle.line.proofs.Counted.{members_some}
-use borrow.Author.Rules.{rules}
 use Rattle.steps.proofs.members.additional_turn.Goals as goal
 
 pub members_in-many-requires : goal.members_in-many-requires

@@ -1,6 +1,5 @@
 use mathlib.Core.Path.{refl, sym, ap, ◌∙◌}
 use native.Mathlib.Omega.{arith}
-use Prim.Native.Nat.{◌-◌}
 use Rattle.sheet.specs.Record.{doc_of}
 use Rattle.rulesheet.specs.declared.form.SchemaRow.{SchemaRow}
 use Rattle.areas.specs.Cells.{pair_is}
@@ -10,7 +9,6 @@ use Rattle.steps.proofs.Turns.{skipped_none}
 use Rattle.told.proofs.Earlier.{before_long}
 use Rattle.line.proofs.Counted.{members_some}
 use Rattle.steps.proofs.Aiming.{other_turn, other_more, other_end}
-use borrow.Author.Rules.{rules}
 use Rattle.steps.proofs.members.other_turn.Goals as goal
 
 pub schema_at-start-requires : goal.schema_at-start-requires
@@ -23,7 +21,7 @@ pub children_of-first-requires : goal.children_of-first-requires
 children_of-first-requires c = (c.requires.record_read.0.laid.formed, c.requires.record_read.1)
 
 pub loop-at-init : goal.loop-at-init
-loop-at-init c = (omega arith, λ κ t. skipped_none (omega arith))
+loop-at-init c = λ κ t. skipped_none (omega arith)
 
 pub overflow_add-row : goal.overflow_add-row
 overflow_add-row c =
@@ -46,19 +44,17 @@ returns-then-unnamed_in c =
     let inv = c.loop-at.invariant in
     let below = c.loop-at-test.true in
     λ κ t.
-    other_turn t (doc_of c.args.«record».now c.args.text.now) (pair_is c.args.p) (before_in c.args.rules.now c.args.rule_text.now c.args.p.rule.0 c.args.i) κ c.args.x c.loop-at.at _ c.args.rule.0 (c.children_of-first.ensures.first_is c.args.text.now) _ c.args.rule _ (inv.1 κ t) inv.0 (rw (← c.members_in-many.ensures c.args.text.now) below) (omega arith) refl refl (sym (c.unnamed_in.ensures (pair_is c.args.p)) ∙ c.if-unnamed_in.true) c.at_step.ensures
+    other_turn t (doc_of c.args.«record».now c.args.text.now) (pair_is c.args.p) (before_in c.args.rules.now c.args.rule_text.now c.args.p.rule.0 c.args.i) κ c.args.x c.loop-at.at _ c.args.rule.0 (c.children_of-first.ensures.first_is c.args.text.now) _ c.args.rule _ (inv κ t) c.loop-at.auto.at (rw (← c.members_in-many.ensures c.args.text.now) below) (omega arith) refl refl (sym (c.unnamed_in.ensures (pair_is c.args.p)) ∙ c.if-unnamed_in.true) c.at_step.ensures
 
 pub loop-at-preserved : goal.loop-at-preserved
 loop-at-preserved c =
-    let inv = c.loop-at.invariant in (
-      omega arith,
-      λ κ t.
-          other_more t (doc_of c.args.«record».now c.args.text.now) (pair_is c.args.p) (before_in c.args.rules.now c.args.rule_text.now c.args.p.rule.0 c.args.i) κ c.args.x c.loop-at.at _ c.args.rule.0 (c.children_of-first.ensures.first_is c.args.text.now) (inv.1 κ t) (sym (c.unnamed_in.ensures (pair_is c.args.p)) ∙ c.if-unnamed_in.false),
-    )
+    let inv = c.loop-at.invariant in
+    λ κ t.
+    other_more t (doc_of c.args.«record».now c.args.text.now) (pair_is c.args.p) (before_in c.args.rules.now c.args.rule_text.now c.args.p.rule.0 c.args.i) κ c.args.x c.loop-at.at _ c.args.rule.0 (c.children_of-first.ensures.first_is c.args.text.now) (inv κ t) (sym (c.unnamed_in.ensures (pair_is c.args.p)) ∙ c.if-unnamed_in.false)
 
 pub returns : goal.returns
 returns c =
     let inv = c.loop-at.invariant in
     let past = c.loop-at-test.false in
     λ κ t.
-    other_end t (doc_of c.args.«record».now c.args.text.now) (pair_is c.args.p) (before_in c.args.rules.now c.args.rule_text.now c.args.p.rule.0 c.args.i) κ c.args.x c.loop-at.at _ c.args.rule.0 (c.children_of-first.ensures.first_is c.args.text.now) _ (inv.1 κ t) (rw (← c.members_in-many.ensures c.args.text.now) (omega arith)) c.ended.ensures
+    other_end t (doc_of c.args.«record».now c.args.text.now) (pair_is c.args.p) (before_in c.args.rules.now c.args.rule_text.now c.args.p.rule.0 c.args.i) κ c.args.x c.loop-at.at _ c.args.rule.0 (c.children_of-first.ensures.first_is c.args.text.now) _ (inv κ t) (rw (← c.members_in-many.ensures c.args.text.now) (omega arith)) refl

@@ -14,7 +14,6 @@ use Rattle.steps.proofs.Reading.{no_steps}
 use Rattle.told.proofs.Earlier.{started_as}
 use Rattle.line.proofs.Counted.{members_some, elements_some}
 use Rattle.steps.proofs.Turns.{applied_child, turned_as, stops, skipped_none}
-use borrow.Author.Rules.{rules}
 use Rattle.steps.proofs.turn.turn_in.Goals as goal
 
 pub listed_turn-requires : goal.listed_turn-requires
@@ -150,4 +149,4 @@ returns-in-UnevaluatedItems c =
 
 pub returns-in_default : goal.returns-in_default
 returns-in_default c =
-    let none = no_steps (doc_of c.args.«record».now c.args.text.now) (pair_is c.args.p) (before_in c.args.rules.now c.args.rule_text.now c.args.p.rule.0 c.args.i) c.args.rules.now c.args.rule_text.now c.args.clause (opened c.in_default.in_default-own.keys15) in stops {y = c.args.x} c.ended.ensures (skipped_none (omega arith)) (omega arith)
+    let none = no_steps (doc_of c.args.«record».now c.args.text.now) (pair_is c.args.p) (before_in c.args.rules.now c.args.rule_text.now c.args.p.rule.0 c.args.i) c.args.rules.now c.args.rule_text.now c.args.clause (opened c.in_default.in_default-own.keys15) in stops {y = c.args.x} refl (skipped_none (omega arith)) (omega arith)

@@ -1,5 +1,4 @@
 -- `turn_of` meets its contract. Assumes nothing.
-use borrow.Author.Rules.{rules}
 use Rattle.clause.specs.Read.{clause_in}
 use Rattle.clause.proofs.Reading.{words_read}
 use Rattle.steps.proofs.Turns.{applied_turned}
