@@ -80,7 +80,7 @@ fn middle(code: u32) -> Shape
     if code < codes::NOT {
         return in_place(Fields::Schemas, 1);
     }
-    if code < 35 {
+    if code <= codes::REF {
         return in_place(Fields::Schema, 0);
     }
     seldom(code)

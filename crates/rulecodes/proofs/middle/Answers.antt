@@ -23,9 +23,9 @@ pub returns-then-code-lt-NOT : goal.returns-then-code-lt-NOT
 unfolding line_in Each
 returns-then-code-lt-NOT c = c.in_place.ensures ∙ sym (each_at (Shaped (in_place_shape Schemas 1)) 3 30 c.args.code (refl, (refl, (refl, tt))) (omega arith) (omega arith))
 
-pub returns-then-code-lt35 : goal.returns-then-code-lt35
+pub returns-then-code-le-REF : goal.returns-then-code-le-REF
 unfolding line_in Each
-returns-then-code-lt35 c = c.in_place-then-code-lt35.ensures ∙ sym (each_at (Shaped (in_place_shape Schema 0)) 2 33 c.args.code (refl, (refl, tt)) (omega arith) (omega arith))
+returns-then-code-le-REF c = c.in_place-then-code-le-REF.ensures ∙ sym (each_at (Shaped (in_place_shape Schema 0)) 2 33 c.args.code (refl, (refl, tt)) (omega arith) (omega arith))
 
 pub seldom-requires-2 : goal.seldom-requires-2
 seldom-requires-2 c =
