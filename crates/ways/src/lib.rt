@@ -123,7 +123,8 @@ pub fn spot_of(
 ) -> Option<Spot>
     requires lying { Lying words.now text.now names × (i < names.count) }
     requires standing { Standing (name_at words.now text.now names) names.count heads.now next.now nodes.now marks.now i }
-    ensures { MatchOption result (Repeated (name_at words.now text.now names) i) (Spotted (length heads.now) (name_at words.now text.now names) nodes.now marks.now i) }
+    ensures { MatchOption result (Repeated (name_at words.now text.now names) i)
+        (Spotted (length heads.now) (name_at words.now text.now names) nodes.now marks.now i) }
 {
     let places = heads.len();
     let name = name_at(words, text, names, i);
