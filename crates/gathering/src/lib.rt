@@ -19,6 +19,7 @@ use crate::units::{character, low_ahead};
 // How many bytes and words are gathered; how many values have started; whether a name is being
 // gathered, where it begins and how many bytes of text are left from its quote on; the number of an
 // escape so far, and the high surrogate that waits for its low one, or 0.
+// No `Option` of a name: `Gather` of `naming`, which `Held` equates with this, keeps it when it ended.
 #[derive(Clone, Copy)]
 pub struct Gathered {
     pub size: usize,

@@ -7,7 +7,8 @@ ghost use Rattle.laying.specs.Laying.{start_at, Started, Countable, Laid};
 
 use writing::write_sheet;
 
-// A text is refused: the refusal's number, and its place.
+// A text is refused: the refusal's number, and its place. The number is no enum, since 22 to 26 come
+// from `Watch::fault`, a number.
 #[derive(Clone, Copy)]
 pub struct Refused {
     pub number: u32,

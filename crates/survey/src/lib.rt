@@ -15,6 +15,7 @@ pub struct Escapes {
     pub waiting: usize,
 }
 
+// Numbers with 0 for none, no `Option`: `scan` and `trail` read these fields (`fault`, `waits`) as such.
 // What the first pass keeps of faults: the first one's number, or 0, and how many bytes are left
 // from its start on; how many values have started; the number under way; the escapes.
 #[derive(Clone, Copy)]

@@ -25,7 +25,7 @@ pub fn number_ends(depth: u32, s: Watch) -> Watch
 // A digit, where `more` takes one into the figure: in the whole part, behind the point or in the exponent.
 pub(crate) fn take_digit<F: FnOnce(Figure, u64) -> Figure>(more: F, byte: u8, s: Watch) -> Watch
     requires { (d : ℕ) → d < 10 → F.pre more s.figure d }
-    ensures { (op : Figure → ℕ → Figure) → ((f : Figure) → F.post more s.figure (byte - 0x30) f → f ≡ op s.figure (byte - 0x30)) → result ≡ digited op byte s }
+    ensures { (o : Figure → ℕ → Figure) → ((f : _) → F.post more s.figure (byte - 0x30) f → f ≡ o s.figure (byte - 0x30)) → result ≡ digited o byte s }
 {
     if digit(byte) {
         let figure = more(s.figure, (byte - b'0') as u64);
@@ -50,7 +50,7 @@ pub(crate) fn take_digit_or_end<F: FnOnce(Figure, u64) -> Figure>(
 ) -> Watch
     requires ends { (depth < 100) × Fair s.figure }
     requires takes { (d : ℕ) → d < 10 → F.pre more s.figure d }
-    ensures { (op : Figure → ℕ → Figure) → ((f : Figure) → F.post more s.figure (byte - 0x30) f → f ≡ op s.figure (byte - 0x30)) → result ≡ digit_or op depth byte s }
+    ensures { (o : Figure → ℕ → Figure) → ((f : _) → F.post more s.figure (byte - 0x30) f → f ≡ o s.figure (byte - 0x30)) → result ≡ digit_or o depth byte s }
 {
     if number_over(byte) {
         return number_ends(depth, s);
