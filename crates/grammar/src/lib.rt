@@ -67,6 +67,7 @@ fn spelled(place: u8, byte: u8) -> Option<Move>
 }
 
 // Within an escape's hexadecimal digits.
+#[inline(always)]
 #[tactic(auto, using(crate::proofs::Leading::tables))]
 fn escaped(place: u8, byte: u8) -> Option<Move>
     requires { (28 ≤ place) × (place < 36) }
@@ -109,6 +110,8 @@ fn character(place: u8, byte: u8) -> Option<Move>
 }
 
 // One step: where a byte leads from a place, with the innermost open bracket around it; no step where no text goes on so.
+// Inlined always: a `Move` handed back through memory, byte by byte, makes reading a tenth slower.
+#[inline(always)]
 #[tactic(auto, using(crate::proofs::Leading::tables))]
 pub fn step(place: u8, around: Option<Bracket>, byte: u8) -> Option<Move>
     requires { place < 50 }

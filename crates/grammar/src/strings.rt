@@ -49,6 +49,7 @@ pub(crate) fn text(role: Role, byte: u8) -> Option<Move>
 }
 
 // After a backslash.
+#[inline(always)]
 pub(crate) fn escape(role: Role, byte: u8) -> Option<Move>
     ensures { result ≡ leads (moves (Auto.escape (role_of role)) none) byte }
 {
