@@ -1,13 +1,15 @@
 // What judging answers. `specs/Call.antt` gives each case 01's number and values.
 #![tactic(auto)]
 
-use sheet::refusal::Refusal;
+use sheet::refusal::Refused;
 
-// Valid or invalid, each with the number of settled pairs and that of marked children of the root;
-// or refused, with the refusal and its place.
-#[derive(Clone, Copy)]
-pub enum Answer {
-    Valid(usize, usize),
-    Invalid(usize, usize),
-    Refused(Refusal, u32),
+// Whether the record is valid, with the number of settled pairs and that of marked children of the root.
+#[derive(Clone, Copy, Debug, PartialEq, Eq)]
+pub struct Judged {
+    pub valid: bool,
+    pub pairs: usize,
+    pub marked: usize,
 }
+
+// A call judges, or it is refused.
+pub type Answer = Result<Judged, Refused>;

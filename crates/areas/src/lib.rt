@@ -24,7 +24,7 @@ fn cell_of(m: usize, p: Pair) -> usize
     wide(p.row.0) * m + wide(p.rule.0)
 }
 
-// The verdict in cell k: 0 not settled, 1 held, 2 failed.
+// The verdict in cell k: 0 not settled, 1 held, 2 failed. No enum: C reads the same codes in the cells.
 pub fn verdict_at(cells: &[u8], k: usize) -> u8
     requires { k < length cells.now }
     ensures { result ≡ verd (get_or cells.now k 0) }
@@ -72,10 +72,9 @@ fn enlist(list: &mut [u32], count: usize, k: usize)
     requires { k < 4294967296 }
     ensures { list.new ≡ set list.old count k }
 {
-    if list.len() <= count {
-        return;
+    if count < list.len() {
+        list[count] = k as u32;
     }
-    list[count] = k as u32;
 }
 
 // Settles the pair, which is not settled, and lists it after the first `count` words. The answer is
@@ -112,7 +111,7 @@ pub fn write_mark(cells: &mut [u8], m: usize, row: RecordRow, s: RuleRow, on: bo
     requires { Writes m row.0 1 s.0 s.0 cells.old }
     ensures { Marked m row.0 1 s.0 (λ k. on) cells.old cells.new }
 {
-    let k = cell_of(m, Pair { row: row, rule: s });
+    let k = cell_of(m, Pair { row, rule: s });
     let x = verdict_at(cells, k);
     cells[k] = x + four_of(on);
 }
@@ -123,9 +122,5 @@ pub fn write_mark(cells: &mut [u8], m: usize, row: RecordRow, s: RuleRow, on: bo
 pub fn clear(cells: &mut [u8])
     ensures { Cleared cells.old cells.new }
 {
-    let mut i = 0;
-    while i < cells.len() {
-        cells[i] = 0;
-        i += 1;
-    }
+    cells.fill(0);
 }

@@ -3,12 +3,11 @@
 // What it prints is settled, and proved, in crate `bundle`; here it is written out.
 #![tactic(auto)]
 
-ghost use Rattle.bundle.specs.declared.Reply.TheVariants.{Judged};
+ghost use Rattle.std.specs.Prelude.{Ok};
 ghost use Rattle.bundle.specs.Printed.{Readable};
 
-use bundle::{AREA, Judgement, Line, Reply};
+use bundle::{AREA, Judgement};
 use parts::BUNDLE_MAX;
-use sheet::refusal::Refusal;
 use std::io;
 use std::io::{BufWriter, Read, Write};
 
@@ -27,44 +26,24 @@ fn answer<W: Write>(bundle: &[u8], out: &mut W) -> io::Result<()> {
     let mut cells = [0u8; AREA];
     let mut list = [0u32; AREA];
     match bundle::reply_to(bundle, &mut cells, &mut list) {
-        Reply::BadBundle => writeln!(out, "bad bundle"),
-        Reply::Refused(refusal, place) => say_refused(refusal, place, out),
-        Reply::TooLarge => writeln!(out, "too large"),
-        Reply::Judged(judgement) => say_judged(judgement, &cells, &list, out),
+        Ok(judgement) => say_judged(judgement, &cells, &list, out),
+        Err(unjudged) => writeln!(out, "{unjudged}"),
     }
 }
 
-fn say_refused<W: Write>(refusal: Refusal, place: u32, out: &mut W) -> io::Result<()> {
-    let number = refusal.number();
-    writeln!(out, "refused {number} {place}")
-}
-
-// Writes the verdict, how many pairs were settled and how many children of the root are marked, and
-// then each settled pair.
+// Writes the judgement, and then each settled pair.
 fn say_judged<'a, W: Write>(
     judgement: Judgement,
     cells: &'a [u8],
     list: &'a [u32],
     out: &mut W,
 ) -> io::Result<()>
-    requires { Readable (Judged judgement) cells.now list.now }
+    requires { Readable (Ok judgement) cells.now list.now }
 {
-    let schemas = judgement.schemas;
-    let pairs = judgement.pairs;
-    let marked = judgement.marked;
-    let verdict = if judgement.valid { "valid" } else { "invalid" };
-    writeln!(out, "{verdict}")?;
-    writeln!(out, "pairs {pairs} marked {marked}")?;
-    for i in 0..pairs {
-        say_line(bundle::line_at(cells, list, schemas, i), out)?;
+    writeln!(out, "{judgement}")?;
+    for i in 0..judgement.pairs {
+        let line = bundle::line_at(cells, list, judgement.schemas, i);
+        writeln!(out, "{line}")?;
     }
     Ok(())
-}
-
-// Writes a pair's row, its schema, and whether it held.
-fn say_line<W: Write>(line: Line, out: &mut W) -> io::Result<()> {
-    let row = line.row;
-    let schema = line.schema;
-    let held = if line.held { "held" } else { "failed" };
-    writeln!(out, "{row} {schema} {held}")
 }

@@ -11,8 +11,9 @@ use native.Mathlib.Nat.{mul-le-mul_right, mul_comm}
 use native.Mathlib.Omega.{arith}
 use lib.Dec.{ltb}
 use lib.ListN.{length, take, drop}
+use Rattle.std.specs.Prelude.{Some, None, Ok, Err}
 use borrow.Author.Tests.{ltb-false}
-use Rattle.sheet.specs.declared.refusal.Refusal.{Refusal}
+use Rattle.sheet.specs.declared.refusal.Refused.{Refused}
 use Rattle.sheet.specs.Refusals.{refusal_number, accepted, refused}
 use Rattle.sheet.specs.Doc.{Doc}
 use Rattle.sheet.specs.Record.{doc_of}
@@ -26,13 +27,11 @@ use Rattle.meaning.specs.Fit.{Fit}
 use Rattle.meaning.specs.Answer.{refuses, Left, verdict, judged, judge}
 use Rattle.meaning.proofs.Answers.{call_judged, fits}
 use Rattle.meaning.proofs.Trees.{once}
-use Rattle.answer.specs.declared.Answer as J
-use Rattle.answer.specs.declared.Answer.TheVariants.{Refused as Refuses}
+use Rattle.answer.specs.Call as J
 use Rattle.answer.specs.Call.{answer_of, call_leaves}
 use Rattle.parts.specs.declared.Lengths.{Lengths}
-use Rattle.parts.specs.declared.Bundle.TheVariants.{Bad, Good}
-use Rattle.bundle.specs.declared.Reply.TheVariants.{BadBundle, Refused, TooLarge, Judged}
-use Rattle.parts.specs.Bundle.{words_of, parts_of}
+use Rattle.bundle.specs.declared.Unjudged.TheVariants.{BadBundle, Refused as NotInOrder, TooLarge}
+use Rattle.parts.specs.Bundle.{words_of, parts, parts_of}
 use Rattle.parts.proofs.Bundles.{text, rules, rule_text, end}
 use Rattle.bundle.specs.Printed.{side_max, is_too_large, told_judged, told_sheets, told_parts, told_of, Roomy, InOrder, Replies}
 use Rattle.laws.proofs.Tests.{neither}
@@ -48,12 +47,12 @@ refuses_none : (b : Bool) (number place c k : ℕ) → refuses number place ≡ 
 refuses_none true number place c k e = let z : ◌≡◌ {A = ℕ} 0 1 = cc in omega arith
 refuses_none false number place c k e = let z : ◌≡◌ {A = ℕ} 0 1 = cc in omega arith
 
-pub bad_replied : (bs : List ℕ) {cells list : List ℕ} → parts_of bs ≡ Bad → Replies (told_of bs cells list) BadBundle cells list
+pub bad_replied : (bs : List ℕ) {cells list : List ℕ} → parts_of bs ≡ None → Replies (told_of bs cells list) (Err BadBundle) cells list
 unfolding told_parts
 bad_replied bs e = record { tells = rw e; readable = tt }
 
 -- the parts of a good bundle as they are taken, one after the other
-module _ (bs : List ℕ) (a b : Lengths) (good : parts_of bs ≡ Good a b) where
+module _ (bs : List ℕ) (a b : Lengths) (good : parts_of bs ≡ Some (parts a b)) where
   pub parts_told : (cs ls : List ℕ)
       → told_sheets (words_of (take (text a) bs)) (take (rules a - text a) (drop (text a) bs)) (words_of (take (rule_text a b - rules a) (drop (rules a) bs))) (take (end a b - rule_text a b) (drop (rule_text a b) bs)) cs ls
       ≡ told_of bs cs ls
@@ -65,17 +64,17 @@ module _ (bs : List ℕ) (a b : Lengths) (good : parts_of bs ≡ Good a b) where
       rw (x, y, z, good)
 
 module _ (ws ts rs us : List ℕ) where
-  pub record_refused : (f : Refusal) (place : ℕ) {cells list : List ℕ} → record_outcome ws ts ≡ refused (refusal_number f) place → Replies (told_sheets ws ts rs us cells list) (Refused f place) cells list
+  pub record_refused : (r : Refused) {cells list : List ℕ} → record_outcome ws ts ≡ refused (refusal_number r.refusal) r.place → Replies (told_sheets ws ts rs us cells list) (Err (NotInOrder r)) cells list
   unfolding told_sheets
-  record_refused f place e = record { tells = rw e; readable = tt }
+  record_refused r e = record { tells = rw e; readable = tt }
 
   module _ (n : ℕ) (good : record_outcome ws ts ≡ accepted n) where
-    pub rules_refused : (f : Refusal) (place : ℕ) {cells list : List ℕ} → rules_outcome rs us ≡ refused (refusal_number f) place → Replies (told_sheets ws ts rs us cells list) (Refused f place) cells list
+    pub rules_refused : (r : Refused) {cells list : List ℕ} → rules_outcome rs us ≡ refused (refusal_number r.refusal) r.place → Replies (told_sheets ws ts rs us cells list) (Err (NotInOrder r)) cells list
     unfolding told_sheets
-    rules_refused f place e = record { tells = rw (good, e); readable = tt }
+    rules_refused r e = record { tells = rw (good, e); readable = tt }
 
     module _ (m : ℕ) (fine : rules_outcome rs us ≡ accepted m) where
-      pub sides_large : {cells list : List ℕ} → is_too_large n m ≡ true → Replies (told_sheets ws ts rs us cells list) TooLarge cells list
+      pub sides_large : {cells list : List ℕ} → is_too_large n m ≡ true → Replies (told_sheets ws ts rs us cells list) (Err TooLarge) cells list
       unfolding told_sheets
       sides_large e = record { tells = rw (good, fine, e); readable = tt }
 
@@ -108,17 +107,17 @@ module _ (ws ts rs us cs ls : List ℕ) (n m : ℕ) (given : InOrder ws ts rs us
   told = rw (given.record_good, given.rules_good, given.small)
 
   -- the answer is a verdict
-  pub never_refused : (a : J.Answer) (f : Refusal) (place : ℕ) {c l : List ℕ} → a ≡ Refuses f place → call_leaves ws ts rs us cs ls a c l → ⊥
+  pub never_refused : (a : J.Answer) (r : Refused) {c l : List ℕ} → a ≡ Err r → call_leaves ws ts rs us cs ls a c l → ⊥
   unfolding judged
-  never_refused a f place is e =
-      refuses_none (truth D R root).holds (refusal_number f) place (length (settled D R whole)) (marked D R n m)
+  never_refused a r is e =
+      refuses_none (truth D R root).holds (refusal_number r.refusal) r.place (length (settled D R whole)) (marked D R n m)
       (sym (ap answer_of is) ∙ ap (λ (x : Left). x.answer) (e ∙ is_judged))
 
   abbrev Judges : Bool → ℕ → ℕ → List ℕ → List ℕ → Type 0
   Judges ok pairs marks c l = ◌≡◌ {A = Left} (record { answer = verdict ok pairs marks; cells = c; list = l }) (judge whole ws ts rs us cs ls)
 
   pub judged_replies : (ok : Bool) (pairs marks : ℕ) {c l : List ℕ} → Roomy c l → Judges ok pairs marks c l
-      → Replies (told_sheets ws ts rs us cs ls) (Judged (record { valid = ok; schemas = m; pairs = pairs; marked = marks })) c l
+      → Replies (told_sheets ws ts rs us cs ls) (Ok (record { valid = ok; schemas = m; pairs = pairs; marked = marks })) c l
   unfolding judged told_judged
   judged_replies ok pairs marks {c} {l} room e =
       let left = e ∙ is_judged in

@@ -2,7 +2,7 @@
 -- for more than 128 rows or schemas; else the verdict, how many pairs were settled and how many children of the root are marked, and a line for each
 -- settled pair, in settling order: record row, rule row, and whether it held.
 -- Assumes nothing.
-use Rattle.std.specs.Prelude.{Bool, false, cond, ◌||◌, List, map, ◌≡◌, ℕ, ◌+◌, ◌*◌, ◌/◌, ◌%◌, ◌≤◌, ◌<◌, eqb, ltb, length, get_or, take, drop}
+use Rattle.std.specs.Prelude.{Bool, false, cond, Option, Some, None, Result, Ok, Err, ◌||◌, List, map, ◌≡◌, ℕ, ◌+◌, ◌*◌, ◌/◌, ◌%◌, ◌≤◌, ◌<◌, eqb, ltb, length, get_or, take, drop}
 use Rattle.sheet.specs.Refusals as S
 use Rattle.sheet.specs.Refusals.{refusal_number, Outcome, accepted}
 use Rattle.sheet.specs.Doc.{Doc}
@@ -16,11 +16,11 @@ use Rattle.meaning.specs.Rules.{Pair, whole, truth}
 use Rattle.meaning.specs.Settling.{root, settled, marked}
 use Rattle.meaning.specs.Answer as A
 use Rattle.areas.specs.Cells.{verd}
-use Rattle.parts.specs.declared.Bundle.{Bundle}
-use Rattle.parts.specs.declared.Bundle.TheVariants.{Bad, Good}
+use Rattle.parts.specs.declared.Parts.{Parts}
 use Rattle.bundle.specs.declared.Line.{Line}
-use Rattle.bundle.specs.declared.Reply.{Reply}
-use Rattle.bundle.specs.declared.Reply.TheVariants.{BadBundle, Refused, TooLarge, Judged}
+use Rattle.bundle.specs.declared.Judgement.{Judgement}
+use Rattle.bundle.specs.declared.Unjudged.{Unjudged}
+use Rattle.bundle.specs.declared.Unjudged.TheVariants.{BadBundle, Refused, TooLarge}
 use Rattle.parts.specs.Bundle.{words_of, parts_of}
 
 -- the most rows and the most schemas that are judged
@@ -70,9 +70,11 @@ told_sheets ws ts rs us cs ls =
     unless_refused (rules_outcome rs us) unchanged
     (λ m. cond (is_too_large n m) (unchanged too_large) (told_judged (doc_of ws ts) (rules_of rs us) n m cs ls)))
 
-unfoldable pub told_parts : (bs cs ls : List ℕ) → Bundle → Told
-told_parts bs cs ls Bad = record { printed = bad_bundle; cells = cs; list = ls }
-told_parts bs cs ls (Good a b) =
+unfoldable pub told_parts : (bs cs ls : List ℕ) → Option Parts → Told
+told_parts bs cs ls None = record { printed = bad_bundle; cells = cs; list = ls }
+told_parts bs cs ls (Some parts) =
+    let a = parts.of_record in
+    let b = parts.of_rules in
     let text = a.words in
     let rules = text + a.text in
     let rule_text = rules + b.words in
@@ -89,11 +91,14 @@ line_at cells list schemas i =
     let word = get_or list i 0 in
     record { row = word / schemas; schema = word % schemas; held = eqb (verd (get_or cells word 0)) 1 }
 
+abbrev pub Reply : Type 0
+Reply = Result Judgement Unjudged
+
 abbrev pub printed_by : Reply → (cells list : List ℕ) → Printed
-printed_by BadBundle cells list = bad_bundle
-printed_by (Refused refusal place) cells list = refused (refusal_number refusal) place
-printed_by TooLarge cells list = too_large
-printed_by (Judged j) cells list = judged j.valid j.schemas j.marked (map (line_at cells list j.schemas) (range 0 j.pairs))
+printed_by (Err BadBundle) cells list = bad_bundle
+printed_by (Err (Refused r)) cells list = refused (refusal_number r.refusal) r.place
+printed_by (Err TooLarge) cells list = too_large
+printed_by (Ok j) cells list = judged j.valid j.schemas j.marked (map (line_at cells list j.schemas) (range 0 j.pairs))
 
 -- areas for as many rows and schemas as are judged
 pub record Roomy (cells list : List ℕ) : Type 0 where
@@ -115,10 +120,8 @@ pub record LineIn (cells list : List ℕ) (schemas i : ℕ) : Type 0 where
 
 -- the lines of a judgement can all be read
 abbrev pub Readable : Reply → (cells list : List ℕ) → Type 0
-Readable BadBundle cells list = Unit {0}
-Readable (Refused refusal place) cells list = Unit {0}
-Readable TooLarge cells list = Unit {0}
-Readable (Judged j) cells list = (i : ℕ) → i < j.pairs → LineIn cells list j.schemas i
+Readable (Err unjudged) cells list = Unit {0}
+Readable (Ok j) cells list = (i : ℕ) → i < j.pairs → LineIn cells list j.schemas i
 
 -- a reply that tells this
 pub record Replies (told : Told) (r : Reply) (cells list : List ℕ) : Type 0 where

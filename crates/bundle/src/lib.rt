@@ -4,13 +4,15 @@
 // Its contracts cite `specs/Printed.antt`.
 #![tactic(auto)]
 
+pub mod display;
+
 ghost use Rattle.std.specs.Prelude.{◌≡◌};
+ghost use Rattle.bundle.specs.declared.Unjudged.TheVariants.{Refused as NotInOrder};
 ghost use Rattle.bundle.specs.Printed.{is_too_large, told_sheets, told_of, line_at, Roomy, InOrder, LineIn, Replies};
 
-use answer::Answer;
-use parts::{BUNDLE_MAX, Bundle, WORD, parts_of, read_words};
+use parts::{BUNDLE_MAX, WORD, parts_of, read_words};
 use sheet::record::wide;
-use sheet::refusal::{Checked, Refusal};
+use sheet::refusal::Refused;
 
 // The most rows and the most schemas that are judged here.
 const SIDE_MAX: u32 = 128;
@@ -28,14 +30,24 @@ pub struct Judgement {
     pub marked: usize,
 }
 
-// All that is printed but for the lines of the settled pairs, which `line_at` gives.
-#[derive(Clone, Copy)]
-pub enum Reply {
+// Why nothing is judged.
+#[derive(Clone, Copy, Debug, PartialEq, Eq)]
+pub enum Unjudged {
     BadBundle,
-    Refused(Refusal, u32),
+    Refused(Refused),
     TooLarge,
-    Judged(Judgement),
 }
+
+impl From<Refused> for Unjudged {
+    ghost from_gives = { λ r u. u ≡ NotInOrder r };
+
+    fn from(refused: Refused) -> Unjudged {
+        Unjudged::Refused(refused)
+    }
+}
+
+// All that is printed but for the lines of the settled pairs, which `line_at` gives.
+pub type Reply = Result<Judgement, Unjudged>;
 
 // A settled pair, and whether it held.
 #[derive(Clone, Copy)]
@@ -51,13 +63,13 @@ pub fn reply_to(bundle: &[u8], cells: &mut [u8], list: &mut [u32]) -> Reply
     requires { Roomy cells.old list.old }
     ensures { Replies (told_of bundle.now cells.old list.old) result cells.new list.new }
 {
-    let Bundle::Good(of_record, of_rules) = parts_of(bundle) else {
-        return Reply::BadBundle;
+    let Some(parts) = parts_of(bundle) else {
+        return Err(Unjudged::BadBundle);
     };
-    let text = of_record.words;
-    let rules = text + of_record.text;
-    let rule_text = rules + of_rules.words;
-    let end = rule_text + of_rules.text;
+    let text = parts.of_record.words;
+    let rules = text + parts.of_record.text;
+    let rule_text = rules + parts.of_rules.words;
+    let end = rule_text + parts.of_rules.text;
     let mut record_words = [0u32; BUNDLE_MAX / WORD];
     let mut rule_words = [0u32; BUNDLE_MAX / WORD];
     let a = read_words(&bundle[..text], &mut record_words);
@@ -84,19 +96,12 @@ fn reply_to_sheets<'a>(
     requires { Roomy cells.old list.old }
     ensures { Replies (told_sheets «record».now text.now rules.now rule_text.now cells.old list.old) result cells.new list.new }
 {
-    match recordcheck::check_record(record, text) {
-        Checked::Refused(refusal, place) => Reply::Refused(refusal, place),
-        Checked::Accepted(n) => match rulecheck::check_rules(rules, rule_text) {
-            Checked::Refused(refusal, place) => Reply::Refused(refusal, place),
-            Checked::Accepted(m) => {
-                if too_large(n, m) {
-                    Reply::TooLarge
-                } else {
-                    judge_all(record, text, rules, rule_text, cells, list, n, m)
-                }
-            }
-        },
+    let n = recordcheck::check_record(record, text)?;
+    let m = rulecheck::check_rules(rules, rule_text)?;
+    if too_large(n, m) {
+        return Err(Unjudged::TooLarge);
     }
+    judge_all(record, text, rules, rule_text, cells, list, n, m)
 }
 
 // Whether so many rows and schemas are too many.
@@ -120,23 +125,14 @@ fn judge_all<'a>(
     requires { InOrder «record».now text.now rules.now rule_text.now cells.old list.old n m }
     ensures { Replies (told_sheets «record».now text.now rules.now rule_text.now cells.old list.old) result cells.new list.new }
 {
-    let schemas = wide(m);
-    match judge::judge(record, text, rules, rule_text, cells, list) {
-        Answer::Valid(pairs, marked) => Reply::Judged(Judgement {
-            valid: true,
-            schemas,
-            pairs,
-            marked,
-        }),
-        Answer::Invalid(pairs, marked) => Reply::Judged(Judgement {
-            valid: false,
-            schemas,
-            pairs,
-            marked,
-        }),
-        // Never: the sheets are in order, and the areas are long enough.
-        Answer::Refused(refusal, place) => Reply::Refused(refusal, place),
-    }
+    // Never refused: the sheets are in order, and the areas are long enough.
+    let judged = judge::judge(record, text, rules, rule_text, cells, list)?;
+    Ok(Judgement {
+        valid: judged.valid,
+        schemas: wide(m),
+        pairs: judged.pairs,
+        marked: judged.marked,
+    })
 }
 
 // Line i of the settled pairs.

@@ -5,7 +5,7 @@
 #![tactic(auto)]
 
 ghost use Rattle.std.specs.Prelude.{false, ◌≡◌, ◌+◌, ◌<◌};
-ghost use Rattle.areas.specs.Cells.{plus, marked_by};
+ghost use Rattle.areas.specs.Cells.{marked_by};
 ghost use Rattle.areas.specs.Writers.{Writes, Marked, merged};
 
 use areas::{is_marked, write_mark};
@@ -16,14 +16,7 @@ fn add_mark(cells: &mut [u8], m: usize, row: RecordRow, s: RuleRow, from: RuleRo
     requires { Writes m row.0 1 s.0 from.0 cells.old }
     ensures { Marked m row.0 1 s.0 (merged m cells.old s.0 from.0) cells.old cells.new }
 {
-    if is_marked(
-        cells,
-        m,
-        Pair {
-            row: row,
-            rule: from,
-        },
-    ) {
+    if is_marked(cells, m, Pair { row, rule: from }) {
         write_mark(cells, m, row, s, true);
     }
 }
@@ -34,10 +27,8 @@ pub fn add_marks(cells: &mut [u8], m: usize, kids: Children, s: RuleRow, from: R
     requires kids_end_fits { kids.first + kids.count < 4294967296 }
     ensures { Marked m kids.first kids.count s.0 (merged m cells.old s.0 from.0) cells.old cells.new }
 {
-    let mut i = 0;
-    while i < kids.count {
+    for i in 0..kids.count {
         add_mark(cells, m, RecordRow(kids.first + i), s, from);
-        i += 1;
     }
 }
 
@@ -46,7 +37,7 @@ fn take_mark(cells: &mut [u8], m: usize, row: RecordRow, s: RuleRow)
     requires { Writes m row.0 1 s.0 s.0 cells.old }
     ensures { Marked m row.0 1 s.0 (λ k. false) cells.old cells.new }
 {
-    if is_marked(cells, m, Pair { row: row, rule: s }) {
+    if is_marked(cells, m, Pair { row, rule: s }) {
         write_mark(cells, m, row, s, false);
     }
 }
@@ -57,19 +48,9 @@ pub fn take_marks(cells: &mut [u8], m: usize, kids: Children, s: RuleRow)
     requires kids_end_fits { kids.first + kids.count < 4294967296 }
     ensures { Marked m kids.first kids.count s.0 (λ k. false) cells.old cells.new }
 {
-    let mut i = 0;
-    while i < kids.count {
+    for i in 0..kids.count {
         take_mark(cells, m, RecordRow(kids.first + i), s);
-        i += 1;
     }
-}
-
-// One more, if it is so.
-fn add(n: usize, so: bool) -> usize
-    requires { n < 18446744073709551615 }
-    ensures { result ≡ plus n so }
-{
-    if so { n + 1 } else { n }
 }
 
 // How many of the rows are marked in column 0.
@@ -79,21 +60,17 @@ pub fn marked_of(cells: &[u8], m: usize, kids: Children) -> usize
     ensures { result ≡ marked_by m cells.now kids.first kids.count }
 {
     let mut n = 0;
-    let mut i = 0;
-    while i < kids.count {
+    for i in 0..kids.count {
         let row = RecordRow(kids.first + i);
-        n = add(
-            n,
-            is_marked(
-                cells,
-                m,
-                Pair {
-                    row: row,
-                    rule: RuleRow(0),
-                },
-            ),
+        let marked = is_marked(
+            cells,
+            m,
+            Pair {
+                row,
+                rule: RuleRow(0),
+            },
         );
-        i += 1;
+        n += usize::from(marked);
     }
     n
 }

@@ -13,8 +13,7 @@ use Rattle.meaning.specs.Lists.{all, range}
 use Rattle.meaning.specs.Rules.{whole}
 use Rattle.meaning.specs.Answer.{number_for_c, judge}
 use Rattle.number.specs.Called.{outcome_answer, Called}
-use Rattle.listing.specs.Listing.{records_in, words_at, text_at, queue_lines, queue_outcome, queued_outcome}
-use Rattle.listing.specs.declared.Queued.{Queued}
+use Rattle.listing.specs.Listing.{records_in, words_at, text_at, Queued, queue_lines, queue_outcome, queued_outcome}
 use Rattle.queue.specs.Queue.{Judged, one_by_one, Left, unless, judge_queue, queue_leaves}
 use Rattle.hub.specs.Entry.{QueueCalled, EachMeets, no_more, one_more, QueueDemands}
 use Rattle.hub.proofs.Numbers.{number_demands}

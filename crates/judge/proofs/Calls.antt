@@ -1,10 +1,10 @@
 -- What the proof of the whole call asks besides.
 --     sheets_read                     accepted sheets are laid out as their readers ask
 --     call_roomy                      areas that are long enough
---     call_valid, call_invalid        the call's answer, by the run's verdict
+--     run_left                        what the run leaves is what the call leaves
 --     verdict_left                    what the call for the verdict only leaves
 -- Assumes nothing.
-use mathlib.Core.Bool.{Bool, true, false}
+use mathlib.Core.Bool.{true}
 use mathlib.Core.List.{List, []}
 use mathlib.Core.Path.{◌≡◌, refl, sym, ap, ◌∙◌}
 use Prim.Native.Nat.{ℕ, ◌*◌, ◌≤◌, ◌<◌}
@@ -22,15 +22,14 @@ use Rattle.rulesheet.specs.Sheet.{schemas_word, rules_of}
 use Rattle.rulesheet.specs.Faults as G
 use Rattle.rules.specs.Check.{rules_outcome}
 use Rattle.meaning.specs.Rules.{Way, whole, cut}
-use Rattle.meaning.specs.Answer.{valid, invalid, Left, verdict, list_room, judged, judge}
+use Rattle.meaning.specs.Answer.{Left, list_room, judged, judge}
 use Rattle.meaning.proofs.Answers.{rows_are, schemas_are, call_judged, fits}
 use Rattle.clause.proofs.Reading.{record_read, rules_read}
 use Rattle.run.specs.declared.Verdict.{Verdict}
 use Rattle.lent.specs.Lent.{Sheets, case_of}
 use Rattle.run.specs.Whole.{Roomy, left_by, judged_of}
 use Rattle.meaning.proofs.Verdicts.{cut_list}
-use Rattle.answer.specs.declared.Answer.{Answer}
-use Rattle.answer.specs.Call.{answer_of, leaves, verdict_leaves}
+use Rattle.answer.specs.Call.{Answer, answer_of, leaves, verdict_leaves}
 
 module _ (ws ts rs us : List ℕ) (n m : ℕ) (good : record_outcome ws ts ≡ accepted n) (fine : rules_outcome rs us ≡ accepted m) where
   rows : rows_word ws ≡ n
@@ -78,19 +77,11 @@ module _ (ws ts rs us : List ℕ) (n m : ℕ) (good : record_outcome ws ts ≡ a
 
   -- what the run leaves is what the call leaves
   module _ (w : Way) (cs ls : List ℕ) {size room : ℕ} (s : size ≡ n * m) (q : room ≡ list_room w size) (a : size ≤ length cs) (b : room ≤ length ls) where
-    run_left : {c l : List ℕ} (v : Verdict) → left_by v c l ≡ judged_of (case_of w ws ts rs us) cs ls → left_by v c l ≡ judge w ws ts rs us cs ls
+    pub run_left : {c l : List ℕ} (v : Verdict) → left_by v c l ≡ judged_of (case_of w ws ts rs us) cs ls → left_by v c l ≡ judge w ws ts rs us cs ls
     run_left v e =
         let g : room ≡ list_room w (n * m) = q ∙ ap (list_room w) s in
         e ∙ ap (λ k. judged w (doc_of ws ts) (rules_of rs us) k (schemas_word rs) cs ls) rows ∙ ap (λ k. judged w (doc_of ws ts) (rules_of rs us) n k cs ls) schemas
         ∙ sym (call_judged w ws ts rs us cs ls n good m fine (omega arith) (omega arith))
-
-    pub call_valid : {c l : List ℕ} (v : Verdict) → left_by v c l ≡ judged_of (case_of w ws ts rs us) cs ls → v.ok ≡ true
-        → ◌≡◌ {A = Left} (record { answer = valid v.count v.marked; cells = c; list = l }) (judge w ws ts rs us cs ls)
-    call_valid {c} {l} v e t = ap (λ (ok : Bool). record { answer = verdict ok v.count v.marked; cells = c; list = l }) (sym t) ∙ run_left v e
-
-    pub call_invalid : {c l : List ℕ} (v : Verdict) → left_by v c l ≡ judged_of (case_of w ws ts rs us) cs ls → v.ok ≡ false
-        → ◌≡◌ {A = Left} (record { answer = invalid v.count v.marked; cells = c; list = l }) (judge w ws ts rs us cs ls)
-    call_invalid {c} {l} v e t = ap (λ (ok : Bool). record { answer = verdict ok v.count v.marked; cells = c; list = l }) (sym t) ∙ run_left v e
 
 -- the call for the verdict only lends a list of no places, and leaves it
 pub verdict_left : (ws ts rs us cs : List ℕ) (r : Answer) {c l : List ℕ} → leaves cut ws ts rs us cs [] r c l → verdict_leaves ws ts rs us cs r c

@@ -12,13 +12,13 @@ ghost use Rattle.rules.specs.Check.{rules_outcome};
 ghost use Rattle.lent.specs.Lent.{way_by};
 ghost use Rattle.answer.specs.Call.{leaves, call_leaves, verdict_leaves};
 
-use answer::Answer;
+use answer::{Answer, Judged};
 use recordcheck::check_record;
 use rulecheck::check_rules;
 use rulesheet::form::RuleForm;
 use run::list_room;
 use sheet::record::{RecordForm, wide};
-use sheet::refusal::{Checked, Refusal};
+use sheet::refusal::{Checked, Refusal, Refused};
 
 // Judges a record by rules, whatever the words, texts and areas: valid, invalid or refused. A refused
 // call leaves the areas as they were. Otherwise the first rows x schemas cells tell what became of each
@@ -64,13 +64,9 @@ fn judge_by_record<'a>(
 ) -> Answer
     ensures { leaves (way_by cut) «record».now text.now rules.now rule_text.now cells.old list.old result cells.new list.new }
 {
-    match check_record(record, text) {
-        Checked::Accepted(n) => {
-            let checked = check_rules(rules, rule_text);
-            judge_checked(record, text, rules, rule_text, cells, list, cut, n, checked)
-        }
-        Checked::Refused(refusal, place) => Answer::Refused(refusal, place),
-    }
+    let n = check_record(record, text)?;
+    let checked = check_rules(rules, rule_text);
+    judge_checked(record, text, rules, rule_text, cells, list, cut, n, checked)
 }
 
 // The record is in order, with n rows, and `checked` is what the check of the rules gave.
@@ -89,12 +85,8 @@ pub fn judge_checked<'a>(
     requires checked_is_rules_outcome { outcome_of checked ≡ rules_outcome rules.now rule_text.now }
     ensures { leaves (way_by cut) «record».now text.now rules.now rule_text.now cells.old list.old result cells.new list.new }
 {
-    match checked {
-        Checked::Accepted(m) => judge_in_areas(
-            record, text, rules, rule_text, cells, list, cut, n, m,
-        ),
-        Checked::Refused(refusal, place) => Answer::Refused(refusal, place),
-    }
+    let m = checked?;
+    judge_in_areas(record, text, rules, rule_text, cells, list, cut, n, m)
 }
 
 // The rules are in order too, with m schemas.
@@ -113,23 +105,28 @@ fn judge_in_areas<'a>(
     requires rule_text_value { rules_outcome rules.now rule_text.now ≡ accepted m }
     ensures { leaves (way_by cut) «record».now text.now rules.now rule_text.now cells.old list.old result cells.new list.new }
 {
-    let size = wide(n * m);
+    let pairs = n * m;
+    let size = wide(pairs);
     if cells.len() < size {
-        return Answer::Refused(Refusal::FewCells, n * m);
+        return Err(Refused {
+            refusal: Refusal::FewCells,
+            place: pairs,
+        });
     }
     if list.len() < list_room(size, cut) {
-        return Answer::Refused(Refusal::ShortList, n * m);
+        return Err(Refused {
+            refusal: Refusal::ShortList,
+            place: pairs,
+        });
     }
     let form = RecordForm::of(record);
     let rule_form = RuleForm::of(rules);
     let v = run::run(
         record, text, rules, rule_text, cells, list, form, rule_form, cut,
     );
-    let count = v.count;
-    let marked = v.marked;
-    if v.ok {
-        Answer::Valid(count, marked)
-    } else {
-        Answer::Invalid(count, marked)
-    }
+    Ok(Judged {
+        valid: v.ok,
+        pairs: v.count,
+        marked: v.marked,
+    })
 }

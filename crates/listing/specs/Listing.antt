@@ -2,12 +2,12 @@
 -- A call is refused, before anything is judged, by the first of three lines: 30, a listing whose length four does not divide, or of more than 512 records (place 0); 31, a
 -- range that does not lie in its slice (place: the lowest such record); 32, fewer answers than records (place: the records given).
 -- Assumes nothing.
-use Rattle.std.specs.Prelude.{ℕ, ◌+◌, ◌*◌, ◌/◌, ◌%◌, ◌≤◌, ◌<◌, Bool, false, not, ◌||◌, List, [], ◌∷◌, ◌≡◌, eqb, ltb, length, get_or}
+use Rattle.std.specs.Prelude.{ℕ, ◌+◌, ◌*◌, ◌/◌, ◌%◌, ◌≤◌, ◌<◌, Bool, false, not, ◌||◌, Result, Ok, Err, List, [], ◌∷◌, ◌≡◌, eqb, ltb, length, get_or}
 use Rattle.text.specs.declared.Range.{Range}
 use Rattle.text.specs.Part.{fits}
 use Rattle.sheet.specs.Refusals.{Outcome, accepted, refused, Line, lowest_line, first_line}
-use Rattle.listing.specs.declared.Queued.{Queued}
-use Rattle.listing.specs.declared.Queued.TheVariants.{Answered, BadListing, Outside, FewAnswers}
+use Rattle.listing.specs.declared.QueueRefused.{QueueRefused}
+use Rattle.listing.specs.declared.QueueRefused.TheVariants.{BadListing, Outside, FewAnswers}
 
 abbrev pub most_records : ℕ
 most_records = 512
@@ -41,11 +41,14 @@ unfoldable pub queue_outcome : (words bytes answers : ℕ) → List ℕ → Outc
 queue_outcome words bytes answers listing = first_line (queue_lines words bytes answers listing) (records_in listing)
 
 -- an answer of the call, in 02's numbers
+abbrev pub Queued : Type 0
+Queued = Result ℕ QueueRefused
+
 abbrev pub queued_outcome : Queued → Outcome
-queued_outcome (Answered many) = accepted many
-queued_outcome BadListing = refused 30 0
-queued_outcome (Outside place) = refused 31 place
-queued_outcome (FewAnswers place) = refused 32 place
+queued_outcome (Ok many) = accepted many
+queued_outcome (Err BadListing) = refused 30 0
+queued_outcome (Err (Outside place)) = refused 31 place
+queued_outcome (Err (FewAnswers place)) = refused 32 place
 
 -- every record lies in the slices, and there is an answer for each
 pub record Tested (words bytes answers : ℕ) (listing : List ℕ) : Type 0 where

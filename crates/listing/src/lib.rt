@@ -3,7 +3,7 @@
 // `specs/Listing.antt`.
 #![tactic(auto)]
 
-ghost use Rattle.std.specs.Prelude.{◌≡◌, ◌*◌, ◌<◌, length};
+ghost use Rattle.std.specs.Prelude.{◌≡◌, ◌*◌, ◌<◌, ◌≤◌, MatchOption, length};
 ghost use Rattle.laws.specs.Lowest.{lowest};
 ghost use Rattle.listing.specs.Listing.{records_in, words_at, text_at, outside, queue_outcome, queued_outcome};
 
@@ -12,15 +12,17 @@ use text::{Range, range_fits};
 // Four words for each of 512 records.
 const MOST_WORDS: usize = 2048;
 
-// What a queue is answered: how many records are answered; or why it is refused, with the place: the
-// lowest record outside the slices, or the records given. A listing that is none has place 0.
-#[derive(Clone, Copy)]
-pub enum Queued {
-    Answered(u32),
+// Why a queue is refused, with the place: the lowest record outside the slices, or the records given. A
+// listing that is none has place 0.
+#[derive(Clone, Copy, Debug, PartialEq, Eq)]
+pub enum QueueRefused {
     BadListing,
     Outside(u32),
     FewAnswers(u32),
 }
+
+// What a queue is answered: how many records are answered, or why it is refused.
+pub type Queued = Result<u32, QueueRefused>;
 
 // What a queue is answered that has this listing, slices of so many words and bytes, and an area for so
 // many answers.
@@ -29,17 +31,16 @@ pub fn test_listing(words: usize, bytes: usize, listing: &[u32], answers: usize)
 {
     let size = listing.len();
     if (size % 4 != 0) | (size > MOST_WORDS) {
-        return Queued::BadListing;
+        return Err(QueueRefused::BadListing);
+    }
+    if let Some(place) = first_outside(words, bytes, listing) {
+        return Err(QueueRefused::Outside(place as u32));
     }
     let many = records_in(listing);
-    let place = first_outside(words, bytes, listing);
-    if place < many {
-        return Queued::Outside(place as u32);
-    }
     if answers < many {
-        return Queued::FewAnswers(many as u32);
+        return Err(QueueRefused::FewAnswers(many as u32));
     }
-    Queued::Answered(many as u32)
+    Ok(many as u32)
 }
 
 // How many records are given.
@@ -79,18 +80,14 @@ fn is_outside(words: usize, bytes: usize, listing: &[u32], k: usize) -> bool
     !range_fits(words, words_at(listing, k)) | !range_fits(bytes, text_at(listing, k))
 }
 
-// The lowest record that does not lie in slices of so many words and bytes, or how many there are.
-fn first_outside(words: usize, bytes: usize, listing: &[u32]) -> usize
-    ensures { result ≡ lowest (outside words bytes listing.now) (records_in listing.now) }
+// The lowest record that does not lie in slices of so many words and bytes.
+fn first_outside(words: usize, bytes: usize, listing: &[u32]) -> Option<usize>
+    ensures { MatchOption result (records_in listing.now ≤ lowest (outside words bytes listing.now) (records_in listing.now)) (λ k. (k < records_in listing.now) × (k ≡ lowest (outside words bytes listing.now) (records_in listing.now))) }
 {
-    let many = records_in(listing);
-    let mut place = many;
-    let mut k = many;
-    while k > 0 {
-        k -= 1;
+    for k in 0..records_in(listing) {
         if is_outside(words, bytes, listing, k) {
-            place = k;
+            return Some(k);
         }
     }
-    place
+    None
 }

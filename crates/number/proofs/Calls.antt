@@ -1,4 +1,6 @@
 -- What a call's number asks and tells.
+--     counts          the count of a verdict
+--     unmarked        its number, whatever is marked
 --     count_fits      the count of every call fits a word
 --     call_told       the number and the areas, from what the call leaves
 --     outcome_one     any two outcomes that the promise allows are equal
@@ -20,13 +22,18 @@ use Rattle.meaning.specs.Rules.{Way}
 use Rattle.meaning.specs.Answer.{Left, verdict, list_room, number_for_c, judged, judge}
 use Rattle.meaning.proofs.Answers.{record_refused, rules_refused, cells_short, list_short, call_judged, fits, size_small}
 use Rattle.meaning.proofs.Settled.{all_few}
-use Rattle.answer.specs.declared.Answer as J
+use Rattle.answer.specs.Call as J
 use Rattle.answer.specs.Call.{answer_of, leaves}
 use Rattle.number.specs.Called.{counted, Called}
 
-counts : (ok : Bool) (count marks : ℕ) → counted (verdict ok count marks) ≡ count
+pub counts : (ok : Bool) (count marks : ℕ) → counted (verdict ok count marks) ≡ count
 counts true count marks = refl
 counts false count marks = refl
+
+-- the marked children are not told
+pub unmarked : (ok : Bool) (count marks : ℕ) → number_for_c (verdict ok count 0) ≡ number_for_c (verdict ok count marks)
+unmarked true count marks = refl
+unmarked false count marks = refl
 
 module _ (w : Way) (ws ts rs us cs ls : List ℕ) where
   abbrev Fits : Type 0

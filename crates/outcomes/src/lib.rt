@@ -4,7 +4,7 @@
 // The contracts cite `number_for_c` of crate `meaning`, and `outcome_answer` of crate `number`.
 #![tactic(auto)]
 
-ghost use Rattle.std.specs.Prelude.{◌≡◌};
+ghost use Rattle.std.specs.Prelude.{◌≡◌, Err};
 ghost use Rattle.sheet.specs.Refusals.{outcome_of};
 ghost use Rattle.sheetcheck.specs.LastWord.{outcome_by_kind};
 ghost use Rattle.laying.specs.Laying.{outcome_of as read_outcome};
@@ -13,10 +13,9 @@ ghost use Rattle.meaning.specs.Answer.{number_for_c};
 ghost use Rattle.number.specs.Called.{outcome_answer};
 
 use laying::Answer;
-use listing::Queued;
+use listing::{QueueRefused, Queued};
 use number::{number_of_count, number_of_refusal};
 use sheet::refusal::Checked;
-use sheetcheck::ByKind;
 
 // The number of what reading gives.
 pub fn number_of_read(answer: Answer) -> u64
@@ -29,12 +28,12 @@ pub fn number_of_read(answer: Answer) -> u64
 }
 
 // The number of what the check of a sheet gives.
-pub fn number_of_kind(found: ByKind) -> u64
+pub fn number_of_kind(found: Option<Checked>) -> u64
     ensures { result ≡ number_for_c (outcome_answer (outcome_by_kind found)) }
 {
     match found {
-        ByKind::Known(checked) => number_of_checked(checked),
-        ByKind::Unknown => number_of_refusal(sheetcheck::UNKNOWN_KIND, 0),
+        Some(checked) => number_of_checked(checked),
+        None => number_of_refusal(sheetcheck::UNKNOWN_KIND, 0),
     }
 }
 
@@ -43,8 +42,8 @@ fn number_of_checked(checked: Checked) -> u64
     ensures { result ≡ number_for_c (outcome_answer (outcome_of checked)) }
 {
     match checked {
-        Checked::Accepted(rows) => number_of_count(rows),
-        Checked::Refused(refusal, place) => number_of_refusal(refusal.number(), place),
+        Ok(rows) => number_of_count(rows),
+        Err(refused) => number_of_refusal(refused.refusal.number(), refused.place),
     }
 }
 
@@ -53,9 +52,18 @@ pub fn number_of_queued(queued: Queued) -> u64
     ensures { result ≡ number_for_c (outcome_answer (queued_outcome queued)) }
 {
     match queued {
-        Queued::Answered(many) => number_of_count(many),
-        Queued::BadListing => number_of_refusal(30, 0),
-        Queued::Outside(place) => number_of_refusal(31, place),
-        Queued::FewAnswers(many) => number_of_refusal(32, many),
+        Ok(many) => number_of_count(many),
+        Err(refused) => number_of_queue_refused(refused),
+    }
+}
+
+// The number of a queue's refusal.
+fn number_of_queue_refused(refused: QueueRefused) -> u64
+    ensures { result ≡ number_for_c (outcome_answer (queued_outcome (Err refused))) }
+{
+    match refused {
+        QueueRefused::BadListing => number_of_refusal(30, 0),
+        QueueRefused::Outside(place) => number_of_refusal(31, place),
+        QueueRefused::FewAnswers(many) => number_of_refusal(32, many),
     }
 }

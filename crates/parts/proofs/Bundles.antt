@@ -7,7 +7,7 @@
 use mathlib.Core.Bool.{Bool, true, false, not, ◌||◌}
 use mathlib.Core.List.{List}
 use mathlib.Core.Logic.{⊎_elim}
-use mathlib.Core.Path.{◌≡◌, refl, sym}
+use mathlib.Core.Path.{◌≡◌, refl, sym, ap}
 use Prim.Native.Nat.{ℕ, ◌+◌, ◌-◌, ◌%◌, ◌≤◌}
 use native.Mathlib.Nat.{min-le_right}
 use native.Mathlib.Omega.{arith}
@@ -16,14 +16,15 @@ use lib.ListN.{length, take, drop, length-take, length-drop}
 use borrow.Author.Tests.{ltb-false, eqb-true, not-false}
 use Rattle.laws.proofs.Tests.{decide, neither}
 use Rattle.parts.specs.declared.Lengths.{Lengths}
-use Rattle.parts.specs.declared.Bundle.TheVariants.{Bad, Good}
-use Rattle.parts.specs.Bundle.{bundle_max, trailer_bytes, word_bytes, lengths_at, record_lengths, rule_lengths, missized, misfit, bad, parts_of}
+use Rattle.parts.specs.declared.Parts.{Parts}
+use Rattle.std.specs.Prelude.{Some, None}
+use Rattle.parts.specs.Bundle.{bundle_max, trailer_bytes, word_bytes, lengths_at, record_lengths, rule_lengths, missized, misfit, bad, parts, parts_of}
 
 pub size_enough : (size : ℕ) → missized size ≡ false → trailer_bytes ≤ size
 size_enough size e = ltb-false size trailer_bytes (neither (ltb bundle_max size) (ltb size trailer_bytes) e).1
 
 module _ (bs : List ℕ) where
-  pub size_bad : missized (length bs) ≡ true → Bad ≡ parts_of bs
+  pub size_bad : missized (length bs) ≡ true → None ≡ parts_of bs
   unfolding bad parts_of
   size_bad e = rw e
 
@@ -37,11 +38,11 @@ module _ (bs : List ℕ) where
     unfolding rule_lengths
     rules_are = sym of_rules
 
-    pub lengths_bad : misfit (length bs) a b ≡ true → Bad ≡ parts_of bs
+    pub lengths_bad : misfit (length bs) a b ≡ true → None ≡ parts_of bs
     unfolding bad parts_of
     lengths_bad e = rw (sized, record_is, rules_are, e)
 
-    pub lengths_good : misfit (length bs) a b ≡ false → Good a b ≡ parts_of bs
+    pub lengths_good : misfit (length bs) a b ≡ false → Some (parts a b) ≡ parts_of bs
     unfolding bad parts_of
     lengths_good e = rw (sized, record_is, rules_are, e)
 
@@ -60,12 +61,12 @@ rule_text a b = rules a + b.words
 abbrev pub end : Lengths → Lengths → ℕ
 end a b = rule_text a b + b.text
 
-module _ (bs : List ℕ) (a b : Lengths) (good : parts_of bs ≡ Good a b) where
+module _ (bs : List ℕ) (a b : Lengths) (good : parts_of bs ≡ Some (parts a b)) where
   not_bad : bad bs ≡ false
   unfolding parts_of
-  not_bad = ⊎_elim (λ (t : bad bs ≡ true). let z : Bad ≡ Good a b = rw t at good in cc) (λ t. t) (decide (bad bs))
+  not_bad = ⊎_elim (λ (t : bad bs ≡ true). let z : None ≡ Some (parts a b) = rw t at good in cc) (λ t. t) (decide (bad bs))
 
-  lengths_are : Good (record_lengths bs) (rule_lengths bs) ≡ Good a b
+  lengths_are : Some (parts (record_lengths bs) (rule_lengths bs)) ≡ Some (parts a b)
   unfolding parts_of
   lengths_are = rw not_bad at good
 
@@ -75,8 +76,9 @@ module _ (bs : List ℕ) (a b : Lengths) (good : parts_of bs ≡ Good a b) where
 
   whole : end a b + trailer_bytes ≡ length bs
   whole =
-      let e : record_lengths bs ≡ a = (let z = lengths_are in cc) in
-      let f : rule_lengths bs ≡ b = (let z = lengths_are in cc) in
+      let same : parts (record_lengths bs) (rule_lengths bs) ≡ parts a b = (let z = lengths_are in cc) in
+      let e = ap (λ (p : Parts). p.of_record) same in
+      let f = ap (λ (p : Parts). p.of_rules) same in
       let t : misfit (length bs) a b ≡ false = rw (e, f) at both.1 in
       let sum = eqb (end a b + trailer_bytes) (length bs) in
       let four = eqb (a.words % word_bytes) 0 in

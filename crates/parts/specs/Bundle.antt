@@ -2,11 +2,10 @@
 -- Lengths and sheets are words of four bytes, little-endian. Only the two parts that are words must be divisible by 4, so the rule words may start at
 -- any byte; a part may be empty.
 -- Assumes nothing.
-use Rattle.std.specs.Prelude.{Bool, cond, not, ◌||◌, List, ◌++◌, map, ◌≡◌, ℕ, ◌+◌, ◌-◌, ◌*◌, ◌/◌, ◌%◌, ◌^◌, ◌<◌, eqb, ltb, length, get_or, drop}
+use Rattle.std.specs.Prelude.{Bool, cond, not, Option, Some, None, ◌||◌, List, ◌++◌, map, ◌≡◌, ℕ, ◌+◌, ◌-◌, ◌*◌, ◌/◌, ◌%◌, ◌^◌, ◌<◌, eqb, ltb, length, get_or, drop}
 use Rattle.meaning.specs.Lists.{range}
 use Rattle.parts.specs.declared.Lengths.{Lengths}
-use Rattle.parts.specs.declared.Bundle.{Bundle}
-use Rattle.parts.specs.declared.Bundle.TheVariants.{Bad, Good}
+use Rattle.parts.specs.declared.Parts.{Parts}
 
 abbrev pub bundle_max : ℕ
 bundle_max = 65_536
@@ -58,8 +57,11 @@ misfit size a b =
 unfoldable pub bad : List ℕ → Bool
 bad bs = missized (length bs) || misfit (length bs) (record_lengths bs) (rule_lengths bs)
 
-unfoldable pub parts_of : List ℕ → Bundle
-parts_of bs = cond (bad bs) Bad (Good (record_lengths bs) (rule_lengths bs))
+abbrev pub parts : Lengths → Lengths → Parts
+parts a b = record { of_record = a; of_rules = b }
+
+unfoldable pub parts_of : List ℕ → Option Parts
+parts_of bs = cond (bad bs) None (Some (parts (record_lengths bs) (rule_lengths bs)))
 
 -- lengths that were read at a place of the trailer; each is a word
 pub record LengthsRead (bs : List ℕ) (at : ℕ) (r : Lengths) : Type 0 where

@@ -23,29 +23,32 @@ pub struct Lengths {
     pub text: usize,
 }
 
-// A good bundle's lengths: the record's, and the rules'.
+// A good bundle's lengths.
 #[derive(Clone, Copy)]
-pub enum Bundle {
-    Bad,
-    Good(Lengths, Lengths),
+pub struct Parts {
+    pub of_record: Lengths,
+    pub of_rules: Lengths,
 }
 
-// Whether a bundle is good, and how long its parts then are.
-pub fn parts_of(bundle: &[u8]) -> Bundle
+// How long the parts of a bundle are, if it is good.
+pub fn parts_of(bundle: &[u8]) -> Option<Parts>
     ensures { result ≡ parts_of bundle.now }
 {
     let size = bundle.len();
     if (BUNDLE_MAX < size) | (size < TRAILER) {
-        return Bundle::Bad;
+        return None;
     }
     let trailer = size - TRAILER;
     let of_record = lengths_at(bundle, trailer);
     let of_rules = lengths_at(bundle, trailer + 8);
     let all = of_record.words + of_record.text + of_rules.words + of_rules.text;
     if (all + TRAILER != size) | (of_record.words % WORD != 0) | (of_rules.words % WORD != 0) {
-        return Bundle::Bad;
+        return None;
     }
-    Bundle::Good(of_record, of_rules)
+    Some(Parts {
+        of_record,
+        of_rules,
+    })
 }
 
 // The two lengths that the trailer has at this place.
@@ -65,10 +68,8 @@ pub fn read_words(bytes: &[u8], words: &mut [u32]) -> usize
     ensures { Reads bytes.now words.old result words.new }
 {
     let count = bytes.len() / WORD;
-    let mut i = 0;
-    while i < count {
+    for i in 0..count {
         words[i] = word_at(bytes, i * WORD);
-        i += 1;
     }
     count
 }
@@ -78,14 +79,5 @@ fn word_at(bytes: &[u8], at: usize) -> u32
     requires { at + word_bytes ≤ length bytes.now }
     ensures { result ≡ word_at bytes.now at }
 {
-    byte(bytes[at])
-        + byte(bytes[at + 1]) * 256
-        + byte(bytes[at + 2]) * 65_536
-        + byte(bytes[at + 3]) * 16_777_216
-}
-
-fn byte(b: u8) -> u32
-    ensures { (result ≡ b) × (result < 256) }
-{
-    b as u32
+    u32::from_le_bytes([bytes[at], bytes[at + 1], bytes[at + 2], bytes[at + 3]])
 }

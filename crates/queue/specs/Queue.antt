@@ -8,8 +8,7 @@ use Rattle.sheet.specs.Refusals.{Outcome, accepted, refused}
 use Rattle.meaning.specs.Lists.{range}
 use Rattle.meaning.specs.Rules.{whole}
 use Rattle.meaning.specs.Answer.{number_for_c, judge}
-use Rattle.listing.specs.declared.Queued.{Queued}
-use Rattle.listing.specs.Listing.{records_in, words_at, text_at, queue_outcome, queued_outcome}
+use Rattle.listing.specs.Listing.{records_in, words_at, text_at, Queued, queue_outcome, queued_outcome}
 
 -- the answers' numbers, and the areas, once some records were judged
 pub record Judged : Type 0 where

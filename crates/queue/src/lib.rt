@@ -32,15 +32,12 @@ pub fn judge_queue<'a>(
 ) -> Queued
     ensures { queue_leaves words.now bytes.now listing.now rules.now rule_text.now cells.old list.old answers.old result cells.new list.new answers.new }
 {
-    let queued = test_listing(words.len(), bytes.len(), listing, answers.len());
-    let Queued::Answered(_) = queued else {
-        return queued;
-    };
+    let many = test_listing(words.len(), bytes.len(), listing, answers.len())?;
     let checked = check_rules(rules, rule_text);
     judge_all(
         words, bytes, listing, rules, rule_text, cells, list, answers, checked,
     );
-    queued
+    Ok(many)
 }
 
 // Judges the records of a listing that was tested, by rules of which `checked` is what their check gave.
@@ -59,12 +56,9 @@ fn judge_all<'a>(
     requires rules_checked { RulesChecked rules.now rule_text.now checked }
     ensures { AllJudged words.now bytes.now listing.now rules.now rule_text.now cells.old list.old answers.old cells.new list.new answers.new }
 {
-    let many = records_in(listing);
-    let mut i = 0;
-    while i < many {
+    for i in 0..records_in(listing) {
         answers[i] = judge_listed(
             words, bytes, listing, rules, rule_text, cells, list, checked, i,
         );
-        i += 1;
     }
 }

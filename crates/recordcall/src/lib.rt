@@ -63,10 +63,8 @@ fn judge_record<'a>(
     requires { RulesChecked rules.now rule_text.now checked }
     ensures { call_leaves «record».now text.now rules.now rule_text.now cells.old list.old result cells.new list.new }
 {
-    match check_record(record, text) {
-        Checked::Accepted(n) => judge_checked(
-            record, text, rules, rule_text, cells, list, false, n, checked,
-        ),
-        Checked::Refused(refusal, place) => Answer::Refused(refusal, place),
-    }
+    let n = check_record(record, text)?;
+    judge_checked(
+        record, text, rules, rule_text, cells, list, false, n, checked,
+    )
 }

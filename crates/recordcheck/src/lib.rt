@@ -13,7 +13,7 @@ ghost use Rattle.recordcheck.specs.Order.{Begun, Ordered};
 
 use reach::is_ascii;
 use sheet::record::RecordForm;
-use sheet::refusal::{Checked, Refusal};
+use sheet::refusal::{Checked, Refusal, Refused};
 
 // The answer where all rows are in order: whether their text is UTF-8 is left to ask, and a text of
 // ASCII is.
@@ -23,13 +23,11 @@ fn check_texts(words: &[u32], text: &[u8], form: RecordForm) -> Checked
 {
     let rows = form.rows;
     if is_ascii(text) {
-        return Checked::Accepted(rows);
+        return Ok(rows);
     }
     let bad = recordtexts::first_not_utf8(words, text, form);
-    if bad < rows {
-        return Checked::Refused(Refusal::NotUtf8, bad);
-    }
-    Checked::Accepted(rows)
+    Refusal::NotUtf8.line(0, bad, rows)?;
+    Ok(rows)
 }
 
 // The answer where the trailer is in order, line by line of the table.
@@ -39,23 +37,13 @@ fn check_lines(words: &[u32], text: &[u8], form: RecordForm) -> Checked
 {
     let rows = form.rows;
     let pass = recordlayout::pass_rows(words, form, text.len());
-    let fault = pass.fault;
-    if fault < rows {
-        return Checked::Refused(Refusal::RecordLayout, fault);
-    }
+    Refusal::RecordLayout.line(0, pass.fault, rows)?;
     let again = recordnames::first_repeated(words, text, form);
-    if again < rows {
-        return Checked::Refused(Refusal::RepeatedName, again);
-    }
+    Refusal::RepeatedName.line(0, again, rows)?;
     let bad = recordtexts::first_not_utf8(words, text, form);
-    if bad < rows {
-        return Checked::Refused(Refusal::NotUtf8, bad);
-    }
-    let deep = pass.deep;
-    if deep < rows {
-        return Checked::Refused(Refusal::TooDeep, deep);
-    }
-    Checked::Accepted(rows)
+    Refusal::NotUtf8.line(0, bad, rows)?;
+    Refusal::TooDeep.line(0, pass.deep, rows)?;
+    Ok(rows)
 }
 
 // Checks a record sheet, whatever the words and the text: accepted with its number of rows, or
@@ -64,7 +52,10 @@ pub fn check_record(words: &[u32], text: &[u8]) -> Checked
     ensures { outcome_of result ≡ record_outcome words.now text.now }
 {
     if !recordfields::trailer_ok(words, text.len()) {
-        return Checked::Refused(Refusal::RecordTrailer, 0);
+        return Err(Refused {
+            refusal: Refusal::RecordTrailer,
+            place: 0,
+        });
     }
     let form = RecordForm::of(words);
     if order::in_order(words, text, form) {

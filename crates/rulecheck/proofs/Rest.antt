@@ -1,5 +1,6 @@
 -- The rule check's answers after the lines up to 7 were passed, and the form after 5.
 --     trailer_formed                                  the form, after 5
+--     places_fit                                      places are words
 --     rest_text, rest_loop, rest_chain, rest_none, rest_short, rest_plain     the lines after 7, of a sheet that passed those up to it
 -- Assumes nothing.
 use mathlib.Core.Bool.{not}
@@ -16,7 +17,7 @@ use Rattle.rulesheet.specs.declared.form.RuleForm.{RuleForm}
 use Rattle.rulesheet.specs.Sheet.{schemas_word, clauses_word, entries_word, next_of}
 use Rattle.rulesheet.specs.Faults.{words_ok, text_ok, schema_fault, clause_fault, entry_fault, repeated, not_utf8}
 use Rattle.rulesheet.specs.Read.{RulesFormed}
-use Rattle.rulesheet.proofs.Trailers.{form_m, form_c, form_e}
+use Rattle.rulesheet.proofs.Trailers.{facts, form_m, form_c, form_e}
 use Rattle.unguarded.specs.Graph.{chain_steps, chain, on_loop}
 use Rattle.unguarded.specs.Places.{chain_place}
 use Rattle.unguarded.proofs.Grounds.{none_looped}
@@ -29,6 +30,10 @@ use Rattle.rules.proofs.Checks.{text_length, at_text, at_loop, at_chain, no_line
 
 pub trailer_formed : (ws ts : List ℕ) (form : RuleForm) → TrailerFine ws ts form → RulesFormed ws form
 trailer_formed ws ts form fine = record { trailer = left (words_ok ws) (text_ok ws (length ts)) fine.good; same_form = fine.same_form }
+
+-- each place is a word
+pub places_fit : (ws ts : List ℕ) (form : RuleForm) → TrailerFine ws ts form → form.m + form.c + form.e < 4294967296
+places_fit ws ts form fine = let f = trailer_formed ws ts form fine in omega (arith, (facts ws form f).few, (facts ws form f).few_clauses, (facts ws form f).few_entries, form_m ws form f, form_c ws form f, form_e ws form f)
 
 -- a sheet that passed the lines up to 7, line by line
 module _ (ws ts : List ℕ) (form : RuleForm) (laid : Laid ws ts form) where

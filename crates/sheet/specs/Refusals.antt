@@ -1,11 +1,10 @@
 -- The refusal table (paper 01, "Refusal table"): its lines are asked in order, and the first that applies gives the refusal's number and place.
 -- Assumes nothing.
-use Rattle.std.specs.Prelude.{Bool, cond, List, [], ◌∷◌, ℕ, ◌+◌, ltb}
+use Rattle.std.specs.Prelude.{Bool, cond, List, [], ◌∷◌, ◌≡◌, ℕ, ◌+◌, ◌<◌, ltb, Result, Ok, Err}
 use Rattle.laws.specs.Lowest.{lowest}
 use Rattle.sheet.specs.declared.refusal.Refusal.{Refusal}
 use Rattle.sheet.specs.declared.refusal.Refusal.TheVariants.{RecordTrailer, RecordLayout, RepeatedName, TooDeep, RuleTrailer, RuleLayout, RepeatedEntry, UnguardedLoop, LongChain, FewCells, ShortList, NotUtf8}
-use Rattle.sheet.specs.declared.refusal.Checked.{Checked}
-use Rattle.sheet.specs.declared.refusal.Checked.TheVariants.{Accepted, Refused}
+use Rattle.sheet.specs.declared.refusal.Refused.{Refused}
 
 -- the number of each refusal: 01's, and 13 of request #102
 abbrev pub refusal_number : Refusal → ℕ
@@ -28,9 +27,15 @@ pub data Outcome : Type 0 where
   refused : ℕ → ℕ → Outcome
 
 -- an answer, in 01's numbers
-abbrev pub outcome_of : Checked → Outcome
-outcome_of (Accepted rows) = accepted rows
-outcome_of (Refused refusal place) = refused (refusal_number refusal) place
+abbrev pub outcome_of : Result ℕ Refused → Outcome
+outcome_of (Ok rows) = accepted rows
+outcome_of (Err r) = refused (refusal_number r.refusal) r.place
+
+-- what a check answers at a line that applies: places count the things `before` first, and the lowest at fault is one of `count`
+pub record Applies (refusal : Refusal) (before lowest count : ℕ) (r : Refused) : Type 0 where
+  pub among : lowest < count
+  pub why : r.refusal ≡ refusal
+  pub at : r.place ≡ before + lowest
 
 -- a line of the table: its number, whether it applies, and its place
 pub record Line : Type 0 where

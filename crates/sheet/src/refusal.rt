@@ -1,9 +1,9 @@
 // The answers of a check. `specs/Refusals.antt` gives each case 01's number and values.
-ghost use Rattle.std.specs.Prelude.{◌≡◌};
-ghost use Rattle.sheet.specs.Refusals.{refusal_number};
+ghost use Rattle.std.specs.Prelude.{◌≡◌, ◌+◌, ◌<◌, ◌≤◌, MatchResult};
+ghost use Rattle.sheet.specs.Refusals.{refusal_number, Applies};
 
 // Why a sheet is refused or, of `FewCells` and `ShortList`, why areas are too small for judging.
-#[derive(Clone, Copy)]
+#[derive(Clone, Copy, Debug, PartialEq, Eq)]
 pub enum Refusal {
     RecordTrailer,
     RecordLayout,
@@ -19,12 +19,15 @@ pub enum Refusal {
     NotUtf8,
 }
 
-// What a check gives: the number of rows (of rules, the schemas), or the refusal and its place.
-#[derive(Clone, Copy)]
-pub enum Checked {
-    Accepted(u32),
-    Refused(Refusal, u32),
+// A refusal and its place.
+#[derive(Clone, Copy, Debug, PartialEq, Eq)]
+pub struct Refused {
+    pub refusal: Refusal,
+    pub place: u32,
 }
+
+// What a check gives: the number of rows (of rules, the schemas), or why the sheet is refused.
+pub type Checked = Result<u32, Refused>;
 
 impl Refusal {
     // 01's number of the refusal.
@@ -45,5 +48,20 @@ impl Refusal {
             Refusal::ShortList => 11,
             Refusal::NotUtf8 => 13,
         }
+    }
+
+    // A line of the table: refused where the lowest at fault is one of the `count` things that it asks.
+    // Places count the things `before` them first.
+    pub fn line(self, before: u32, lowest: u32, count: u32) -> Result<(), Refused>
+        requires { before + count < 4294967296 }
+        ensures { MatchResult result (λ _. count ≤ lowest) (λ r. Applies self before lowest count r) }
+    {
+        if lowest < count {
+            return Err(Refused {
+                refusal: self,
+                place: before + lowest,
+            });
+        }
+        Ok(())
     }
 }

@@ -10,8 +10,8 @@ use lib.ListN.{length}
 use borrow.Author.Tests.{eq-eqb, ne_eqb}
 use Rattle.sheet.specs.declared.refusal.Refusal.{Refusal}
 use Rattle.sheet.specs.declared.refusal.Refusal.TheVariants.{RecordTrailer, RecordLayout, RepeatedName, TooDeep, RuleTrailer, RuleLayout, RepeatedEntry, UnguardedLoop, LongChain, FewCells, ShortList, NotUtf8}
-use Rattle.sheet.specs.declared.refusal.Checked.{Checked}
-use Rattle.sheet.specs.declared.refusal.Checked.TheVariants.{Accepted, Refused}
+use Rattle.sheet.specs.declared.refusal.Refused.{Refused}
+use Rattle.std.specs.Prelude.{Option, Some, None, Result, Ok, Err}
 use Rattle.sheet.specs.Refusals.{accepted, refused, refusal_number, outcome_of}
 use Rattle.sheet.specs.Record.{record_kind, kind_word}
 use Rattle.sheet.specs.Faults.{record_outcome}
@@ -19,8 +19,6 @@ use Rattle.sheet.proofs.Tables.{outcome_one}
 use Rattle.sheet.proofs.Acceptance.{clash}
 use Rattle.rulesheet.specs.Faults.{rule_kind}
 use Rattle.rules.specs.Check.{rules_outcome}
-use Rattle.sheetcheck.specs.declared.ByKind.{ByKind}
-use Rattle.sheetcheck.specs.declared.ByKind.TheVariants.{Known, Unknown}
 use Rattle.sheetcheck.specs.LastWord.{unknown_kind, outcome_by_kind, check_outcome}
 
 module _ (ws ts : List ℕ) where
@@ -57,12 +55,12 @@ another_number FewCells e = omega arith
 another_number ShortList e = omega arith
 another_number NotUtf8 e = omega arith
 
-known_is : (c : Checked) → outcome_of c ≡ refused unknown_kind 0 → ⊥
-known_is (Accepted rows) e = clash (accepted rows) rows unknown_kind 0 refl e
-known_is (Refused f place) e = let number : refusal_number f ≡ unknown_kind = cc in another_number f number
+known_is : (c : Result ℕ Refused) → outcome_of c ≡ refused unknown_kind 0 → ⊥
+known_is (Ok rows) e = clash (accepted rows) rows unknown_kind 0 refl e
+known_is (Err r) e = let number : refusal_number r.refusal ≡ unknown_kind = cc in another_number r.refusal number
 
-pub answer_one : (a b : ByKind) → outcome_by_kind a ≡ outcome_by_kind b → a ≡ b
-answer_one (Known c) (Known d) e = ap Known (outcome_one c d e)
-answer_one (Known c) Unknown e = absurd (known_is c e)
-answer_one Unknown (Known d) e = absurd (known_is d (sym e))
-answer_one Unknown Unknown e = refl
+pub answer_one : (a b : Option (Result ℕ Refused)) → outcome_by_kind a ≡ outcome_by_kind b → a ≡ b
+answer_one (Some c) (Some d) e = ap Some (outcome_one c d e)
+answer_one (Some c) None e = absurd (known_is c e)
+answer_one None (Some d) e = absurd (known_is d (sym e))
+answer_one None None e = refl

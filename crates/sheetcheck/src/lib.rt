@@ -15,29 +15,22 @@ use sheet::refusal::Checked;
 // The number of the refusal of a sheet of no known kind; its place is 0.
 pub const UNKNOWN_KIND: u32 = 12;
 
-// What the check answers: what the check of the sheet's kind gives, or that no kind is known. No
-// other call has the second case.
-#[derive(Clone, Copy)]
-pub enum ByKind {
-    Known(Checked),
-    Unknown,
-}
-
 // Checks a sheet, whatever the words and the text: accepted with its number of rows (of rules, the
-// schemas), or refused by the check of its kind, or of no known kind.
-pub fn check(words: &[u32], text: &[u8]) -> ByKind
+// schemas), or refused by the check of its kind; or none, where no kind is known. No other call has
+// that case.
+pub fn check(words: &[u32], text: &[u8]) -> Option<Checked>
     ensures { outcome_by_kind result ≡ check_outcome words.now text.now }
 {
     let n = words.len();
     if n == 0 {
-        return ByKind::Unknown;
+        return None;
     }
     let kind = words[n - 1];
     if kind == RecordForm::KIND {
-        return ByKind::Known(check_record(words, text));
+        return Some(check_record(words, text));
     }
     if kind == RuleForm::KIND {
-        return ByKind::Known(check_rules(words, text));
+        return Some(check_rules(words, text));
     }
-    ByKind::Unknown
+    None
 }

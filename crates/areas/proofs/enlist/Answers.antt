@@ -3,5 +3,5 @@ use mathlib.Core.Path.{sym}
 use lib.Seq.{set_out}
 use Rattle.areas.proofs.enlist.Goals as goal
 
-pub returns-then-list-count : goal.returns-then-list-count
-returns-then-list-count c = sym (set_out c.args.list.now c.args.count c.args.k c.if-list-count.true)
+pub returns-else-count-list : goal.returns-else-count-list
+returns-else-count-list c = sym (set_out c.args.list.now c.args.count c.args.k c.if-count-list.false)

@@ -5,22 +5,22 @@ use Rattle.areas.proofs.Writers.{marked_none, marked_more, writes_row}
 use Rattle.columns.proofs.take_marks.Goals as goal
 
 pub loop-i-init : goal.loop-i-init
-loop-i-init c = (omega arith, marked_none _ _ _ _ _)
+loop-i-init c = marked_none _ _ _ _ _
 
 pub overflow_add-kids : goal.overflow_add-kids
 overflow_add-kids c = omega (arith, c.requires.kids_end_fits)
 
 pub take_mark-requires : goal.take_mark-requires
-take_mark-requires c = writes_row c.requires.columns_in_cells c.loop-i.invariant.1.len (omega arith) (omega arith)
+take_mark-requires c = writes_row c.requires.columns_in_cells c.loop-i.invariant.len (omega arith) (omega arith)
 
 pub loop-i-preserved : goal.loop-i-preserved
 loop-i-preserved c =
     let w = c.requires.columns_in_cells in
-    let p = c.loop-i.invariant.1 in
-    (omega arith, marked_more p w.rule_in refl refl c.take_mark.ensures)
+    let p = c.loop-i.invariant in
+    (marked_more p w.rule_in refl refl c.take_mark.ensures)
 
 pub shape_of-cells : goal.shape_of-cells
-shape_of-cells c = c.loop-i.invariant.1.len
+shape_of-cells c = c.loop-i.invariant.len
 
 pub returns : goal.returns
-returns c = let e : c.loop-i.i ≡ c.args.kids.count = omega arith in rw e at c.loop-i.invariant.1
+returns c = let e : c.loop-i.i ≡ c.args.kids.count = omega arith in rw e at c.loop-i.invariant

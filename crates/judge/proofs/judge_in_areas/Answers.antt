@@ -6,22 +6,16 @@ use Rattle.meaning.specs.Answer.{list_room}
 use Rattle.lent.specs.Lent.{way_by}
 use Rattle.meaning.proofs.Answers.{cells_short, list_short, size_small}
 use Rattle.lent.proofs.Reading.{lt_by, le_by}
-use Rattle.judge.proofs.Calls.{record_trailer, rules_trailer, sheets_read, call_roomy, call_valid, call_invalid}
+use Rattle.judge.proofs.Calls.{record_trailer, rules_trailer, sheets_read, call_roomy, run_left}
 use borrow.Author.Rules.{rules}
 use Rattle.judge.proofs.judge_in_areas.Goals as goal
 
-pub overflow_mul-n : goal.overflow_mul-n
-overflow_mul-n c = omega (arith, size_small c.args.«record».now c.args.text.now c.args.rules.now c.args.rule_text.now c.args.n c.args.m c.requires.text_value c.requires.rule_text_value)
-
-pub overflow_mul-result : goal.overflow_mul-result
-overflow_mul-result c = omega (arith, size_small c.args.«record».now c.args.text.now c.args.rules.now c.args.rule_text.now c.args.n c.args.m c.requires.text_value c.requires.rule_text_value)
+pub overflow_mul-pairs : goal.overflow_mul-pairs
+overflow_mul-pairs c = omega (arith, size_small c.args.«record».now c.args.text.now c.args.rules.now c.args.rule_text.now c.args.n c.args.m c.requires.text_value c.requires.rule_text_value)
 
 pub returns-then-cells-size : goal.returns-then-cells-size
 returns-then-cells-size c =
     sym (cells_short (way_by c.args.cut) c.args.«record».now c.args.text.now c.args.rules.now c.args.rule_text.now c.args.cells.now c.args.list.now c.args.n c.requires.text_value c.args.m c.requires.rule_text_value (lt_by c.if-cells-size.true c.wide-size.ensures))
-
-pub overflow_mul-result-then-list-list_room : goal.overflow_mul-result-then-list-list_room
-overflow_mul-result-then-list-list_room c = omega (arith, size_small c.args.«record».now c.args.text.now c.args.rules.now c.args.rule_text.now c.args.n c.args.m c.requires.text_value c.requires.rule_text_value)
 
 pub returns-then-list-list_room : goal.returns-then-list-list_room
 returns-then-list-list_room c =
@@ -40,10 +34,6 @@ run-v-requires c = record {
   roomy = call_roomy c.args.«record».now c.args.text.now c.args.rules.now c.args.rule_text.now c.args.n c.args.m c.requires.text_value c.requires.rule_text_value (way_by c.args.cut) c.wide-size.ensures c.list_room.ensures c.if-cells-size.false c.if-list-list_room.false;
 }
 
-pub returns-then-v : goal.returns-then-v
-returns-then-v c =
-    call_valid c.args.«record».now c.args.text.now c.args.rules.now c.args.rule_text.now c.args.n c.args.m c.requires.text_value c.requires.rule_text_value (way_by c.args.cut) c.args.cells.now c.args.list.now c.wide-size.ensures c.list_room.ensures c.if-cells-size.false c.if-list-list_room.false c.run-v.result c.run-v.ensures c.if-v.true
-
-pub returns-else-v : goal.returns-else-v
-returns-else-v c =
-    call_invalid c.args.«record».now c.args.text.now c.args.rules.now c.args.rule_text.now c.args.n c.args.m c.requires.text_value c.requires.rule_text_value (way_by c.args.cut) c.args.cells.now c.args.list.now c.wide-size.ensures c.list_room.ensures c.if-cells-size.false c.if-list-list_room.false c.run-v.result c.run-v.ensures c.if-v.false
+pub returns : goal.returns
+returns c =
+    run_left c.args.«record».now c.args.text.now c.args.rules.now c.args.rule_text.now c.args.n c.args.m c.requires.text_value c.requires.rule_text_value (way_by c.args.cut) c.args.cells.now c.args.list.now c.wide-size.ensures c.list_room.ensures c.if-cells-size.false c.if-list-list_room.false c.run-v.result c.run-v.ensures

@@ -1,27 +1,22 @@
-use mathlib.Core.Path.{◌≡◌, sym, ap, ◌∙◌}
-use Prim.Native.Nat.{ℕ, ◌+◌, ◌-◌}
-use native.Mathlib.Nat.{sub-zero}
+use mathlib.Core.Path.{sym, ◌∙◌}
 use native.Mathlib.Omega.{arith}
-use Rattle.laws.proofs.Searches.{left, found, passed, ended}
+use borrow.Author.Count.{below_more}
+use Rattle.laws.proofs.Searches.{lowest_is}
 use Rattle.listing.specs.Listing.{records_in, outside}
 use Rattle.listing.proofs.first_outside.Goals as goal
 
-pub loop-k-init : goal.loop-k-init
-loop-k-init c =
-    (c.records_in-many.ensures, omega (arith, c.records_in-many.ensures), c.records_in-many.ensures ∙ sym (ended (outside c.args.words c.args.bytes c.args.listing.now) (records_in c.args.listing.now) (records_in c.args.listing.now) (omega arith)) ∙ ap (λ (k : ℕ). left (outside c.args.words c.args.bytes c.args.listing.now) (records_in c.args.listing.now) k) (sym c.records_in-many.ensures))
-
 pub is_outside-requires : goal.is_outside-requires
-is_outside-requires c =
-    omega (arith, c.loop-k.invariant.1)
+is_outside-requires c = omega (arith, c.records_in-k-end.ensures)
 
-pub loop-k-preserved-then-is_outside : goal.loop-k-preserved-then-is_outside
-loop-k-preserved-then-is_outside c =
-    (c.loop-k.invariant.0, omega (arith, c.loop-k.invariant.1), sym (found (outside c.args.words c.args.bytes c.args.listing.now) (records_in c.args.listing.now) (c.loop-k.k - 1) (omega (arith, c.loop-k.invariant.1)) (sym c.is_outside.ensures ∙ c.if-is_outside.true)))
+pub returns-then-is_outside : goal.returns-then-is_outside
+returns-then-is_outside c =
+    let test = outside c.args.words c.args.bytes c.args.listing.now in
+    (omega (arith, c.records_in-k-end.ensures), lowest_is test (records_in c.args.listing.now) c.loop-k.k (omega (arith, c.records_in-k-end.ensures)) c.loop-k.invariant (λ _. sym c.is_outside.ensures ∙ c.if-is_outside.true))
 
 pub loop-k-preserved : goal.loop-k-preserved
-loop-k-preserved c =
-    (c.loop-k.invariant.0, omega (arith, c.loop-k.invariant.1), (let e : c.loop-k.k ≡ (c.loop-k.k - 1) + 1 = omega arith in c.loop-k.invariant.2 ∙ ap (λ (k : ℕ). left (outside c.args.words c.args.bytes c.args.listing.now) (records_in c.args.listing.now) k) e ∙ sym (passed (outside c.args.words c.args.bytes c.args.listing.now) (records_in c.args.listing.now) (c.loop-k.k - 1) (omega (arith, c.loop-k.invariant.1)) (sym c.is_outside.ensures ∙ c.if-is_outside.false))))
+loop-k-preserved c = below_more _ _ c.loop-k.invariant (sym c.is_outside.ensures ∙ c.if-is_outside.false)
 
 pub returns : goal.returns
 returns c =
-    (let e : c.loop-k.k ≡ 0 = omega arith in rw (e, sub-zero) at c.loop-k.invariant.2)
+    let test = outside c.args.words c.args.bytes c.args.listing.now in
+    omega (arith, c.records_in-k-end.ensures, lowest_is test (records_in c.args.listing.now) (records_in c.args.listing.now) (omega arith) (λ j h. c.loop-k.invariant j (omega (arith, c.records_in-k-end.ensures))) (λ h. absurd (omega arith)))

@@ -1,20 +1,17 @@
+use mathlib.Core.Path.{◌∙◌}
 use native.Mathlib.Omega.{arith}
+use Rattle.number.proofs.Calls.{counts, unmarked}
 use Rattle.number.proofs.number_of.Goals as goal
 
-pub overflow_mul-result : goal.overflow_mul-result
-overflow_mul-result c = omega (arith, rw c.in-Valid.is at c.requires)
+pub number_of_judged-requires : goal.number_of_judged-requires
+number_of_judged-requires c =
+    let j = c.in-Ok.judged in
+    omega (arith, counts j.valid j.pairs j.marked, rw c.in-Ok.is at c.requires)
 
-pub overflow_mul-result-in-Invalid : goal.overflow_mul-result-in-Invalid
-overflow_mul-result-in-Invalid c = omega (arith, rw c.in-Invalid.is at c.requires)
+pub returns-in-Ok : goal.returns-in-Ok
+returns-in-Ok c =
+    let j = c.in-Ok.judged in
+    rw c.in-Ok.is (c.number_of_judged.ensures ∙ unmarked j.valid j.pairs j.marked)
 
-pub overflow_add-result : goal.overflow_add-result
-overflow_add-result c = omega (arith, rw c.in-Invalid.is at c.requires)
-
-pub returns-in-Valid : goal.returns-in-Valid
-returns-in-Valid c = rw c.in-Valid.is
-
-pub returns-in-Invalid : goal.returns-in-Invalid
-returns-in-Invalid c = rw c.in-Invalid.is
-
-pub returns-in-Refused : goal.returns-in-Refused
-returns-in-Refused c = rw (c.in-Refused.is, c.number_of_refusal.ensures, c.number.ensures)
+pub returns-in-Err : goal.returns-in-Err
+returns-in-Err c = rw (c.in-Err.is, c.number_of_refusal.ensures, c.number.ensures)

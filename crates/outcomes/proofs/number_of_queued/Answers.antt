@@ -1,13 +1,9 @@
 use Rattle.outcomes.proofs.number_of_queued.Goals as goal
 
-pub returns-in-Answered : goal.returns-in-Answered
-returns-in-Answered c =
-    rw c.in-Answered.is c.number_of_count.ensures
+pub returns-in-Ok : goal.returns-in-Ok
+returns-in-Ok c =
+    rw c.in-Ok.is c.number_of_count.ensures
 
-pub returns-in-Outside : goal.returns-in-Outside
-returns-in-Outside c =
-    rw c.in-Outside.is c.number_of_refusal-in-Outside.ensures
-
-pub returns-in-FewAnswers : goal.returns-in-FewAnswers
-returns-in-FewAnswers c =
-    rw c.in-FewAnswers.is c.number_of_refusal-in-FewAnswers.ensures
+pub returns-in-Err : goal.returns-in-Err
+returns-in-Err c =
+    rw c.in-Err.is c.number_of_queue_refused.ensures

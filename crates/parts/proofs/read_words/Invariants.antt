@@ -1,12 +1,8 @@
 -- `read_words` puts the words of the bytes in front, one after the other. Assumes nothing.
 use mathlib.Core.Path.{◌≡◌}
-use Prim.Native.Nat.{◌-◌, ◌≤◌}
 use lib.ListN.{length}
 use Rattle.parts.proofs.Words.{Put}
 use Rattle.parts.proofs.read_words.Given as goal
 
 abbrev pub invariant-loop-i : goal.invariant-loop-i
-invariant-loop-i l = (length l.words ≡ length l.initial.words) × (l.i ≤ l.count) × Put l.bytes l.initial.words l.words l.i
-
-abbrev pub decreases-loop-i : goal.decreases-loop-i
-decreases-loop-i l = l.count - l.i
+invariant-loop-i l = (length l.words ≡ length l.initial.words) × Put l.bytes l.initial.words l.words l.i

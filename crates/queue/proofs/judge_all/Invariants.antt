@@ -1,5 +1,4 @@
 use mathlib.Core.Path.{◌≡◌}
-use Prim.Native.Nat.{◌-◌}
 use borrow.Author.Rules.{rules}
 use lib.ListN.{length}
 use Rattle.listing.specs.Listing.{records_in}
@@ -8,8 +7,4 @@ use Rattle.queue.proofs.judge_all.Given as goal
 
 abbrev pub invariant-loop-i : goal.invariant-loop-i
 invariant-loop-i l =
-    (l.many ≡ records_in l.listing) × (length l.cells ≡ length l.initial.cells) × (length l.list ≡ length l.initial.list) × Going l.words l.bytes l.listing l.rules l.rule_text l.initial.cells l.initial.list l.initial.answers (records_in l.listing) l.cells l.list l.answers l.i
-
-abbrev pub decreases-loop-i : goal.decreases-loop-i
-decreases-loop-i l =
-    l.many - l.i
+    (length l.cells ≡ length l.initial.cells) × (length l.list ≡ length l.initial.list) × Going l.words l.bytes l.listing l.rules l.rule_text l.initial.cells l.initial.list l.initial.answers (records_in l.listing) l.cells l.list l.answers l.i

@@ -1,6 +1,6 @@
 -- `check_texts` meets its contract: where all rows are in order, no line of the table but 13 can apply. Assumes nothing.
-use mathlib.Core.Path.{sym}
 use native.Mathlib.Omega.{arith}
+use Rattle.sheet.proofs.Tables.{line_told}
 use Rattle.sheet.proofs.Checks.{at_text}
 use Rattle.recordcheck.proofs.Beginning.{formed, rows_are, text_is, text_fits, ascii_fine, all_passed}
 use Rattle.recordcheck.proofs.Ordering.{laid, no_fault, no_name, no_level}
@@ -23,14 +23,15 @@ first_not_utf8-bad-requires c =
     let b = c.requires.0 in
     (laid c.args.words.now c.args.text.now c.args.form (formed b) c.requires.1, text_is b, text_fits b)
 
-pub returns-then-bad-rows : goal.returns-then-bad-rows
-returns-then-bad-rows c =
+pub returns-in_err-line : goal.returns-in_err-line
+returns-in_err-line c =
     let b = c.requires.0 in
     let ws = c.args.words.now in
     let ts = c.args.text.now in
     let form = c.args.form in
-    sym (at_text ws ts b.good (no_fault ws ts form (formed b) c.requires.1) (no_name ws ts form (formed b) c.requires.1)
-    c.first_not_utf8-bad.result c.first_not_utf8-bad.ensures (omega (arith, rows_are b)))
+    let h = c.in_err-line.ensures in
+    line_told h _ (omega arith)
+    (at_text ws ts b.good (no_fault ws ts form (formed b) c.requires.1) (no_name ws ts form (formed b) c.requires.1) _ c.first_not_utf8-bad.ensures (omega (arith, rows_are b))) _ c.from_residual.ensures.1
 
 pub returns : goal.returns
 returns c =
@@ -39,4 +40,4 @@ returns c =
     let ts = c.args.text.now in
     let form = c.args.form in
     all_passed b (no_fault ws ts form (formed b) c.requires.1) (no_name ws ts form (formed b) c.requires.1)
-    (omega (arith, c.first_not_utf8-bad.ensures, rows_are b)) (no_level ws ts form (formed b) c.requires.1)
+    (omega (arith, c.in_ok-line.ensures, c.first_not_utf8-bad.ensures, rows_are b)) (no_level ws ts form (formed b) c.requires.1)
