@@ -14,6 +14,7 @@ ghost use Rattle.number.specs.Called.{outcome_answer};
 
 use laying::Refused;
 use listing::{QueueRefused, Queued};
+use listing::{QueueRefused, Queued};
 use number::{number_of_count, number_of_refusal};
 use sheet::refusal::Checked;
 
