@@ -11,7 +11,10 @@ ROOT = os.path.dirname(os.path.dirname(os.path.realpath(__file__)))
 STORERS = {('areas', 'clear'), ('areas', 'settle'), ('areas', 'write_mark')}
 FUNCTION = re.compile(r'^\s*(?:pub(?:\(crate\))? )?(?:extern "C" )?fn (\w+)', re.M)
 PUBLIC = re.compile(r'^\s*pub (?:extern "C" )?fn', re.M)
-STORE = re.compile(r'\b(\w+)\[[^\]]*\]\s*[-+*/%&|^]?=(?!=)')
+# By an index, or by one of the library's methods that write; a slice that is lent on is no store.
+STORE = re.compile(r'\b(\w+)(?:\[[^\]]*\])?(?:\[[^\]]*\]\s*[-+*/%&|^]?=(?!=)|\.(?:fill|fill_with|copy_from_slice|clone_from_slice|'
+                   r'copy_within|swap\w*|reverse|rotate_\w+|sort\w*|iter_mut|\w*chunks\w*_mut|split\w*_mut|get_mut|first_mut|last_mut|as_mut\w*)\()')
+LOOP = re.compile(r'\bfor [^\n]* in (?:&mut \*)?(\w+) \{')
 BYTES = re.compile(r'(\w+): &mut \[u8\]')
 
 
@@ -26,7 +29,7 @@ def stores(crate, text):
     """The functions of a crate's source that store into bytes that are lent to them."""
     for name, body in functions(text):
         lent = set(BYTES.findall(body))
-        if any(found in lent for found in STORE.findall(body)):
+        if any(found in lent for found in STORE.findall(body) + LOOP.findall(body)):
             yield crate, name
 
 
@@ -70,7 +73,9 @@ def main():
             print('%s::%s %s' % (crate, name, 'stores into lent bytes' if (crate, name) in seen else 'stores no more'))
     # The scan itself: a store elsewhere is seen, a comparison is none.
     for body, expected in (('fn f(cells: &mut [u8]) {\n    cells[0] = cells[0];\n}', 1), ('fn f(cells: &mut [u8]) -> bool {\n    cells[0] == 1\n}', 0),
-                           ('fn f(cells: &[u8], words: &mut [u32]) {\n    words[0] = 1;\n}', 0), ('fn f(cells: &mut [u8]) {\n    cells[at] += 4;\n}', 1)):
+                           ('fn f(cells: &[u8], words: &mut [u32]) {\n    words[0] = 1;\n}', 0), ('fn f(cells: &mut [u8]) {\n    cells[at] += 4;\n}', 1),
+                           ('fn f(cells: &mut [u8]) {\n    cells.fill(0);\n}', 1), ('fn f(cells: &mut [u8]) {\n    cells[..k].fill(0);\n}', 1),
+                           ('fn f(cells: &mut [u8]) {\n    for cell in cells {\n        *cell = 0;\n    }\n}', 1)):
         if len(list(stores('x', body))) == expected:
             passed += 1
         else:
