@@ -143,3 +143,7 @@ place_at n = get_or places n after
 -- r is where the byte leads from there, whatever the bracket
 abbrev pub LeadsWithin : ℕ → ℕ → Option Move → Type 0
 LeadsWithin place b r = (k : Math.Option Auto.Bracket) → r ≡ leads (moves (place_at place) k) b
+
+-- the bracket that a number tells: 1 a square one, 2 a curly one, any other none
+abbrev pub bracket_numbered : ℕ → Math.Option Auto.Bracket
+bracket_numbered n = get_or (none ∷ some square ∷ some curly ∷ []) n none

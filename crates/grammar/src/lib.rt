@@ -5,7 +5,7 @@
 ghost use Rattle.std.proofs.Math.Option.{none};
 ghost use Rattle.std.specs.Prelude.{◌≡◌, ◌≤◌, ◌<◌};
 ghost use Rattle.jsontext.specs.Automaton.{moves};
-ghost use Rattle.grammar.specs.Codes.{leads, bracket_at, place_at, LeadsWithin};
+ghost use Rattle.grammar.specs.Codes.{leads, bracket_at, bracket_numbered, place_at, LeadsWithin};
 
 mod numbers;
 mod ranges;
@@ -21,6 +21,19 @@ use crate::values::{ahead, at_end, colon, first_element, first_name, name};
 pub enum Bracket {
     Square,
     Curly,
+}
+
+impl Bracket {
+    // The bracket of a number, for who keeps numbers: 1 a square one, 2 a curly one, any other none.
+    pub fn of(number: u8) -> Option<Bracket>
+        ensures { bracket_at result ≡ bracket_numbered number }
+    {
+        match number {
+            1 => Some(Bracket::Square),
+            2 => Some(Bracket::Curly),
+            _ => None,
+        }
+    }
 }
 
 // What a step does to the open brackets.
