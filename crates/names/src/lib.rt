@@ -19,6 +19,15 @@ pub struct Names {
     pub count: usize,
 }
 
+// Names that may be compared, and the words and the text that they stand in.
+#[derive(Clone, Copy)]
+pub struct Lain<'a> {
+    pub words: &'a [u32],
+    pub text: &'a [u8],
+    pub names: Names,
+    pub ghost lying: { Lying words.now text.now names },
+}
+
 // Name i's range.
 pub fn range_at(words: &[u32], names: Names, i: usize) -> Range
     requires { names.base + names.stride * i + 1 < length words.now }
@@ -52,4 +61,14 @@ pub fn first_same(words: &[u32], text: &[u8], names: Names, i: usize) -> usize
         }
     }
     i
+}
+
+impl<'a> Lain<'a> {
+    // Name i's bytes.
+    pub fn name(&self, i: usize) -> &'a [u8]
+        requires { i < self.now.names.count }
+        ensures { result.now ≡ name_at self.now.words.now self.now.text.now self.now.names i }
+    {
+        name_at(self.words, self.text, self.names, i)
+    }
 }
