@@ -40,14 +40,6 @@ pub fn range_at(words: &[u32], names: Names, i: usize) -> Range
     }
 }
 
-// Name i's bytes.
-pub fn name_at<'a>(words: &[u32], text: &'a [u8], names: Names, i: usize) -> &'a [u8]
-    requires { Lying words.now text.now names × (i < names.count) }
-    ensures { result.now ≡ name_at words.now text.now names i }
-{
-    text::bytes_of(text, range_at(words, names, i))
-}
-
 // The lowest name with the bytes of name i, or i where no earlier one has them.
 pub fn first_same(words: &[u32], text: &[u8], names: Names, i: usize) -> usize
     requires { Lying words.now text.now names × (i < names.count) }
@@ -67,8 +59,9 @@ impl<'a> Lain<'a> {
     // Name i's bytes.
     pub fn name(&self, i: usize) -> &'a [u8]
         requires { i < self.now.names.count }
-        ensures { result.now ≡ name_at self.now.words.now self.now.text.now self.now.names i }
+        ensures bytes { result.now ≡ name_at self.now.words.now self.now.text.now self.now.names i }
+        ensures short { length result.now < 4294967296 }
     {
-        name_at(self.words, self.text, self.names, i)
+        text::bytes_of(self.text, range_at(self.words, self.names, i))
     }
 }

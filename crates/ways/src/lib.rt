@@ -8,10 +8,10 @@
 #![tactic(auto)]
 
 ghost use Rattle.std.specs.Prelude.{◌≡◌, ◌+◌, ◌≤◌, ◌<◌, length, get_or, MatchOption};
-ghost use Rattle.names.specs.Names.{name_at, Lying};
+ghost use Rattle.names.specs.Lain.{name_in};
 ghost use Rattle.ways.specs.Tree.{scaled_to, letter_of, place_of, Told, Reached, Child, Repeated, Spotted, Standing};
 
-use names::{Names, name_at};
+use names::Lain;
 
 // Where the way of a name ends: under which node, with which mark.
 #[derive(Clone, Copy, PartialEq, Eq)]
@@ -52,9 +52,7 @@ pub fn place_of(places: usize, node: usize) -> usize
 
 // Whether name k stands under the node with this mark and this letter.
 fn leads(
-    words: &[u32],
-    text: &[u8],
-    names: Names,
+    lain: &Lain,
     places: usize,
     nodes: &[u16],
     marks: &[u32],
@@ -63,9 +61,9 @@ fn leads(
     letter: u64,
     k: usize,
 ) -> bool
-    requires lying { Lying words.now text.now names × (k < names.count) × (k < length nodes.now) × (k < length marks.now) }
-    requires k_in_bounds { places ≤ get_or nodes.now k 0 → get_or marks.now k 0 < length (name_at words.now text.now names k) }
-    ensures { Told places (name_at words.now text.now names) nodes.now marks.now node mark letter k result }
+    requires k_in_bounds { (k < lain.now.names.count) × (k < length nodes.now) × (k < length marks.now) }
+    requires mark_in_bounds { places ≤ get_or nodes.now k 0 → get_or marks.now k 0 < length (name_in lain.now k) }
+    ensures { Told places (name_in lain.now) nodes.now marks.now node mark letter k result }
 {
     if usize::from(nodes[k]) != node {
         return false;
@@ -73,14 +71,12 @@ fn leads(
     if marks[k] != mark {
         return false;
     }
-    letter_of(places, node, mark, name_at(words, text, names, k)) == letter
+    letter_of(places, node, mark, lain.name(k)) == letter
 }
 
 // The name that leads name i on from the node with the mark: one more than its number, or 0.
 fn child(
-    words: &[u32],
-    text: &[u8],
-    names: Names,
+    lain: &Lain,
     heads: &[u16],
     next: &[u16],
     nodes: &[u16],
@@ -89,20 +85,18 @@ fn child(
     node: usize,
     mark: u32,
 ) -> usize
-    requires lying { Lying words.now text.now names × (i < names.count) }
-    requires standing { Standing (name_at words.now text.now names) names.count heads.now next.now nodes.now marks.now i }
-    requires reached { Reached (length heads.now) (name_at words.now text.now names) nodes.now marks.now (name_at words.now text.now names i) i node mark }
-    ensures { Child (length heads.now) (name_at words.now text.now names) nodes.now marks.now (name_at words.now text.now names i) i node mark result }
+    requires i_in_bounds { i < lain.now.names.count }
+    requires standing { Standing (name_in lain.now) lain.now.names.count heads.now next.now nodes.now marks.now i }
+    requires reached { Reached (length heads.now) (name_in lain.now) nodes.now marks.now (name_in lain.now i) i node mark }
+    ensures { Child (length heads.now) (name_in lain.now) nodes.now marks.now (name_in lain.now i) i node mark result }
 {
     let places = heads.len();
-    let letter = letter_of(places, node, mark, name_at(words, text, names, i));
+    let letter = letter_of(places, node, mark, lain.name(i));
     let place = place_of(places, node);
     let mut c = usize::from(heads[place]);
     while 0 < c {
         let k = c - 1;
-        if leads(
-            words, text, names, places, nodes, marks, node, mark, letter, k,
-        ) {
+        if leads(lain, places, nodes, marks, node, mark, letter, k) {
             return c;
         }
         c = usize::from(next[k]);
@@ -112,33 +106,31 @@ fn child(
 
 // Where the way of name i ends, if no earlier name is the same.
 pub fn spot_of(
-    words: &[u32],
-    text: &[u8],
-    names: Names,
+    lain: &Lain,
     heads: &[u16],
     next: &[u16],
     nodes: &[u16],
     marks: &[u32],
     i: usize,
 ) -> Option<Spot>
-    requires lying { Lying words.now text.now names × (i < names.count) }
-    requires standing { Standing (name_at words.now text.now names) names.count heads.now next.now nodes.now marks.now i }
-    ensures { MatchOption result (Repeated (name_at words.now text.now names) i)
-        (Spotted (length heads.now) (name_at words.now text.now names) nodes.now marks.now i) }
+    requires i_in_bounds { i < lain.now.names.count }
+    requires standing { Standing (name_in lain.now) lain.now.names.count heads.now next.now nodes.now marks.now i }
+    ensures { MatchOption result (Repeated (name_in lain.now) i)
+        (Spotted (length heads.now) (name_in lain.now) nodes.now marks.now i) }
 {
     let places = heads.len();
-    let name = name_at(words, text, names, i);
+    let name = lain.name(i);
     let print = text::print::fingerprint(name);
     let mut node = scaled(places, print / 4_294_967_296);
     let mut mark = (print % 4_294_967_296) as u32;
     let mut from = 0;
     loop {
-        let c = child(words, text, names, heads, next, nodes, marks, i, node, mark);
+        let c = child(lain, heads, next, nodes, marks, i, node, mark);
         if c == 0 {
             return Some(Spot { node, mark });
         }
         let k = c - 1;
-        let other = name_at(words, text, names, k);
+        let other = lain.name(k);
         from = text::compare::agreed(name, other, from);
         if name.len() <= from {
             return None;

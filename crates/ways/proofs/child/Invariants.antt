@@ -1,17 +1,17 @@
 -- `ways::child` meets its contract. The loop's invariant: no name of the chain that was passed leads on. Assumes nothing.
 use mathlib.Core.Path.{◌≡◌}
 use Prim.Native.Nat.{◌<◌}
-use Rattle.names.specs.Names.{name_at, Lying}
+use Rattle.names.specs.Lain.{name_in}
 use Rattle.ways.specs.Tree.{letter_of, place_at, Leads, Standing}
 use Rattle.ways.proofs.Chains.{Walk}
 use Rattle.ways.proofs.child.Given as goal
 
 abbrev pub invariant-loop-c : goal.invariant-loop-c
 invariant-loop-c l =
-    Walk (place_at l.places l.nodes) l.place (Leads l.places (name_at l.words l.text l.names) l.nodes l.marks l.node l.mark l.letter) l.i l.c
-    × (Lying l.words l.text l.names × (l.i < l.names.count))
-    × Standing (name_at l.words l.text l.names) l.names.count l.heads l.next l.nodes l.marks l.i
-    × (l.letter ≡ letter_of l.places l.node l.mark (name_at l.words l.text l.names l.i))
+    Walk (place_at l.places l.nodes) l.place (Leads l.places (name_in l.lain) l.nodes l.marks l.node l.mark l.letter) l.i l.c
+    × (l.i < l.lain.names.count)
+    × Standing (name_in l.lain) l.lain.names.count l.heads l.next l.nodes l.marks l.i
+    × (l.letter ≡ letter_of l.places l.node l.mark (name_in l.lain l.i))
 
 abbrev pub decreases-loop-c : goal.decreases-loop-c
 decreases-loop-c l = l.c

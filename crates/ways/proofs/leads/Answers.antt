@@ -12,11 +12,11 @@ returns-then-marks-k c = told_not (λ l. c.if-marks-k.true l.marked)
 
 pub letter_of-requires : goal.letter_of-requires
 letter_of-requires c l =
-    rw (c.name_at.ensures, ← c.if-marks-k.false) (c.requires.k_in_bounds (omega arith))
+    rw (c.name.ensures.bytes, ← c.if-marks-k.false) (c.requires.mark_in_bounds (omega arith))
 
 pub returns : goal.returns
 returns c =
     told_by
     (sym c.from.ensures ∙ c.if-from-node.false)
     c.if-marks-k.false
-    (rw c.name_at.ensures at c.letter_of.ensures)
+    (rw c.name.ensures.bytes at c.letter_of.ensures)
