@@ -59,7 +59,8 @@ fn first_by_pairs(lain: &Lain) -> usize
     lain.names.count
 }
 
-// The lowest name that an earlier one repeats, or the number of names where none is repeated.
+// The lowest name that an earlier one repeats, or the number of names where none is repeated: docs/
+// PROMISES.md names the function, and `lowest` of its clause is that number.
 pub fn first_repeated(words: &[u32], text: &[u8], names: Names) -> usize
     requires { Lying words.now text.now names }
     ensures { result ≡ lowest (repeats_at words.now text.now names) names.count }

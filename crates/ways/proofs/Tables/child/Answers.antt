@@ -2,7 +2,7 @@ use mathlib.Core.Path.{sym, ◌∙◌}
 use native.Mathlib.Omega.{arith}
 use Rattle.ways.proofs.Chains.{begin, shorter, on}
 use Rattle.ways.proofs.Ways.{leads_place, branch_mark, child_one, child_none}
-use Rattle.ways.proofs.child.Goals as goal
+use Rattle.ways.proofs.Tables.child.Goals as goal
 
 pub letter_of-letter-requires : goal.letter_of-letter-requires
 letter_of-letter-requires c l =
@@ -34,8 +34,8 @@ returns-then-leads c =
     let inv = c.loop-c.invariant in
     child_one (omega arith) (omega arith) (rw inv.3 at (c.leads.ensures.hit c.if-leads.true))
 
-pub bounds-next-k : goal.bounds-next-k
-bounds-next-k c = omega (arith, c.loop-c.invariant.2.room.next_room)
+pub bounds-self-k : goal.bounds-self-k
+bounds-self-k c = omega (arith, c.loop-c.invariant.2.room.next_room)
 
 pub loop-c-smaller : goal.loop-c-smaller
 loop-c-smaller c =
