@@ -19,6 +19,15 @@ pub struct Names {
     pub count: usize,
 }
 
+// Names that may be compared, and the words and the text that they stand in.
+#[derive(Clone, Copy)]
+pub struct Lain<'a> {
+    pub words: &'a [u32],
+    pub text: &'a [u8],
+    pub names: Names,
+    pub ghost lying: { Lying words.now text.now names },
+}
+
 // Name i's range.
 pub fn range_at(words: &[u32], names: Names, i: usize) -> Range
     requires { names.base + names.stride * i + 1 < length words.now }
@@ -31,15 +40,8 @@ pub fn range_at(words: &[u32], names: Names, i: usize) -> Range
     }
 }
 
-// Name i's bytes.
-pub fn name_at<'a>(words: &[u32], text: &'a [u8], names: Names, i: usize) -> &'a [u8]
-    requires { Lying words.now text.now names × (i < names.count) }
-    ensures { result.now ≡ name_at words.now text.now names i }
-{
-    text::bytes_of(text, range_at(words, names, i))
-}
-
-// The lowest name with the bytes of name i, or i where no earlier one has them.
+// The lowest name with the bytes of name i, or i where no earlier one has them: that is what
+// `first_same` of the clause is, by which `repeats_at`, cited by docs' promises, is defined.
 pub fn first_same(words: &[u32], text: &[u8], names: Names, i: usize) -> usize
     requires { Lying words.now text.now names × (i < names.count) }
     ensures { result ≡ first_same (name_at words.now text.now names) i }
@@ -52,4 +54,15 @@ pub fn first_same(words: &[u32], text: &[u8], names: Names, i: usize) -> usize
         }
     }
     i
+}
+
+impl<'a> Lain<'a> {
+    // Name i's bytes.
+    pub fn name(&self, i: usize) -> &'a [u8]
+        requires { i < self.now.names.count }
+        ensures bytes { result.now ≡ name_at self.now.words.now self.now.text.now self.now.names i }
+        ensures short { length result.now < 4294967296 }
+    {
+        text::bytes_of(self.text, range_at(self.words, self.names, i))
+    }
 }

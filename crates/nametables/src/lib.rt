@@ -2,85 +2,59 @@
 // Contracts cite `ways`' specs/Tree.antt.
 #![tactic(auto)]
 
-ghost use Rattle.std.specs.Prelude.{◌≡◌, ℕ, ◌+◌, ◌≤◌, ◌<◌, length, get_or};
+ghost use Rattle.std.specs.Prelude.{◌≡◌, ℕ, ◌≤◌, ◌<◌, get_or};
 ghost use Rattle.laws.specs.Lowest.{lowest};
-ghost use Rattle.names.specs.Names.{repeats_at, Lying};
-ghost use Rattle.ways.specs.Tree.{places_max, Put, Room};
+ghost use Rattle.names.specs.Lain.{repeats_in};
+ghost use Rattle.ways.specs.Tree.{places_max, Room};
 
-use names::Names;
-use ways::{place_of, spot_of};
-
-// Puts name i under the node with the mark, in front of the chain there.
-fn put(
-    heads: &mut [u16],
-    next: &mut [u16],
-    nodes: &mut [u16],
-    marks: &mut [u32],
-    i: usize,
-    node: usize,
-    mark: u32,
-)
-    requires i_in_bounds { (i < length next.old) × (i < length nodes.old) × (i < length marks.old) × (i < 65535) }
-    requires node_in_bounds { (node < length heads.old + length heads.old) × (node < 65536) }
-    ensures { Put heads.old next.old nodes.old marks.old i node mark heads.new next.new nodes.new marks.new }
-{
-    let place = place_of(heads.len(), node);
-    next[i] = heads[place];
-    nodes[i] = node as u16;
-    marks[i] = mark;
-    heads[place] = (i + 1) as u16;
-}
+use names::Lain;
+use ways::Tables;
 
 // The lowest name that an earlier one repeats, or their number, in tables that are clear.
-fn first_among(
-    words: &[u32],
-    text: &[u8],
-    names: Names,
-    heads: &mut [u16],
-    next: &mut [u16],
-    nodes: &mut [u16],
-    marks: &mut [u32],
-) -> usize
-    requires lying { Lying words.now text.now names }
-    requires room { Room names.count heads.old next.old nodes.old marks.old }
-    requires by_index { (p : ℕ) → get_or heads.old p 0 ≡ 0 }
-    ensures { result ≡ lowest (repeats_at words.now text.now names) names.count }
+fn first_among(lain: &Lain, tables: &mut Tables) -> usize
+    requires room { Room lain.now.names.count tables.old.heads.now tables.old.next.now tables.old.nodes.now tables.old.marks.now }
+    requires by_index { (p : ℕ) → get_or tables.old.heads.now p 0 ≡ 0 }
+    ensures { result ≡ lowest (repeats_in lain.now) lain.now.names.count }
 {
-    for i in 0..names.count {
-        let Some(spot) = spot_of(words, text, names, heads, next, nodes, marks, i) else {
+    for i in 0..lain.names.count {
+        let Some(spot) = tables.spot_of(lain, i) else {
             return i;
         };
-        put(heads, next, nodes, marks, i, spot.node, spot.mark);
+        tables.put(i, spot);
     }
-    names.count
+    lain.names.count
 }
 
 // The same for up to N names, in tables of their own.
-fn first_of<const N: usize, const PLACES: usize>(words: &[u32], text: &[u8], names: Names) -> usize
-    requires lying { Lying words.now text.now names × (names.count ≤ N) }
+fn first_of<const N: usize, const PLACES: usize>(lain: &Lain) -> usize
+    requires count_in_bounds { lain.now.names.count ≤ N }
     requires places { (0 < PLACES) × (N ≤ PLACES) × (PLACES ≤ places_max) }
-    ensures { result ≡ lowest (repeats_at words.now text.now names) names.count }
+    ensures { result ≡ lowest (repeats_in lain.now) lain.now.names.count }
 {
     let mut heads = [0u16; PLACES];
     let mut next = [0u16; N];
     let mut nodes = [0u16; N];
     let mut marks = [0u32; N];
-    first_among(
-        words, text, names, &mut heads, &mut next, &mut nodes, &mut marks,
-    )
+    let mut tables = Tables {
+        heads: &mut heads,
+        next: &mut next,
+        nodes: &mut nodes,
+        marks: &mut marks,
+    };
+    first_among(lain, &mut tables)
 }
 
-// The lowest name that an earlier one repeats, or the number of names where none is repeated; the
-// tables are as large as there are names, since clearing them takes time too.
-pub fn first_in_tables(words: &[u32], text: &[u8], names: Names) -> usize
-    requires { Lying words.now text.now names }
-    ensures { result ≡ lowest (repeats_at words.now text.now names) names.count }
+// The lowest name that an earlier one repeats, or the number of names where none is repeated, as
+// `namesakes::first_repeated` tells it, which docs/PROMISES.md names; the tables are as large as there
+// are names, since clearing them takes time too.
+pub fn first_in_tables(lain: &Lain) -> usize
+    ensures { result ≡ lowest (repeats_in lain.now) lain.now.names.count }
 {
-    if names.count <= 128 {
-        return first_of::<128, 512>(words, text, names);
+    if lain.names.count <= 128 {
+        return first_of::<128, 512>(lain);
     }
-    if names.count <= 1_024 {
-        return first_of::<1_024, 4_096>(words, text, names);
+    if lain.names.count <= 1_024 {
+        return first_of::<1_024, 4_096>(lain);
     }
-    first_of::<4_096, 8_192>(words, text, names)
+    first_of::<4_096, 8_192>(lain)
 }

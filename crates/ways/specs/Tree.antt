@@ -11,6 +11,9 @@ use Rattle.std.specs.Prelude.{Bool, true, false, cond, List, ◌≡◌, ℕ, zer
 use Rattle.text.specs.Words.{Alike}
 use Rattle.text.specs.Fingerprint.{fingerprint_of}
 use Rattle.ways.specs.declared.Spot.{Spot}
+use Rattle.ways.specs.declared.Tables.{Tables}
+use Rattle.names.specs.declared.Lain.{Lain}
+use Rattle.names.specs.Lain.{name_in}
 
 -- the most places of a table
 abbrev pub places_max : ℕ
@@ -125,3 +128,11 @@ pub record Standing (name : ℕ → List ℕ) (count : ℕ) (heads next nodes ma
   pub room : Room count heads next nodes marks
   pub stand : Stand (length heads) name nodes marks i
   pub chains : Chains (place_at (length heads) nodes) heads next i
+
+-- the same of the tables in code
+abbrev pub StandingIn : Lain → Tables → ℕ → Type 0
+StandingIn l t = Standing (name_in l) l.names.count t.heads.now t.next.now t.nodes.now t.marks.now
+
+abbrev pub PutIn : Tables → ℕ → Spot → Tables → Type 0
+PutIn t i spot u =
+    Put t.heads.now t.next.now t.nodes.now t.marks.now i spot.node spot.mark u.heads.now u.next.now u.nodes.now u.marks.now

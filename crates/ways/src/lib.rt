@@ -8,16 +8,26 @@
 #![tactic(auto)]
 
 ghost use Rattle.std.specs.Prelude.{◌≡◌, ◌+◌, ◌≤◌, ◌<◌, length, get_or, MatchOption};
-ghost use Rattle.names.specs.Names.{name_at, Lying};
-ghost use Rattle.ways.specs.Tree.{scaled_to, letter_of, place_of, Told, Reached, Child, Repeated, Spotted, Standing};
+ghost use Rattle.names.specs.Lain.{name_in};
+ghost use Rattle.ways.specs.Tree.{scaled_to, letter_of, place_of, Told, Reached, Child, Repeated, Spotted, StandingIn, PutIn};
 
-use names::{Names, name_at};
+use names::Lain;
 
 // Where the way of a name ends: under which node, with which mark.
 #[derive(Clone, Copy, PartialEq, Eq)]
 pub struct Spot {
     pub node: usize,
     pub mark: u32,
+}
+
+// The names that stand: the last of each place and the one before each in its chain, by one more than
+// their number, or 0; and under which node each stands, with which mark.
+#[derive(Drop)]
+pub struct Tables<'a> {
+    pub heads: &'a mut [u16],
+    pub next: &'a mut [u16],
+    pub nodes: &'a mut [u16],
+    pub marks: &'a mut [u32],
 }
 
 // The place of a number of 32 bits among so many.
@@ -40,7 +50,7 @@ fn letter_of(places: usize, node: usize, mark: u32, name: &[u8]) -> u64
 }
 
 // The place of the names under a node.
-pub fn place_of(places: usize, node: usize) -> usize
+fn place_of(places: usize, node: usize) -> usize
     requires { node < places + places }
     ensures { (result ≡ place_of places node) × (result < places) }
 {
@@ -50,100 +60,82 @@ pub fn place_of(places: usize, node: usize) -> usize
     node - places
 }
 
-// Whether name k stands under the node with this mark and this letter.
-fn leads(
-    words: &[u32],
-    text: &[u8],
-    names: Names,
-    places: usize,
-    nodes: &[u16],
-    marks: &[u32],
-    node: usize,
-    mark: u32,
-    letter: u64,
-    k: usize,
-) -> bool
-    requires lying { Lying words.now text.now names × (k < names.count) × (k < length nodes.now) × (k < length marks.now) }
-    requires k_in_bounds { places ≤ get_or nodes.now k 0 → get_or marks.now k 0 < length (name_at words.now text.now names k) }
-    ensures { Told places (name_at words.now text.now names) nodes.now marks.now node mark letter k result }
-{
-    if usize::from(nodes[k]) != node {
-        return false;
+impl<'a> Tables<'a> {
+    // Whether name k stands under the node with this mark and this letter.
+    fn leads(&self, lain: &Lain, node: usize, mark: u32, letter: u64, k: usize) -> bool
+        requires k_in_bounds { (k < lain.now.names.count) × (k < length self.now.nodes.now) × (k < length self.now.marks.now) }
+        requires mark_in_bounds { length self.now.heads.now ≤ get_or self.now.nodes.now k 0 → get_or self.now.marks.now k 0 < length (name_in lain.now k) }
+        ensures { Told (length self.now.heads.now) (name_in lain.now) self.now.nodes.now self.now.marks.now node mark letter k result }
+    {
+        if usize::from(self.nodes[k]) != node {
+            return false;
+        }
+        if self.marks[k] != mark {
+            return false;
+        }
+        letter_of(self.heads.len(), node, mark, lain.name(k)) == letter
     }
-    if marks[k] != mark {
-        return false;
-    }
-    letter_of(places, node, mark, name_at(words, text, names, k)) == letter
-}
 
-// The name that leads name i on from the node with the mark: one more than its number, or 0.
-fn child(
-    words: &[u32],
-    text: &[u8],
-    names: Names,
-    heads: &[u16],
-    next: &[u16],
-    nodes: &[u16],
-    marks: &[u32],
-    i: usize,
-    node: usize,
-    mark: u32,
-) -> usize
-    requires lying { Lying words.now text.now names × (i < names.count) }
-    requires standing { Standing (name_at words.now text.now names) names.count heads.now next.now nodes.now marks.now i }
-    requires reached { Reached (length heads.now) (name_at words.now text.now names) nodes.now marks.now (name_at words.now text.now names i) i node mark }
-    ensures { Child (length heads.now) (name_at words.now text.now names) nodes.now marks.now (name_at words.now text.now names i) i node mark result }
-{
-    let places = heads.len();
-    let letter = letter_of(places, node, mark, name_at(words, text, names, i));
-    let place = place_of(places, node);
-    let mut c = usize::from(heads[place]);
-    while 0 < c {
-        let k = c - 1;
-        if leads(
-            words, text, names, places, nodes, marks, node, mark, letter, k,
-        ) {
-            return c;
+    // The name that leads name i on from the node with the mark: one more than its number, or 0.
+    fn child(&self, lain: &Lain, i: usize, node: usize, mark: u32) -> usize
+        requires i_in_bounds { i < lain.now.names.count }
+        requires standing { StandingIn lain.now self.now i }
+        requires reached { Reached (length self.now.heads.now) (name_in lain.now) self.now.nodes.now self.now.marks.now (name_in lain.now i) i node mark }
+        ensures { Child (length self.now.heads.now) (name_in lain.now) self.now.nodes.now self.now.marks.now (name_in lain.now i) i node mark result }
+    {
+        let places = self.heads.len();
+        let letter = letter_of(places, node, mark, lain.name(i));
+        let place = place_of(places, node);
+        let mut c = usize::from(self.heads[place]);
+        while 0 < c {
+            let k = c - 1;
+            if self.leads(lain, node, mark, letter, k) {
+                return c;
+            }
+            c = usize::from(self.next[k]);
         }
-        c = usize::from(next[k]);
+        c
     }
-    c
-}
 
-// Where the way of name i ends, if no earlier name is the same.
-pub fn spot_of(
-    words: &[u32],
-    text: &[u8],
-    names: Names,
-    heads: &[u16],
-    next: &[u16],
-    nodes: &[u16],
-    marks: &[u32],
-    i: usize,
-) -> Option<Spot>
-    requires lying { Lying words.now text.now names × (i < names.count) }
-    requires standing { Standing (name_at words.now text.now names) names.count heads.now next.now nodes.now marks.now i }
-    ensures { MatchOption result (Repeated (name_at words.now text.now names) i)
-        (Spotted (length heads.now) (name_at words.now text.now names) nodes.now marks.now i) }
-{
-    let places = heads.len();
-    let name = name_at(words, text, names, i);
-    let print = text::print::fingerprint(name);
-    let mut node = scaled(places, print / 4_294_967_296);
-    let mut mark = (print % 4_294_967_296) as u32;
-    let mut from = 0;
-    loop {
-        let c = child(words, text, names, heads, next, nodes, marks, i, node, mark);
-        if c == 0 {
-            return Some(Spot { node, mark });
+    // Where the way of name i ends, if no earlier name is the same.
+    pub fn spot_of(&self, lain: &Lain, i: usize) -> Option<Spot>
+        requires i_in_bounds { i < lain.now.names.count }
+        requires standing { StandingIn lain.now self.now i }
+        ensures { MatchOption result (Repeated (name_in lain.now) i)
+            (Spotted (length self.now.heads.now) (name_in lain.now) self.now.nodes.now self.now.marks.now i) }
+    {
+        let places = self.heads.len();
+        let name = lain.name(i);
+        let print = text::print::fingerprint(name);
+        let mut node = scaled(places, print / 4_294_967_296);
+        let mut mark = (print % 4_294_967_296) as u32;
+        let mut from = 0;
+        loop {
+            let c = self.child(lain, i, node, mark);
+            if c == 0 {
+                return Some(Spot { node, mark });
+            }
+            let k = c - 1;
+            let other = lain.name(k);
+            from = text::compare::agreed(name, other, from);
+            if name.len() <= from {
+                return None;
+            }
+            node = places + k;
+            mark = from as u32;
         }
-        let k = c - 1;
-        let other = name_at(words, text, names, k);
-        from = text::compare::agreed(name, other, from);
-        if name.len() <= from {
-            return None;
-        }
-        node = places + k;
-        mark = from as u32;
+    }
+
+    // Puts name i at the spot, in front of the chain there.
+    pub fn put(&mut self, i: usize, spot: Spot)
+        requires i_in_bounds { (i < length self.old.next.now) × (i < length self.old.nodes.now) × (i < length self.old.marks.now) × (i < 65535) }
+        requires node_in_bounds { (spot.node < length self.old.heads.now + length self.old.heads.now) × (spot.node < 65536) }
+        ensures { PutIn self.old i spot self.new }
+    {
+        let place = place_of(self.heads.len(), spot.node);
+        self.next[i] = self.heads[place];
+        self.nodes[i] = spot.node as u16;
+        self.marks[i] = spot.mark;
+        self.heads[place] = (i + 1) as u16;
     }
 }

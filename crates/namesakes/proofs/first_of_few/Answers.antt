@@ -8,10 +8,7 @@ use Rattle.namesakes.proofs.first_of_few.Goals.{then-seen-sign+else-name-gt-LONG
 use Rattle.namesakes.proofs.first_of_few.Goals as goal
 
 pub loop-i-init : goal.loop-i-init
-loop-i-init c = (begin _ _, marked_none _ _ refl, c.requires)
-
-pub name_at-name-requires : goal.name_at-name-requires
-name_at-name-requires c = (c.loop-i.invariant.2, omega arith)
+loop-i-init c = (begin _ _, marked_none _ _ refl)
 
 pub sign-sign-requires : goal.sign-sign-requires
 sign-sign-requires c = tt
@@ -19,14 +16,11 @@ sign-sign-requires c = tt
 pub bounds-seen-sign : goal.bounds-seen-sign
 bounds-seen-sign c = c.sign-sign.ensures.1
 
-pub first_in_tables-requires : goal.first_in_tables-requires
-first_in_tables-requires c = c.loop-i.invariant.2
-
 pub returns-then-name-gt-LONG : goal.returns-then-name-gt-LONG
 returns-then-name-gt-LONG c = c.first_in_tables.ensures
 
 pub first_same-requires : goal.first_same-requires
-first_same-requires c = (c.loop-i.invariant.2, omega arith)
+first_same-requires c = (c.args.lain.now.lying, omega arith)
 
 pub returns-then-first_same-i : goal.returns-then-first_same-i
 returns-then-first_same-i c =
@@ -39,17 +33,16 @@ bounds-seen-sign-in-loop-i c = c.sign-sign.ensures.1
 pub loop-i-preserved : goal.loop-i-preserved
 loop-i-preserved c =
     let inv = c.loop-i.invariant in
-    let sign = rw c.name_at-name.ensures at c.sign-sign.ensures.0 in (
+    let sign = rw c.name-name.ensures.bytes at c.sign-sign.ensures.0 in (
       further inv.0 (omega arith)
           (elim c.if-seen-sign.branch [
             | then-seen-sign+else-name-gt-LONG+else-first_same-i w ↦ repeats_is _ _ ∙ le-ltb _ _ (rw w.first_same.ensures at w.if-first_same-i.false)
             | else-seen-sign w ↦ repeats_not _ _ (unseen inv.1 sign w.if-seen-sign.false)
           ]),
       marked_more inv.1 sign c.sign-sign.ensures.1,
-      inv.2,
     )
 
 pub returns : goal.returns
 returns c =
-    let e : c.loop-i.i ≡ c.args.names.count = omega arith in
+    let e : c.loop-i.i ≡ c.args.lain.now.names.count = omega arith in
     rw e at (nowhere c.loop-i.invariant.0 (omega arith))

@@ -7,4 +7,4 @@ pub returns-then-n-le1 : goal.returns-then-n-le1
 returns-then-n-le1 c = repeats_alone _ _ c.if-n-le1.true
 
 pub first_by_pairs-requires : goal.first_by_pairs-requires
-first_by_pairs-requires c = (c.requires, omega arith)
+first_by_pairs-requires c = omega arith

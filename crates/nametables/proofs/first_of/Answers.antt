@@ -5,7 +5,6 @@ use Rattle.nametables.proofs.first_of.Goals as goal
 pub first_among-requires : goal.first_among-requires
 first_among-requires g c =
     let p = c.requires.places in record {
-      lying = c.requires.lying.0;
-      room = clear_room g.row.PLACES g.row.N _ p.0 p.2 p.1 c.requires.lying.1;
+      room = clear_room g.row.PLACES g.row.N _ p.0 p.2 p.1 c.requires.count_in_bounds;
       by_index = clear g.row.PLACES;
     }

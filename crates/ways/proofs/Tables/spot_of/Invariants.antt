@@ -3,18 +3,18 @@
 use mathlib.Core.Path.{◌≡◌}
 use Prim.Native.Nat.{◌+◌, ◌-◌, ◌<◌}
 use lib.ListN.{length}
-use Rattle.names.specs.Names.{name_at, Lying}
-use Rattle.ways.specs.Tree.{Standing}
+use Rattle.names.specs.Lain.{name_in}
+use Rattle.ways.specs.Tree.{StandingIn}
 use Rattle.ways.proofs.Ways.{Seeking, From}
-use Rattle.ways.proofs.spot_of.Given as goal
+use Rattle.ways.proofs.Tables.spot_of.Given as goal
 
 abbrev pub invariant-loop-name : goal.invariant-loop-name
 invariant-loop-name l =
-    Seeking l.places (name_at l.words l.text l.names) l.nodes l.marks l.i l.node l.mark
+    Seeking l.places (name_in l.lain) l.self.nodes.now l.self.marks.now l.i l.node l.mark
     × From l.places l.node l.mark l.from
-    × (Lying l.words l.text l.names × (l.i < l.names.count))
-    × Standing (name_at l.words l.text l.names) l.names.count l.heads l.next l.nodes l.marks l.i
-    × (l.name ≡ name_at l.words l.text l.names l.i)
+    × (l.i < l.lain.names.count)
+    × StandingIn l.lain l.self l.i
+    × (l.name ≡ name_in l.lain l.i)
     × (length l.name < 4_294_967_296)
 
 abbrev pub decreases-loop-name : goal.decreases-loop-name

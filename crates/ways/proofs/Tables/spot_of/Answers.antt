@@ -2,18 +2,14 @@ use mathlib.Core.Path.{refl}
 use Prim.Native.Nat.{ℕ, ◌+◌, ◌≤◌, ◌<◌}
 use native.Mathlib.Omega.{arith}
 use Rattle.ways.specs.Tree.{root_of, print_of}
-use Rattle.names.proofs.Repeats.{name_small}
 use Rattle.ways.proofs.Ways.{begin, spotted_free, met, met_below, met_above, met_same, met_on}
-use Rattle.ways.proofs.spot_of.Goals as goal
+use Rattle.ways.proofs.Tables.spot_of.Goals as goal
 
 below : {a b : ℕ} → a ≤ b → b < a → ⊥
 below h g = omega arith
 
 above : (a b : ℕ) → a + b < a → ⊥
 above a b h = omega arith
-
-pub name_at-name-requires : goal.name_at-name-requires
-name_at-name-requires c = c.requires.lying
 
 pub fingerprint-print-requires : goal.fingerprint-print-requires
 fingerprint-print-requires c = tt
@@ -26,20 +22,19 @@ scaled-node-requires c =
 pub loop-name-init : goal.loop-name-init
 unfolding root_of print_of
 loop-name-init c =
-    let name = c.name_at-name.ensures in
-    let print = rw name at c.fingerprint-print.ensures in
-    let word = c.shared_slice_known-1.given in (
+    let name = c.name-name.ensures.bytes in
+    let print = rw name at c.fingerprint-print.ensures in (
       rw (c.scaled-node.ensures.0, print) (begin c.requires.standing.stand (rw (c.scaled-node.ensures.0, print) at c.scaled-node.ensures.1)),
       record { root = λ h. refl; branch = λ h. absurd (below h c.scaled-node.ensures.1) },
-      c.requires.lying,
+      c.requires.i_in_bounds,
       c.requires.standing,
       name,
-      rw name (name_small _ _ _ c.requires.lying.0 _ c.requires.lying.1 (λ k. (word k).fits)),
+      c.name-name.ensures.short,
     )
 
 pub child-c-requires : goal.child-c-requires
 child-c-requires c = let inv = c.loop-name.invariant in record {
-  lying = inv.2;
+  i_in_bounds = inv.2;
   standing = inv.3;
   reached = inv.0.reached;
 }
@@ -49,29 +44,29 @@ returns-then-c-eq0 c =
     let inv = c.loop-name.invariant in
     spotted_free inv.3.stand inv.0 (c.child-c.ensures.none c.if-c-eq0.true)
 
-pub name_at-other-requires : goal.name_at-other-requires
-name_at-other-requires c =
+pub name-other-requires : goal.name-other-requires
+name-other-requires c =
     let inv = c.loop-name.invariant in
-    (inv.2.0, omega (arith, met_below inv.3.stand inv.0 inv.1 c.child-c.ensures c.if-c-eq0.false, inv.2.1))
+    omega (arith, met_below inv.3.stand inv.0 inv.1 c.child-c.ensures c.if-c-eq0.false, inv.2)
 
 pub agreed-from-requires : goal.agreed-from-requires
 agreed-from-requires c =
     let inv = c.loop-name.invariant in
     let both = met inv.3.stand inv.0 inv.1 c.child-c.ensures c.if-c-eq0.false in
-    rw (inv.4, c.name_at-other.ensures) (both.2, both.0)
+    rw (inv.4, c.name-other.ensures.bytes) (both.2, both.0)
 
 pub returns-then-name-from : goal.returns-then-name-from
 returns-then-name-from c =
     let inv = c.loop-name.invariant in
     let child = c.child-c.ensures in
     met_same inv.3.stand inv.0 inv.1 child c.if-c-eq0.false
-    (rw (inv.4, c.name_at-other.ensures) at c.agreed-from.ensures)
+    (rw (inv.4, c.name-other.ensures.bytes) at c.agreed-from.ensures)
     (rw inv.4 at c.if-name-from.true)
 
 pub overflow_add-node : goal.overflow_add-node
 overflow_add-node c =
     let inv = c.loop-name.invariant in
-    omega (arith, inv.3.room.few_places, inv.2.0.few, inv.2.1, c.child-c.ensures.within)
+    omega (arith, inv.3.room.few_places, c.args.lain.now.lying.few, inv.2, c.child-c.ensures.within)
 
 pub overflow_cast-mark-in-loop-name : goal.overflow_cast-mark-in-loop-name
 overflow_cast-mark-in-loop-name c = omega (arith, c.loop-name.invariant.5)
@@ -87,7 +82,7 @@ pub loop-name-preserved : goal.loop-name-preserved
 loop-name-preserved c =
     let inv = c.loop-name.invariant in
     let child = c.child-c.ensures in
-    let agreed = rw (inv.4, c.name_at-other.ensures) at c.agreed-from.ensures in (
+    let agreed = rw (inv.4, c.name-other.ensures.bytes) at c.agreed-from.ensures in (
       met_on inv.3.stand inv.0 inv.1 child c.if-c-eq0.false agreed (rw inv.4 at c.if-name-from.false),
       record { root = λ h. absurd (above _ _ h); branch = λ h. refl },
       inv.2,

@@ -1,6 +1,6 @@
--- `nametables::put` meets its contract. Assumes nothing.
+-- `ways::Tables::put` meets its contract. Assumes nothing.
 use mathlib.Core.Path.{refl}
-use Rattle.nametables.proofs.put.Goals as goal
+use Rattle.ways.proofs.Tables.put.Goals as goal
 
 pub returns : goal.returns
 returns c =

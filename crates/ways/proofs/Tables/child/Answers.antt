@@ -2,34 +2,31 @@ use mathlib.Core.Path.{sym, ◌∙◌}
 use native.Mathlib.Omega.{arith}
 use Rattle.ways.proofs.Chains.{begin, shorter, on}
 use Rattle.ways.proofs.Ways.{leads_place, branch_mark, child_one, child_none}
-use Rattle.ways.proofs.child.Goals as goal
-
-pub name_at-requires : goal.name_at-requires
-name_at-requires c = c.requires.lying
+use Rattle.ways.proofs.Tables.child.Goals as goal
 
 pub letter_of-letter-requires : goal.letter_of-letter-requires
 letter_of-letter-requires c l =
-    rw c.name_at.ensures (branch_mark c.requires.reached l)
+    rw c.name.ensures.bytes (branch_mark c.requires.reached l)
 
 pub place_of-place-requires : goal.place_of-place-requires
 place_of-place-requires c =
-    omega (arith, c.requires.standing.room.enough_places, c.requires.lying.1, c.requires.reached.low)
+    omega (arith, c.requires.standing.room.enough_places, c.requires.i_in_bounds, c.requires.reached.low)
 
 pub loop-c-init : goal.loop-c-init
 loop-c-init c =
     let place = c.place_of-place.ensures in (
       begin (λ k h l. leads_place l ∙ sym place.0) c.from-c.ensures (c.requires.standing.chains.heads_are _ place.1),
-      c.requires.lying,
+      c.requires.i_in_bounds,
       c.requires.standing,
-      rw c.name_at.ensures at c.letter_of-letter.ensures,
+      rw c.name.ensures.bytes at c.letter_of-letter.ensures,
     )
 
 pub leads-requires : goal.leads-requires
 leads-requires c =
     let inv = c.loop-c.invariant in
     let room = inv.2.room in record {
-      lying = (inv.1.0, omega arith, omega (arith, room.nodes_room), omega (arith, room.marks_room));
-      k_in_bounds = λ l. branch_mark (inv.2.stand.free _ (omega arith)).reached l;
+      k_in_bounds = (omega arith, omega (arith, room.nodes_room), omega (arith, room.marks_room));
+      mark_in_bounds = λ l. branch_mark (inv.2.stand.free _ (omega arith)).reached l;
     }
 
 pub returns-then-leads : goal.returns-then-leads
@@ -37,8 +34,8 @@ returns-then-leads c =
     let inv = c.loop-c.invariant in
     child_one (omega arith) (omega arith) (rw inv.3 at (c.leads.ensures.hit c.if-leads.true))
 
-pub bounds-next-k : goal.bounds-next-k
-bounds-next-k c = omega (arith, c.loop-c.invariant.2.room.next_room)
+pub bounds-self-k : goal.bounds-self-k
+bounds-self-k c = omega (arith, c.loop-c.invariant.2.room.next_room)
 
 pub loop-c-smaller : goal.loop-c-smaller
 loop-c-smaller c =
