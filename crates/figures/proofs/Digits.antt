@@ -1,17 +1,16 @@
 -- Digits that are read on, one by one.
 -- Assumes nothing.
 use mathlib.Core.Bool.{Bool, true, false, cond}
-use mathlib.Core.Logic.{⊎_elim}
 use mathlib.Core.List.{List, [], ◌∷◌}
 use mathlib.Core.Path.{◌≡◌, refl, sym, ap, ◌∙◌}
 use Prim.Native.Nat.{ℕ, zero, suc, ◌+◌, ◌-◌, ◌*◌, ◌^◌, ◌≤◌, ◌<◌}
 use native.Mathlib.Omega.{arith}
 use borrow.Author.Tests.{le-leb, leb-true}
 use lib.Dec.{eqb, leb}
-use lib.ListN.{length, get_or, drop, get_or-eq_default}
+use lib.ListN.{length, get_or, drop}
 use Rattle.std.specs.Prelude.{Some, None}
 use Rattle.std.proofs.lemmas.Option.{cond_some}
-use Rattle.laws.proofs.Tests.{le_or_lt, both, left, right}
+use Rattle.laws.proofs.Tests.{both, left, right}
 use Rattle.jsontext.specs.Text.{Digit, digit, digits}
 use Rattle.jsontext.specs.Number.{Trimmed, trim_more}
 use Rattle.strings.proofs.Steps.{head_at}
@@ -53,14 +52,6 @@ head_is json i l e = ap head_of e ∙ go json i
     go l zero = refl
     go [] (suc j) = refl
     go (x ∷ l) (suc j) = go l j
-
--- a digit stands within the text
-pub digit_inside : (json : List ℕ) (i : ℕ) → is_digit (get_or json i 0) ≡ true → i < length json
-digit_inside json i d =
-    ⊎_elim
-    (λ (l : length json ≤ i). apart (is_digit (get_or json i 0)) d (ap is_digit (get_or-eq_default json 0 {n = i} l)))
-    (λ (l : i < length json). l)
-    (le_or_lt (length json) i)
 
 -- a digit adds one zero or none
 pub kept_few : (k : Kept) (d : ℕ) → (kept_more k d).zeros ≤ k.zeros + 1

@@ -57,20 +57,23 @@ fn digit_at(json: &[u8], i: usize) -> Option<u64>
 }
 
 // The digits from a place on, after those that `first` is kept of. The loop of an exponent's digits stays beside it:
-// one function for both needs a trait with the bound that each of the two keeps. Nor is it a `for` over the text:
-// `start` may lie behind the end.
+// one function for both needs a trait with the bound that each of the two keeps.
 fn digits_from(json: &[u8], start: usize, first: Kept) -> Read<Kept>
     requires { (Sound first start) × (start ≤ 65_536) × (length json.now ≤ 65_536) }
     ensures read { (q : DigitsAt json.now start) → DigitsRead json.now start first q result.to result.held }
     ensures sound { (Sound result.held result.to) × (start ≤ result.to) × (result.to ≤ 65_536) }
 {
-    let mut i = start;
     let mut k = first;
-    while let Some(worth) = digit_at(json, i) {
+    for i in start..json.len() {
+        let Some(worth) = digit_at(json, i) else {
+            return Read { to: i, held: k };
+        };
         k = digit_more(k, worth);
-        i += 1;
     }
-    Read { to: i, held: k }
+    Read {
+        to: start.max(json.len()),
+        held: k,
+    }
 }
 
 // The digits of an exponent from a place on.
@@ -79,13 +82,17 @@ fn power_from(json: &[u8], start: usize) -> Read<u64>
     ensures read { (q : DigitsAt json.now start) → PowerRead json.now start 0 q result.to result.held }
     ensures sound { (result.held ≤ suc power_max) × (start ≤ result.to) × (result.to ≤ 65_536) }
 {
-    let mut i = start;
     let mut p: u64 = 0;
-    while let Some(worth) = digit_at(json, i) {
+    for i in start..json.len() {
+        let Some(worth) = digit_at(json, i) else {
+            return Read { to: i, held: p };
+        };
         p = power_more(p, worth);
-        i += 1;
     }
-    Read { to: i, held: p }
+    Read {
+        to: start.max(json.len()),
+        held: p,
+    }
 }
 
 // The fraction from a place on, if one stands there, after the digits that `first` is kept of.

@@ -1,5 +1,5 @@
 // What is held, moved: bytes said, a name opened and shut, a value started, an escape under way.
-ghost use Rattle.std.specs.Prelude.{List, [], ◌∷◌, ◌≡◌, ◌-◌, ◌<◌, length, get_or, set, true};
+ghost use Rattle.std.specs.Prelude.{List, [], ◌∷◌, ◌≡◌, ◌-◌, ◌<◌, length, get_or, true};
 ghost use Rattle.jsontext.specs.Utf8.{encode};
 ghost use Rattle.jsontext.specs.Automaton.{Bracket};
 ghost use Rattle.naming.specs.Gathering.{says, opens_name, shuts_name, starts};
@@ -9,28 +9,12 @@ use crate::Gathered;
 use characters::append;
 use putting::put;
 
-// A word at a place of the area, if it has that place.
-pub(crate) fn put_word(area: &mut [u32], at: usize, word: u32)
-    ensures { area.new ≡ set area.old at word }
-{
-    // No `get_mut`: of a slice that it lent out a proof knows only the length.
-    if at < area.len() {
-        area[at] = word;
-    }
-}
-
-// The word at a place of the area, or 0 if it has no such place.
-pub(crate) fn word_at(area: &[u32], at: usize) -> u32
-    ensures { result ≡ get_or area.now at 0 }
-{
-    area.get(at).copied().unwrap_or(0)
-}
-
 // The number of the innermost object, where so many brackets are open.
 pub(crate) fn object_at(objects: &[u32], depth: u32) -> u32
     ensures { result ≡ get_or objects.now (depth - 1) 0 }
 {
-    word_at(objects, depth.saturating_sub(1) as usize)
+    let at = depth.saturating_sub(1) as usize;
+    objects.get(at).copied().unwrap_or(0)
 }
 
 // A byte of a name.
@@ -92,9 +76,9 @@ pub(crate) fn shut_name(n: Gathered, words: &mut [u32]) -> Gathered
 {
     let at = n.filled;
     if n.on {
-        put_word(words, at, n.begun as u32);
-        put_word(words, at + 1, (n.size - n.begun) as u32);
-        put_word(words, at + 2, n.left);
+        put(words, at, n.begun as u32);
+        put(words, at + 1, (n.size - n.begun) as u32);
+        put(words, at + 2, n.left);
         return Gathered {
             filled: at + 3,
             on: false,
@@ -110,7 +94,7 @@ pub(crate) fn start_value(depth: u32, byte: u8, n: Gathered, objects: &mut [u32]
     ensures { (ks : List Bracket) → length ks ≡ depth → OnObjects (starts ks byte) objects.old n objects.new result }
 {
     if byte == b'{' {
-        put_word(objects, depth as usize, n.values);
+        put(objects, depth as usize, n.values);
     }
     Gathered {
         values: n.values + 1,

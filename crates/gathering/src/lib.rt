@@ -7,8 +7,9 @@ ghost use Rattle.jsontext.specs.Automaton.{Bracket, as_name};
 ghost use Rattle.naming.specs.Gathering.{text_more, escape_more, escaped};
 ghost use Rattle.gathering.specs.Held.{Small, Sound, Does, OnText, Within, Gathers};
 
+use escapes::high;
 use putting::short_of;
-use watching::escaping::{hex_more, high};
+use watching::escaping::hex_more;
 
 mod holding;
 mod units;

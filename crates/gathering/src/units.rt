@@ -4,8 +4,9 @@ ghost use Rattle.jsontext.specs.Value.{joined};
 ghost use Rattle.naming.specs.Gathering.{low_ahead};
 ghost use Rattle.gathering.specs.Held.{unit_from};
 
+use escapes::{character_of, low};
 use figures::byte_at;
-use watching::escaping::{hex_more, low};
+use watching::escaping::hex_more;
 
 // The number of the four digits from place i on; behind the end they count as 0.
 pub(crate) fn unit_from(json: &[u8], i: usize) -> u32
@@ -32,7 +33,7 @@ pub(crate) fn character(waits: u32, code: u32) -> u32
     ensures { (result ≡ joined waits code) × (result < 0x200000) }
 {
     if waits == 0 {
-        return code;
+        return character_of(None, code);
     }
-    0x10000 + waits.saturating_sub(0xD800) * 0x400 + code.saturating_sub(0xDC00)
+    character_of(Some(waits), code)
 }

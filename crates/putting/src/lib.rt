@@ -1,17 +1,17 @@
-// What is written of a string as one byte: a byte put into an area, and the character of a short escape
+// What is written of a string as one byte: a byte, or another word, put into an area, and the character of a short escape
 // (`specs/Letters.antt`, which contracts cite).
 #![tactic(auto)]
 
 ghost use Rattle.std.specs.Prelude.{◌≡◌, set};
 ghost use Rattle.putting.specs.Letters.{short_at};
 
-// A byte at a place of the area, if it has that place. By an index: of a slice lent through `get_mut` nothing but its
-// length is known afterwards.
-pub fn put(area: &mut [u8], at: usize, byte: u8)
-    ensures { area.new ≡ set area.old at byte }
+// A byte or a word at a place of the area, if it has that place. By an index: of a slice lent through `get_mut` nothing
+// but its length is known afterwards.
+pub fn put<T: Copy>(area: &mut [T], at: usize, word: T)
+    ensures { area.new ≡ set area.old at word }
 {
     if at < area.len() {
-        area[at] = byte;
+        area[at] = word;
     }
 }
 

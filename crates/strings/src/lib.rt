@@ -4,12 +4,11 @@
 
 ghost use Rattle.std.proofs.Props.{props};
 ghost use Rattle.std.specs.Prelude.{IfSome, ◌≢◌, ◌≡◌, ◌+◌, ◌≤◌, ◌<◌, length, get_or};
-ghost use Rattle.jsontext.specs.Value.{is_high};
 ghost use Rattle.escapes.specs.Escapes.{waiting};
 ghost use Rattle.strings.specs.Atoms.{code_at, HexAt, Inside, Onward, Copied};
 
 use characters::append;
-use escapes::{character_of, hex_of, unit_of};
+use escapes::{character_of, hex_of, high, unit_of};
 use putting::{put, short_of};
 
 // How far a string was read and written, and the high surrogate that waits for its low one.
@@ -26,13 +25,6 @@ struct Spot {
 pub struct Ended {
     pub to: usize,
     pub at: usize,
-}
-
-// Whether a number is a high surrogate's.
-fn is_high(code: u32) -> bool
-    ensures { result ≡ is_high code }
-{
-    matches!(code, 0xD800..=0xDBFF)
 }
 
 // The number of the escape at place i.
@@ -74,7 +66,7 @@ fn atom(json: &[u8], area: &mut [u8], spot: Spot) -> Spot
         };
     }
     let code = code_at(json, i);
-    if is_high(code) {
+    if high(code) {
         return Spot {
             to: i + 6,
             at,

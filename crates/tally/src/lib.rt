@@ -8,8 +8,8 @@ ghost use Rattle.grammar.specs.Codes.{place_at};
 ghost use Rattle.tally.specs.Tallying.{add_at, unit_size, tally_of, counting};
 ghost use Rattle.tally.specs.Bounds.{UpTo, most};
 
-use escapes::size_of;
-use watching::escaping::{hex_more, high, low};
+use escapes::{high, low, size_of};
+use watching::escaping::hex_more;
 
 // The digits of the escape under way, and whether a high surrogate's escape stands directly before.
 #[derive(Clone, Copy, Default)]

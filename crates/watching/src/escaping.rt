@@ -1,10 +1,10 @@
 // Strings: escapes, and the fault 26.
 ghost use Rattle.std.specs.Prelude.{◌≡◌, ◌+◌, ◌*◌, ◌%◌, ◌<◌};
 ghost use Rattle.escapes.specs.Escapes.{hex_at};
-ghost use Rattle.jsontext.specs.Value.{is_high, is_low};
 ghost use Rattle.survey.specs.Watching.{parted, coded, slashed, code_more, hexed};
 
 use crate::values::at_fault;
+use escapes::{hex_of, high, low};
 use survey::{Escapes, Watch};
 
 // A high surrogate that waits is lone, unless a low one follows directly.
@@ -16,19 +16,6 @@ pub(crate) fn surrogate_parts(s: Watch) -> Watch
         return s;
     }
     at_fault(26, e.waiting, s)
-}
-
-// Whether the code is a high surrogate, and a low one.
-pub fn high(code: u32) -> bool
-    ensures { result ≡ is_high code }
-{
-    matches!(code, 0xD800..=0xDBFF)
-}
-
-pub fn low(code: u32) -> bool
-    ensures { result ≡ is_low code }
-{
-    matches!(code, 0xDC00..=0xDFFF)
 }
 
 // The escape of a code is whole.
@@ -73,23 +60,11 @@ pub(crate) fn backslash(left: usize, s: Watch) -> Watch
     Watch { escapes, ..s }
 }
 
-// What a byte is worth as a hexadecimal digit; of one that is none something small.
-fn hex_worth(byte: u8) -> u32
-    ensures { (result ≡ hex_at byte) × (result < 256) }
-{
-    let worth = match byte {
-        ..=b'9' => byte.saturating_sub(b'0'),
-        ..=b'F' => byte - (b'A' - 10),
-        _ => byte.saturating_sub(b'a' - 10),
-    };
-    worth as u32
-}
-
 // A code with a hexadecimal digit more.
 pub fn hex_more(code: u32, byte: u8) -> u32
     ensures { (result ≡ code % 0x1000 * 16 + hex_at byte) × (result < 0x20000) }
 {
-    code % 0x1000 * 16 + hex_worth(byte)
+    code % 0x1000 * 16 + hex_of(u32::from(byte))
 }
 
 // A hexadecimal digit, before the last.

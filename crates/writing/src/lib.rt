@@ -2,7 +2,7 @@
 // written at their places (`specs/Reading.antt`, which contracts cite).
 #![tactic(auto)]
 
-ghost use Rattle.std.specs.Prelude.{true, [], ◌∷◌, ◌≡◌, ◌+◌, ◌-◌, ◌*◌, ◌≤◌, ◌<◌, length, get_or, drop, set};
+ghost use Rattle.std.specs.Prelude.{[], ◌∷◌, ◌≡◌, ◌+◌, ◌-◌, ◌*◌, ◌≤◌, ◌<◌, length, get_or, drop, set};
 ghost use Rattle.sheet.specs.Kinds.{kind_number};
 ghost use Rattle.sheet.specs.Record.{row_words};
 ghost use Rattle.placing.specs.Desk.{row_put, row_shut, owner_at};

@@ -1,59 +1,58 @@
 -- `figures::digits_from` meets its contract.
 -- Assumes nothing.
-use mathlib.Core.Path.{sym, ◌∙◌}
+use mathlib.Core.Logic.{⊎_elim}
+use mathlib.Core.Path.{◌≡◌, sym, ap, ◌∙◌}
+use Prim.Native.Nat.{◌≤◌, ◌<◌}
 use native.Mathlib.Omega.{arith}
-use lib.ListN.{get_or}
+use lib.ListN.{length, get_or, get_or-eq_default}
+use Rattle.laws.proofs.Tests.{le_or_lt}
 use Rattle.numeral.specs.Numeral.{kept_more}
-use Rattle.figures.specs.Figures.{DigitsAt}
-use Rattle.figures.proofs.Digits.{digit_told, digit_none, digit_inside, kept_few, none_read, one_read, all_read}
+use Rattle.figures.specs.Figures.{is_digit, DigitsAt}
+use Rattle.figures.proofs.Digits.{digit_told, digit_none, kept_few, none_read, one_read, all_read}
 use Rattle.figures.proofs.digits_from.Goals as goal
 
-pub loop-worth-init : goal.loop-worth-init
-loop-worth-init c = let a = c.args in (λ q. none_read kept_more a.json.now a.start a.first q, c.requires.0, omega arith, c.requires.1)
+pub loop-i-init : goal.loop-i-init
+loop-i-init c = let a = c.args in (λ q. none_read kept_more a.json.now a.start a.first q, c.requires.0, λ h. omega arith)
 
-pub digit_more-k-requires : goal.digit_more-k-requires
-digit_more-k-requires c =
-    let l = c.loop-worth in
-    let b = get_or c.args.json.now l.i 0 in
-    let told = digit_told b c.in-Some.worth (sym c.digit_at.ensures ∙ c.in-Some.is) in
-    let inside = digit_inside c.args.json.now l.i told.0 in
-    (l.invariant.1.holding, omega (arith, l.invariant.1.few, c.requires.2), told.2)
-
-pub overflow_add-i : goal.overflow_add-i
-overflow_add-i c =
-    let l = c.loop-worth in
-    let told = digit_told (get_or c.args.json.now l.i 0) c.in-Some.worth (sym c.digit_at.ensures ∙ c.in-Some.is) in
-    let inside = digit_inside c.args.json.now l.i told.0 in
-    omega (arith, c.requires.2)
-
-pub loop-worth-smaller : goal.loop-worth-smaller
-loop-worth-smaller c =
-    let l = c.loop-worth in
-    let told = digit_told (get_or c.args.json.now l.i 0) c.in-Some.worth (sym c.digit_at.ensures ∙ c.in-Some.is) in
-    let inside = digit_inside c.args.json.now l.i told.0 in
-    omega arith
-
-pub loop-worth-preserved : goal.loop-worth-preserved
-loop-worth-preserved c =
+pub returns-in_default-clause-read : goal.returns-in_default-clause-read
+returns-in_default-clause-read c =
     let a = c.args in
-    let l = c.loop-worth in
+    let l = c.loop-i in
+    let none = digit_none (get_or a.json.now l.i 0) (sym c.digit_at.ensures ∙ c.in_default.is) in
+    λ (q : DigitsAt a.json.now a.start). let r = all_read kept_more a.json.now a.start a.first q l.i l.k (l.invariant.0 q) none in record { end = r.0; kept_is = r.1; count = r.2 }
+
+pub loop-i-preserved : goal.loop-i-preserved
+loop-i-preserved c =
+    let a = c.args in
+    let l = c.loop-i in
     let w = c.in-Some.worth in
     let told = digit_told (get_or a.json.now l.i 0) w (sym c.digit_at.ensures ∙ c.in-Some.is) in
-    let inside = digit_inside a.json.now l.i told.0 in
     let e = c.digit_more-k.ensures in (
       (λ (q : DigitsAt a.json.now a.start).
           rw e.0 (one_read kept_more a.json.now a.start a.first q l.i l.k (l.invariant.0 q) w told.0 told.1)),
       record { holding = e.1; few = rw e.0 (omega (arith, kept_few l.k w, l.invariant.1.few)) },
-      omega (arith, l.invariant.2),
-      omega (arith, c.requires.2),
+      λ h. omega (arith, l.auto.i, c.loop-i-test.true),
     )
 
-pub returns : goal.returns
-returns c =
+pub returns-clause-read : goal.returns-clause-read
+returns-clause-read c =
     let a = c.args in
-    let l = c.loop-worth in
-    let none = digit_none (get_or a.json.now l.i 0) (sym c.digit_at.ensures ∙ c.in_default.is) in
-    record {
-      read = (λ (q : DigitsAt a.json.now a.start). let r = all_read kept_more a.json.now a.start a.first q l.i l.k (l.invariant.0 q) none in record { end = r.0; kept_is = r.1; count = r.2 });
-      sound = (l.invariant.1, l.invariant.2, l.invariant.3);
-    }
+    let l = c.loop-i in
+    let at : l.i ≡ c.max.result =
+    ⊎_elim
+    (λ (h : a.start ≤ length a.json.now). omega (arith, c.max.ensures, l.auto.i-end h, c.loop-i-test.false))
+    (λ (h : length a.json.now < a.start). omega (arith, c.max.ensures, l.auto.i, l.invariant.2 h))
+    (le_or_lt a.start (length a.json.now)) in
+    let none = ap is_digit (get_or-eq_default a.json.now 0 {n = l.i} (omega (arith, c.loop-i-test.false))) in
+    λ (q : DigitsAt a.json.now a.start). let r = all_read kept_more a.json.now a.start a.first q l.i l.k (l.invariant.0 q) none in rw (← at) record { end = r.0; kept_is = r.1; count = r.2 }
+
+pub returns-clause-sound : goal.returns-clause-sound
+returns-clause-sound c =
+    let l = c.loop-i in
+    let a = c.args in
+    let at : l.i ≤ c.max.result =
+    ⊎_elim
+    (λ (h : a.start ≤ length a.json.now). omega (arith, c.max.ensures, l.auto.i-end h))
+    (λ (h : length a.json.now < a.start). omega (arith, c.max.ensures, l.invariant.2 h))
+    (le_or_lt a.start (length a.json.now)) in
+    (record { holding = l.invariant.1.holding; few = omega (arith, l.invariant.1.few, at) }, omega (arith, c.max.ensures), omega (arith, c.max.ensures, c.requires.1, c.requires.2))

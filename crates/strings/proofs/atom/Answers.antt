@@ -12,11 +12,6 @@ use Rattle.strings.proofs.Steps.{in_text, raw_read, escape_inside, short_read}
 use Rattle.strings.proofs.Units.{joined_low, unit_here, code_low, high_read, code_read}
 use Rattle.strings.proofs.atom.Goals as goal
 
--- a surrogate that waits is not 0
-finds_some : (w : Option ℕ) (c : ℕ) → IfSome w (λ h. 0 < h) → Finds (waiting w) c → IfSome w (λ h. (0xD800 ≤ h) × (0xDC00 ≤ c))
-finds_some None c p f = tt
-finds_some (Some h) c p f = f p
-
 pub bounds-json-i : goal.bounds-json-i
 bounds-json-i c =
     let a = c.args in let json = a.json.now in let i = a.spot.to in let w = waiting a.spot.waits in let s = c.requires.inside in in_text json i w s
@@ -55,24 +50,24 @@ pub code_at-code-requires : goal.code_at-code-requires
 code_at-code-requires c =
     let a = c.args in let json = a.json.now in let i = a.spot.to in let w = waiting a.spot.waits in let s = c.requires.inside in let u = unit_here json i w s c.if-byte-ne92.false c.if-next-ne117.false in (u.third, u.fourth, u.fifth, u.sixth)
 
-pub overflow_add-result-then-is_high : goal.overflow_add-result-then-is_high
-overflow_add-result-then-is_high c =
+pub overflow_add-result-then-high : goal.overflow_add-result-then-high
+overflow_add-result-then-high c =
     let a = c.args in let json = a.json.now in let i = a.spot.to in let w = waiting a.spot.waits in let s = c.requires.inside in let u = unit_here json i w s c.if-byte-ne92.false c.if-next-ne117.false in omega (arith, u.sixth.inside)
 
-pub returns-then-is_high : goal.returns-then-is_high
-returns-then-is_high c =
-    let a = c.args in let json = a.json.now in let i = a.spot.to in let w = waiting a.spot.waits in let s = c.requires.inside in let t : is_high (code_at json i) ≡ true = rw (← c.code_at-code.ensures, ← c.is_high.ensures) c.if-is_high.true in record {
+pub returns-then-high : goal.returns-then-high
+returns-then-high c =
+    let a = c.args in let json = a.json.now in let i = a.spot.to in let w = waiting a.spot.waits in let s = c.requires.inside in let t : is_high (code_at json i) ≡ true = rw (← c.code_at-code.ensures, ← c.high.ensures) c.if-high.true in record {
       onward = λ (s : Inside json i w). rw c.code_at-code.ensures (high_read json i w s c.if-byte-ne92.false c.if-next-ne117.false a.spot.at a.area.now t);
       further = omega arith;
     }
 
 pub character_of-requires : goal.character_of-requires
 character_of-requires c =
-    let a = c.args in let json = a.json.now in let i = a.spot.to in let w = waiting a.spot.waits in let s = c.requires.inside in let u = unit_here json i w s c.if-byte-ne92.false c.if-next-ne117.false in rw c.code_at-code.ensures (s.low, code_low json i w s c.if-byte-ne92.false c.if-next-ne117.false, finds_some a.spot.waits (code_at json i) a.spot.not_nought u.finds)
+    let a = c.args in let json = a.json.now in let i = a.spot.to in let w = waiting a.spot.waits in let s = c.requires.inside in let l = code_low json i w s c.if-byte-ne92.false c.if-next-ne117.false in (s.low, rw c.code_at-code.ensures (omega (arith, l)), a.spot.not_nought)
 
 pub append-end-requires : goal.append-end-requires
 append-end-requires c =
-    let a = c.args in let json = a.json.now in let i = a.spot.to in let w = waiting a.spot.waits in let s = c.requires.inside in (rw (c.character_of.ensures, c.code_at-code.ensures) (joined_low w (code_at json i) s.low (code_low json i w s c.if-byte-ne92.false c.if-next-ne117.false)), c.requires.not_at_quote.1)
+    let a = c.args in let json = a.json.now in let i = a.spot.to in let w = waiting a.spot.waits in let s = c.requires.inside in (rw (c.character_of.ensures.joined, c.code_at-code.ensures) (joined_low w (code_at json i) s.low (code_low json i w s c.if-byte-ne92.false c.if-next-ne117.false)), c.requires.not_at_quote.1)
 
 pub overflow_add-result-2 : goal.overflow_add-result-2
 overflow_add-result-2 c =
@@ -80,7 +75,7 @@ overflow_add-result-2 c =
 
 pub returns : goal.returns
 returns c =
-    let a = c.args in let json = a.json.now in let i = a.spot.to in let w = waiting a.spot.waits in let s = c.requires.inside in let t : is_high (code_at json i) ≡ false = rw (← c.code_at-code.ensures, ← c.is_high.ensures) c.if-is_high.false in record {
-      onward = λ (s : Inside json i w). rw (c.append-end.ensures.0, c.append-end.ensures.1, c.character_of.ensures, c.code_at-code.ensures) (code_read json i w s c.if-byte-ne92.false c.if-next-ne117.false a.spot.at a.area.now t);
+    let a = c.args in let json = a.json.now in let i = a.spot.to in let w = waiting a.spot.waits in let s = c.requires.inside in let t : is_high (code_at json i) ≡ false = rw (← c.code_at-code.ensures, ← c.high.ensures) c.if-high.false in record {
+      onward = λ (s : Inside json i w). rw (c.append-end.ensures.0, c.append-end.ensures.1, c.character_of.ensures.joined, c.code_at-code.ensures) (code_read json i w s c.if-byte-ne92.false c.if-next-ne117.false a.spot.at a.area.now t);
       further = omega arith;
     }

@@ -9,6 +9,6 @@ returns c =
     let a = c.args in
     λ ks e text words.
     elim c.if-byte-eq123.branch [
-      | then-byte-eq123 w ↦ rw (w.objects-is, w.put_word.ensures, add-one) (rw e at (starts_object text words a.objects.now a.n ks a.byte w.if-byte-eq123.true))
+      | then-byte-eq123 w ↦ rw (w.objects-is, w.put.ensures, add-one) (rw e at (starts_object text words a.objects.now a.n ks a.byte w.if-byte-eq123.true))
       | else-byte-eq123 w ↦ rw (w.objects-is, add-one) (starts_other text words a.objects.now a.n ks a.byte w.if-byte-eq123.false)
     ]
