@@ -20,7 +20,9 @@ use crate::units::{character, low_ahead};
 // How many bytes and words are gathered; how many values have started; whether a name is being
 // gathered, where it begins and how many bytes of text are left from its quote on; the number of an
 // escape so far, and the high surrogate that waits for its low one, or 0.
-// No `Option` of a name: `Gather` of `naming`, which `Held` equates with this, keeps it when it ended.
+// No `Option` of a name: `Gather` of `naming`, which `Held` equates with this, keeps it when it ended; and its `waits`
+// is a number, 0 for none, as `joined` has it. Nor are text, words and objects one struct: each function takes only
+// those that it writes, and its clause (`OnText`, `OnWords`, `OnObjects`) says so.
 #[derive(Clone, Copy)]
 pub struct Gathered {
     pub size: usize,

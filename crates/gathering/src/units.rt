@@ -8,7 +8,8 @@ use escapes::{character_of, low};
 use figures::byte_at;
 use watching::escaping::hex_more;
 
-// The number of the four digits from place i on; behind the end they count as 0.
+// The number of the four digits from place i on; behind the end they count as 0. No loop: its invariant would be the
+// clause's four lines again.
 pub(crate) fn unit_from(json: &[u8], i: usize) -> u32
     requires { i ≤ 100_000 }
     ensures { result ≡ unit_from json.now i }
