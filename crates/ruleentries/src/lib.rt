@@ -1,7 +1,7 @@
 // Refusals 6 and 7 of a rule sheet whose clauses are in order: the clauses' entries, each passed once,
 // and their names.
 //
-// Contracts cite `rulesheet`'s `Faults` and `Read`.
+// Contracts cite `rulesheet`'s `Faults`, `Found` and `Read`.
 #![tactic(auto)]
 
 ghost use Rattle.std.specs.Prelude.{not, ◌≡◌, ◌+◌, ◌≤◌};

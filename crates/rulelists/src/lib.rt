@@ -128,7 +128,7 @@ fn few_differ(words: &[u32], text: &[u8], form: RuleForm, list: Entries) -> bool
 }
 
 // The same, and whether the entries, which have names, are in order.
-pub fn named_fine(words: &[u32], text: &[u8], form: RuleForm, fields: Fields, list: Entries) -> bool
+fn named_fine(words: &[u32], text: &[u8], form: RuleForm, fields: Fields, list: Entries) -> bool
     requires { RulesFormed words.now form × (length text.now ≡ text_word words.now) × (list.first + list.count ≤ form.e) × (is_named fields ≡ true) }
     ensures { result ≡ true → ListFine words.now text.now fields list.first list.count }
 {

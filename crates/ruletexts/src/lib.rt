@@ -1,6 +1,6 @@
 // Refusal 13 of a rule sheet: an entry whose name or, of an enum, whose string is not UTF-8.
 //
-// Contracts cite `rulesheet`'s `Faults` and `Read`, and `specs/Ranges.antt`.
+// Contracts cite `rulesheet`'s `Faults`, `Found` and `Read`, and `specs/Ranges.antt`.
 #![tactic(auto)]
 
 ghost use Rattle.std.specs.Prelude.{true, ◌≡◌, ◌<◌, length};
