@@ -67,9 +67,15 @@ fn rows_pass(
         Clause::Maximum(limit) => first_rows(row, n, |at| {
             plainly_maximum(number_in(record, form, at), limit)
         }),
-        Clause::MinLength(least) if least <= FEW => first_rows(row, n, |at| {
-            few_characters(text, string_in(record, form, at), least)
-        }),
+        Clause::MinLength(least) => if least <= FEW {
+            first_rows(
+                row,
+                n,
+                |at| few_characters(text, string_in(record, form, at), least),
+            )
+        } else {
+            0
+        },
         Clause::MaxLength(most) => first_rows(row, n, |at| {
             few_bytes(string_in(record, form, at), most)
         }),

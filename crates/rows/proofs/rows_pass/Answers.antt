@@ -34,10 +34,10 @@ unfolding passes
 returns-in-Maximum c =
     rows_so _ _ _ c.first_rows-in-Maximum.ensures (λ j told rs us. tried rs us (doc_of c.args.«record».now c.args.text.now) j _ _ _ _ c.in-Maximum.is refl (search rules))
 
-pub returns-in-MinLength : goal.returns-in-MinLength
+pub returns-then-least-le-FEW : goal.returns-then-least-le-FEW
 unfolding passes
-returns-in-MinLength c =
-    rows_so _ _ _ c.first_rows-in-MinLength.ensures (λ j told rs us. tried rs us (doc_of c.args.«record».now c.args.text.now) j _ _ _ _ c.in-MinLength.is refl (search rules))
+returns-then-least-le-FEW c =
+    rows_so _ _ _ c.first_rows-then-least-le-FEW.ensures (λ j told rs us. tried rs us (doc_of c.args.«record».now c.args.text.now) j _ _ _ _ c.in-MinLength.is refl (search rules))
 
 pub returns-in-MaxLength : goal.returns-in-MaxLength
 unfolding passes
