@@ -12,6 +12,8 @@ use Rattle.reader.specs.Call.{text_made, words_made, text_outcome, area_after}
 use Rattle.tally.specs.Tallying.{tally_of}
 use Rattle.tally.specs.declared.Units.{Units}
 use Rattle.tally.proofs.Tallied.{Tallied}
+use Rattle.laying.specs.declared.Refusal.{Refusal}
+use Rattle.laying.specs.declared.Refusal.TheVariants.{TooLong, NotJson, RepeatedName, FewWords, ShortText}
 use Rattle.laying.specs.declared.Refused.{Refused}
 
 -- ---- where the levels start
@@ -26,6 +28,14 @@ abbrev pub Started : List ℕ → List ℕ → ℕ → Type 0
 Started counters cells k = (j : ℕ) → j < k → get_or cells j 0 ≡ start_at counters j
 
 -- ---- the call
+
+-- 01's number of each refusal that is no fault of the first pass
+abbrev pub refusal_number : Refusal → ℕ
+refusal_number TooLong = 20
+refusal_number NotJson = 21
+refusal_number RepeatedName = 25
+refusal_number FewWords = 27
+refusal_number ShortText = 28
 
 -- an answer, as reader/specs/Call.antt has it
 abbrev pub outcome_of : Result ℕ Refused → Outcome

@@ -3,12 +3,41 @@
 #![tactic(auto)]
 
 ghost use Rattle.std.specs.Prelude.{◌≡◌, suc, ◌≤◌, ◌<◌, length};
-ghost use Rattle.laying.specs.Laying.{start_at, Started, Countable, Laid};
+ghost use Rattle.laying.specs.Laying.{start_at, Started, Countable, Laid, refusal_number};
 
 use writing::write_sheet;
 
-// A text is refused: the refusal's number, and its place. The number is no enum, since 22 to 26 come
-// from `Watch::fault`, a number.
+// Why a text is refused, with 01's numbers: the areas of its call are too short for it (`FewWords`,
+// `ShortText`), or it is at fault itself.
+#[derive(Clone, Copy, Debug, PartialEq, Eq)]
+pub enum Refusal {
+    TooLong = 20,
+    NotJson = 21,
+    RepeatedName = 25,
+    FewWords = 27,
+    ShortText = 28,
+}
+
+impl Refusal {
+    pub const TOO_LONG: u32 = Refusal::TooLong as u32;
+
+    pub const NOT_JSON: u32 = Refusal::NotJson as u32;
+
+    pub const REPEATED_NAME: u32 = Refusal::RepeatedName as u32;
+
+    pub const FEW_WORDS: u32 = Refusal::FewWords as u32;
+
+    pub const SHORT_TEXT: u32 = Refusal::ShortText as u32;
+
+    // 01's number of the refusal.
+    pub fn number(self) -> u32
+        ensures { result ≡ refusal_number self }
+    {
+        self as u32
+    }
+}
+
+// A text is refused: the refusal's number, and its place.
 #[derive(Clone, Copy)]
 pub struct Refused {
     pub number: u32,
@@ -51,13 +80,13 @@ pub fn write(
     let needed = 6 * n + 4;
     if words.len() < needed as usize {
         return Err(Refused {
-            number: 27,
+            number: Refusal::FEW_WORDS,
             place: needed,
         });
     }
     if text.len() < size as usize {
         return Err(Refused {
-            number: 28,
+            number: Refusal::SHORT_TEXT,
             place: size,
         });
     }

@@ -6,7 +6,7 @@ ghost use Rattle.reader.specs.Call.{Reads};
 ghost use Rattle.laying.specs.Laying.{outcome_of};
 ghost use Rattle.refusing.specs.Refusing.{Lent};
 
-use laying::{Refused, write};
+use laying::{Refusal, Refused, write};
 use refusing::refusal_of;
 
 // Reads a text with areas for its names.
@@ -54,7 +54,7 @@ pub fn read(json: &[u8], words: &mut [u32], text: &mut [u8]) -> Result<u32, Refu
         ..=1_024 => read_sized::<1_025, 1_538>(json, words, text),
         ..=65_536 => read_sized::<65_537, 3_072>(json, words, text),
         _ => Err(Refused {
-            number: 20,
+            number: Refusal::TOO_LONG,
             place: 0,
         }),
     }

@@ -12,7 +12,7 @@ ghost use Rattle.refusing.specs.Refusing.{Come, Ended, Endable, first_one_of, Fi
 
 use brackets::Open;
 use follow::{End, follow};
-use laying::Refused;
+use laying::{Refusal, Refused};
 use names::Names;
 use namesakes::first_repeated;
 use scan::first_pass;
@@ -66,7 +66,7 @@ fn first_amiss(words: &[u32], names: &[u8], filled: usize, watch: Watch) -> Opti
     let k = first_repeated(words, names, all);
     if k < count {
         return Some(Amiss {
-            number: 25,
+            number: Refusal::REPEATED_NAME,
             left: words[3 * k + 2] as usize,
         });
     }
@@ -98,7 +98,7 @@ pub fn refusal_of(
     let end = whole_text(json, halt.at, scan.place, opened);
     if !end.whole {
         return Err(Refused {
-            number: 21,
+            number: Refusal::NOT_JSON,
             place: end.at as u32,
         });
     }
