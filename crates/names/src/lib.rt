@@ -40,8 +40,8 @@ pub fn range_at(words: &[u32], names: Names, i: usize) -> Range
     }
 }
 
-// The lowest name with the bytes of name i, or i where no earlier one has them: that is what
-// `first_same` of the clause is, by which `repeats_at`, cited by docs' promises, is defined.
+// The lowest name with the bytes of name i, or i where no earlier one has them: so `first_same`
+// of `specs/` is defined, and by it when a name is repeated.
 pub fn first_same(words: &[u32], text: &[u8], names: Names, i: usize) -> usize
     requires { Lying words.now text.now names × (i < names.count) }
     ensures { result ≡ first_same (name_at words.now text.now names) i }

@@ -91,21 +91,6 @@ module _ {places : ℕ} {name : ℕ → List ℕ} {nodes marks : List ℕ} where
   pub branch_mark : {x : List ℕ} {i node mark : ℕ} → Reached places name nodes marks x i node mark → places ≤ node → mark < length x
   branch_mark {node = node} r l = let e : node ≡ places + (node - places) = omega arith in (r.forked (node - places) e).within
 
-  module _ {x : List ℕ} {i node mark r : ℕ} where
-    pub child_one : 0 < r → r ≤ i → Leads places name nodes marks node mark (letter_of places node mark x) (r - 1)
-        → Child places name nodes marks x i node mark r
-    child_one some h l = record { within = h; one = λ g. l; none = λ e. absurd (zero e) }
-      where
-        zero : r ≡ 0 → ⊥
-        zero e = omega arith
-
-    pub child_none : r ≤ 0 → ((c : ℕ) → c < i → Leads places name nodes marks node mark (letter_of places node mark x) c → ⊥)
-        → Child places name nodes marks x i node mark r
-    child_none h alone = record { within = omega arith; one = λ g. absurd (zero g); none = λ e. alone }
-      where
-        zero : 0 < r → ⊥
-        zero g = omega arith
-
   module _ {i : ℕ} (s : Stand places name nodes marks i) where
     not_both : {node mark letter c d : ℕ} → c < d → d < i → Leads places name nodes marks node mark letter c
         → Leads places name nodes marks node mark letter d → ⊥
@@ -228,23 +213,23 @@ spot_fresh {name = name} {i = i} t = repeats_not name i t.fresh
 -- a name leads name i on, and the two are compared
 module _ {places : ℕ} {name : ℕ → List ℕ} {nodes marks : List ℕ} {i node mark from r : ℕ} (s : Stand places name nodes marks i)
     (g : Seeking places name nodes marks i node mark) (f : From places node mark from)
-    (d : Child places name nodes marks (name i) i node mark r) (some : r ≡ 0 → ⊥) where
-  pub met_below : r - 1 < i
-  met_below = omega (arith, d.within)
+    (d : Child places name nodes marks (name i) i node mark r) where
+  pub met_below : r < i
+  met_below = d.within
 
-  its_lead : Leads places name nodes marks node mark (letter_of places node mark (name i)) (r - 1)
-  its_lead = d.one (omega arith)
+  its_lead : Leads places name nodes marks node mark (letter_of places node mark (name i)) r
+  its_lead = d.one
 
-  pub met : (length (name i) ≡ length (name (r - 1))) × Alike (name i) (name (r - 1)) 0 from × (from ≤ length (name i))
+  pub met : (length (name i) ≡ length (name r)) × Alike (name i) (name r) 0 from × (from ≤ length (name i))
   met = together s (name i) met_below its_lead f g.reached
 
   -- the node rises
-  pub met_above : node < places + (r - 1)
-  met_above = omega (arith, (s.free (r - 1) met_below).reached.low, its_lead.under)
+  pub met_above : node < places + r
+  met_above = omega (arith, (s.free r met_below).reached.low, its_lead.under)
 
-  module _ {a : ℕ} (e : Agreed (name i) (name (r - 1)) from a) where
+  module _ {a : ℕ} (e : Agreed (name i) (name r) from a) where
     pub met_same : length (name i) ≤ a → Repeated name i
-    met_same h = record { same = (r - 1, met_below, sym (equal met.0 met.1 e h)) }
+    met_same h = record { same = (r, met_below, sym (equal met.0 met.1 e h)) }
 
-    pub met_on : a < length (name i) → Seeking places name nodes marks i (places + (r - 1)) a
+    pub met_on : a < length (name i) → Seeking places name nodes marks i (places + r) a
     met_on h = onward s g met_below its_lead (parted met.0 met.1 e h)

@@ -92,11 +92,14 @@ module _ (places : ℕ) (name : ℕ → List ℕ) (nodes marks : List ℕ) where
   pub record Stand (i : ℕ) : Type 0 where
     pub free : (k : ℕ) → k < i → Free (name k) k (get_or nodes k 0) (get_or marks k 0)
 
-  -- r is one more than the number of the name that leads on, or 0 where none does
-  pub record Child (x : List ℕ) (i node mark r : ℕ) : Type 0 where
-    pub within : r ≤ i
-    pub one : 0 < r → Leads node mark (letter_of places node mark x) (r - 1)
-    pub none : r ≡ 0 → (c : ℕ) → c < i → Leads node mark (letter_of places node mark x) c → ⊥
+  -- name c leads on
+  pub record Child (x : List ℕ) (i node mark c : ℕ) : Type 0 where
+    pub within : c < i
+    pub one : Leads node mark (letter_of places node mark x) c
+
+  -- none does
+  pub record Alone (x : List ℕ) (i node mark : ℕ) : Type 0 where
+    pub none : (c : ℕ) → c < i → Leads node mark (letter_of places node mark x) c → ⊥
 
   -- no earlier name is the same as name i, and its way ends here
   pub record Spotted (i : ℕ) (spot : Spot) : Type 0 where

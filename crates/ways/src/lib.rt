@@ -9,7 +9,7 @@
 
 ghost use Rattle.std.specs.Prelude.{◌≡◌, ◌+◌, ◌≤◌, ◌<◌, length, get_or, MatchOption};
 ghost use Rattle.names.specs.Lain.{name_in};
-ghost use Rattle.ways.specs.Tree.{scaled_to, letter_of, place_of, Told, Reached, Child, Repeated, Spotted, StandingIn, PutIn};
+ghost use Rattle.ways.specs.Tree.{scaled_to, letter_of, place_of, Told, Reached, Alone, Child, Repeated, Spotted, StandingIn, PutIn};
 
 use names::Lain;
 
@@ -21,7 +21,8 @@ pub struct Spot {
 }
 
 // The names that stand: the last of each place and the one before each in its chain, by one more than
-// their number, or 0; and under which node each stands, with which mark.
+// their number, or 0, so that tables of zeros are clear; and under which node each stands, with which
+// mark.
 #[derive(Drop)]
 pub struct Tables<'a> {
     pub heads: &'a mut [u16],
@@ -76,12 +77,14 @@ impl<'a> Tables<'a> {
         letter_of(self.heads.len(), node, mark, lain.name(k)) == letter
     }
 
-    // The name that leads name i on from the node with the mark: one more than its number, or 0.
-    fn child(&self, lain: &Lain, i: usize, node: usize, mark: u32) -> usize
+    // The name that leads name i on from the node with the mark, if one does.
+    fn child(&self, lain: &Lain, i: usize, node: usize, mark: u32) -> Option<usize>
         requires i_in_bounds { i < lain.now.names.count }
         requires standing { StandingIn lain.now self.now i }
         requires reached { Reached (length self.now.heads.now) (name_in lain.now) self.now.nodes.now self.now.marks.now (name_in lain.now i) i node mark }
-        ensures { Child (length self.now.heads.now) (name_in lain.now) self.now.nodes.now self.now.marks.now (name_in lain.now i) i node mark result }
+        ensures { MatchOption result
+            (Alone (length self.now.heads.now) (name_in lain.now) self.now.nodes.now self.now.marks.now (name_in lain.now i) i node mark)
+            (Child (length self.now.heads.now) (name_in lain.now) self.now.nodes.now self.now.marks.now (name_in lain.now i) i node mark) }
     {
         let places = self.heads.len();
         let letter = letter_of(places, node, mark, lain.name(i));
@@ -90,11 +93,11 @@ impl<'a> Tables<'a> {
         while 0 < c {
             let k = c - 1;
             if self.leads(lain, node, mark, letter, k) {
-                return c;
+                return Some(k);
             }
             c = usize::from(self.next[k]);
         }
-        c
+        None
     }
 
     // Where the way of name i ends, if no earlier name is the same.
@@ -111,11 +114,9 @@ impl<'a> Tables<'a> {
         let mut mark = (print % 4_294_967_296) as u32;
         let mut from = 0;
         loop {
-            let c = self.child(lain, i, node, mark);
-            if c == 0 {
+            let Some(k) = self.child(lain, i, node, mark) else {
                 return Some(Spot { node, mark });
-            }
-            let k = c - 1;
+            };
             let other = lain.name(k);
             from = text::compare::agreed(name, other, from);
             if name.len() <= from {

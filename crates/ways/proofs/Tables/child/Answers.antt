@@ -1,7 +1,7 @@
 use mathlib.Core.Path.{sym, ◌∙◌}
 use native.Mathlib.Omega.{arith}
 use Rattle.ways.proofs.Chains.{begin, shorter, on}
-use Rattle.ways.proofs.Ways.{leads_place, branch_mark, child_one, child_none}
+use Rattle.ways.proofs.Ways.{leads_place, branch_mark}
 use Rattle.ways.proofs.Tables.child.Goals as goal
 
 pub letter_of-letter-requires : goal.letter_of-letter-requires
@@ -32,7 +32,7 @@ leads-requires c =
 pub returns-then-leads : goal.returns-then-leads
 returns-then-leads c =
     let inv = c.loop-c.invariant in
-    child_one (omega arith) (omega arith) (rw inv.3 at (c.leads.ensures.hit c.if-leads.true))
+    record { within = omega arith; one = rw inv.3 at (c.leads.ensures.hit c.if-leads.true) }
 
 pub bounds-self-k : goal.bounds-self-k
 bounds-self-k c = omega (arith, c.loop-c.invariant.2.room.next_room)
@@ -54,4 +54,4 @@ loop-c-preserved c =
 pub returns : goal.returns
 returns c =
     let inv = c.loop-c.invariant in
-    child_none (omega arith) (λ k h l. inv.0.passed k (omega arith) h (rw (← inv.3) at l))
+    record { none = λ k h l. inv.0.passed k (omega arith) h (rw (← inv.3) at l) }

@@ -19,9 +19,9 @@ scaled-node-requires c =
     let room = c.requires.standing.room in
     (omega arith, room.some_places, room.few_places)
 
-pub loop-name-init : goal.loop-name-init
+pub loop-k-init : goal.loop-k-init
 unfolding root_of print_of
-loop-name-init c =
+loop-k-init c =
     let name = c.name-name.ensures.bytes in
     let print = rw name at c.fingerprint-print.ensures in (
       rw (c.scaled-node.ensures.0, print) (begin c.requires.standing.stand (rw (c.scaled-node.ensures.0, print) at c.scaled-node.ensures.1)),
@@ -32,58 +32,57 @@ loop-name-init c =
       c.name-name.ensures.short,
     )
 
-pub child-c-requires : goal.child-c-requires
-child-c-requires c = let inv = c.loop-name.invariant in record {
+pub child-requires : goal.child-requires
+child-requires c = let inv = c.loop-k.invariant in record {
   i_in_bounds = inv.2;
   standing = inv.3;
   reached = inv.0.reached;
 }
 
-pub returns-then-c-eq0 : goal.returns-then-c-eq0
-returns-then-c-eq0 c =
-    let inv = c.loop-name.invariant in
-    spotted_free inv.3.stand inv.0 (c.child-c.ensures.none c.if-c-eq0.true)
+pub returns-in_default : goal.returns-in_default
+returns-in_default c =
+    let inv = c.loop-k.invariant in
+    spotted_free inv.3.stand inv.0 c.in_default.ensures.none
 
 pub name-other-requires : goal.name-other-requires
 name-other-requires c =
-    let inv = c.loop-name.invariant in
-    omega (arith, met_below inv.3.stand inv.0 inv.1 c.child-c.ensures c.if-c-eq0.false, inv.2)
+    let inv = c.loop-k.invariant in
+    omega (arith, met_below inv.3.stand inv.0 inv.1 c.in-Some.ensures, inv.2)
 
 pub agreed-from-requires : goal.agreed-from-requires
 agreed-from-requires c =
-    let inv = c.loop-name.invariant in
-    let both = met inv.3.stand inv.0 inv.1 c.child-c.ensures c.if-c-eq0.false in
+    let inv = c.loop-k.invariant in
+    let both = met inv.3.stand inv.0 inv.1 c.in-Some.ensures in
     rw (inv.4, c.name-other.ensures.bytes) (both.2, both.0)
 
 pub returns-then-name-from : goal.returns-then-name-from
 returns-then-name-from c =
-    let inv = c.loop-name.invariant in
-    let child = c.child-c.ensures in
-    met_same inv.3.stand inv.0 inv.1 child c.if-c-eq0.false
+    let inv = c.loop-k.invariant in
+    let child = c.in-Some.ensures in
+    met_same inv.3.stand inv.0 inv.1 child
     (rw (inv.4, c.name-other.ensures.bytes) at c.agreed-from.ensures)
     (rw inv.4 at c.if-name-from.true)
 
 pub overflow_add-node : goal.overflow_add-node
 overflow_add-node c =
-    let inv = c.loop-name.invariant in
-    omega (arith, inv.3.room.few_places, c.args.lain.now.lying.few, inv.2, c.child-c.ensures.within)
+    let inv = c.loop-k.invariant in
+    omega (arith, inv.3.room.few_places, c.args.lain.now.lying.few, inv.2, c.in-Some.ensures.within)
 
-pub overflow_cast-mark-in-loop-name : goal.overflow_cast-mark-in-loop-name
-overflow_cast-mark-in-loop-name c = omega (arith, c.loop-name.invariant.5)
+pub overflow_cast-mark-in-loop-k : goal.overflow_cast-mark-in-loop-k
+overflow_cast-mark-in-loop-k c = omega (arith, c.loop-k.invariant.5)
 
-pub loop-name-smaller : goal.loop-name-smaller
-loop-name-smaller c =
-    let inv = c.loop-name.invariant in
-    let child = c.child-c.ensures in
-    let some = c.if-c-eq0.false in
-    omega (arith, met_above inv.3.stand inv.0 inv.1 child some, met_below inv.3.stand inv.0 inv.1 child some)
+pub loop-k-smaller : goal.loop-k-smaller
+loop-k-smaller c =
+    let inv = c.loop-k.invariant in
+    let child = c.in-Some.ensures in
+    omega (arith, met_above inv.3.stand inv.0 inv.1 child, met_below inv.3.stand inv.0 inv.1 child)
 
-pub loop-name-preserved : goal.loop-name-preserved
-loop-name-preserved c =
-    let inv = c.loop-name.invariant in
-    let child = c.child-c.ensures in
+pub loop-k-preserved : goal.loop-k-preserved
+loop-k-preserved c =
+    let inv = c.loop-k.invariant in
+    let child = c.in-Some.ensures in
     let agreed = rw (inv.4, c.name-other.ensures.bytes) at c.agreed-from.ensures in (
-      met_on inv.3.stand inv.0 inv.1 child c.if-c-eq0.false agreed (rw inv.4 at c.if-name-from.false),
+      met_on inv.3.stand inv.0 inv.1 child agreed (rw inv.4 at c.if-name-from.false),
       record { root = λ h. absurd (above _ _ h); branch = λ h. refl },
       inv.2,
       inv.3,

@@ -8,8 +8,8 @@ use Rattle.ways.specs.Tree.{StandingIn}
 use Rattle.ways.proofs.Ways.{Seeking, From}
 use Rattle.ways.proofs.Tables.spot_of.Given as goal
 
-abbrev pub invariant-loop-name : goal.invariant-loop-name
-invariant-loop-name l =
+abbrev pub invariant-loop-k : goal.invariant-loop-k
+invariant-loop-k l =
     Seeking l.places (name_in l.lain) l.self.nodes.now l.self.marks.now l.i l.node l.mark
     × From l.places l.node l.mark l.from
     × (l.i < l.lain.names.count)
@@ -17,5 +17,5 @@ invariant-loop-name l =
     × (l.name ≡ name_in l.lain l.i)
     × (length l.name < 4_294_967_296)
 
-abbrev pub decreases-loop-name : goal.decreases-loop-name
-decreases-loop-name l = (l.places + l.i) - l.node
+abbrev pub decreases-loop-k : goal.decreases-loop-k
+decreases-loop-k l = (l.places + l.i) - l.node
