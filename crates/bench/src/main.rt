@@ -1,6 +1,7 @@
 // The bench program: one bundle on standard input, the reply to it in lines on standard output.
 //
-// What it prints is settled, and proved, in crate `bundle`; here it is written out.
+// What it prints is settled, and proved, in crate `bundle`; that crate's `Display`s, which are not
+// proved, put it in words, and here these are written out.
 #![tactic(auto)]
 
 ghost use Rattle.std.specs.Prelude.{Ok};
