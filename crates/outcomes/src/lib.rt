@@ -13,7 +13,7 @@ ghost use Rattle.meaning.specs.Answer.{number_for_c};
 ghost use Rattle.number.specs.Called.{outcome_answer};
 
 use laying::Refused;
-use listing::{QueueRefused, QueueRefused, Queued, Queued};
+use listing::{QueueRefused, Queued};
 use number::{number_of_count, number_of_refusal};
 use sheet::refusal::Checked;
 
