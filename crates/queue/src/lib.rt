@@ -56,7 +56,8 @@ fn judge_all<'a>(
     requires rules_checked { RulesChecked rules.now rule_text.now checked }
     ensures { AllJudged words.now bytes.now listing.now rules.now rule_text.now cells.old list.old answers.old cells.new list.new answers.new }
 {
-    for i in 0..records_in(listing) {
+    let many = records_in(listing);
+    for i in 0..many {
         answers[i] = judge_listed(
             words, bytes, listing, rules, rule_text, cells, list, checked, i,
         );
