@@ -2,8 +2,10 @@
 // place lead with a byte. Each function is the table of its place.
 #![tactic(auto)]
 
+ghost use Rattle.std.proofs.Math.Option as Math;
 ghost use Rattle.std.proofs.Math.Option.{none};
 ghost use Rattle.std.specs.Prelude.{◌≡◌, ◌≤◌, ◌<◌};
+ghost use Rattle.jsontext.specs.Automaton as Auto;
 ghost use Rattle.jsontext.specs.Automaton.{moves};
 ghost use Rattle.grammar.specs.Codes.{leads, bracket_at, bracket_numbered, place_at, LeadsWithin};
 
@@ -33,6 +35,32 @@ impl Bracket {
             2 => Some(Bracket::Curly),
             _ => None,
         }
+    }
+}
+
+// How the innermost open bracket is told to a step: as it is, if one is open, or by its number.
+pub trait Around {
+    ghost innermost: { Self → Math.Option Auto.Bracket };
+
+    fn bracket(self) -> Option<Bracket>
+        ensures { bracket_at result ≡ innermost self };
+}
+
+impl Around for Option<Bracket> {
+    ghost innermost = { bracket_at };
+
+    #[inline(always)]
+    fn bracket(self) -> Option<Bracket> {
+        self
+    }
+}
+
+impl Around for u8 {
+    ghost innermost = { bracket_numbered };
+
+    #[inline(always)]
+    fn bracket(self) -> Option<Bracket> {
+        Bracket::of(self)
     }
 }
 
@@ -125,8 +153,17 @@ fn character(place: u8, byte: u8) -> Option<Move>
 // One step: where a byte leads from a place, with the innermost open bracket around it; no step where no text goes on so.
 // Inlined always: a `Move` handed back through memory, byte by byte, makes reading a tenth slower.
 #[inline(always)]
+pub fn step<A: Around>(place: u8, around: A, byte: u8) -> Option<Move>
+    requires { place < 50 }
+    ensures { result ≡ leads (moves (place_at place) (A.innermost around)) byte }
+{
+    step_within(place, around.bracket(), byte)
+}
+
+// The same, of the bracket as it is.
+#[inline(always)]
 #[tactic(auto, using(crate::proofs::Leading::tables))]
-pub fn step(place: u8, around: Option<Bracket>, byte: u8) -> Option<Move>
+fn step_within(place: u8, around: Option<Bracket>, byte: u8) -> Option<Move>
     requires { place < 50 }
     ensures { result ≡ leads (moves (place_at place) (bracket_at around)) byte }
 {

@@ -25,7 +25,7 @@ fn schema_in(named: bool, entry: EntryRow) -> u32
 
 // Whether the schemas of these entries, which have names or not, stand after s.
 fn all_later(words: &[u32], form: RuleForm, s: RuleRow, named: bool, list: Entries) -> bool
-    requires { RulesFormed words.now form × (list.first + list.count ≤ form.e) }
+    requires { RulesFormed words.now form × (0 < list.count → list.first + list.count ≤ form.e) }
     ensures { result ≡ true → AllLater words.now named s.0 list.first (list.first + list.count) }
 {
     for x in list.first..list.first + list.count {
@@ -55,7 +55,7 @@ pub fn after_list(
     list: Entries,
     steps: u32,
 ) -> u32
-    requires { RulesFormed words.now form × (list.first + list.count ≤ form.e) }
+    requires { RulesFormed words.now form × (0 < list.count → list.first + list.count ≤ form.e) }
     ensures { Counted shape.unguarded (AllLater words.now (is_named shape.fields) s.0 list.first (list.first + list.count)) steps result }
 {
     if !shape.unguarded {

@@ -12,6 +12,7 @@ use Rattle.text.specs.Words.{Alike}
 use Rattle.text.specs.Fingerprint.{fingerprint_of}
 use Rattle.ways.specs.declared.Spot.{Spot}
 use Rattle.ways.specs.declared.Tables.{Tables}
+use Rattle.ways.specs.declared.Stood.{Stood}
 use Rattle.names.specs.declared.Lain.{Lain}
 use Rattle.names.specs.Lain.{name_in}
 
@@ -135,6 +136,9 @@ pub record Standing (name : ℕ → List ℕ) (count : ℕ) (heads next nodes ma
 -- the same of the tables in code
 abbrev pub StandingIn : Lain → Tables → ℕ → Type 0
 StandingIn l t = Standing (name_in l) l.names.count t.heads.now t.next.now t.nodes.now t.marks.now
+
+abbrev pub StoodIn : Lain → Stood → ℕ → Type 0
+StoodIn l t = Standing (name_in l) l.names.count t.heads.now t.next.now t.nodes.now t.marks.now
 
 abbrev pub PutIn : Tables → ℕ → Spot → Tables → Type 0
 PutIn t i spot u =

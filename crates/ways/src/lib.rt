@@ -9,7 +9,7 @@
 
 ghost use Rattle.std.specs.Prelude.{◌≡◌, ◌+◌, ◌≤◌, ◌<◌, length, get_or, MatchOption};
 ghost use Rattle.names.specs.Lain.{name_in};
-ghost use Rattle.ways.specs.Tree.{scaled_to, letter_of, place_of, Told, Reached, Alone, Child, Repeated, Spotted, StandingIn, PutIn};
+ghost use Rattle.ways.specs.Tree.{scaled_to, letter_of, place_of, Told, Reached, Alone, Child, Repeated, Spotted, StandingIn, StoodIn, PutIn};
 
 use names::Lain;
 
@@ -29,6 +29,15 @@ pub struct Tables<'a> {
     pub next: &'a mut [u16],
     pub nodes: &'a mut [u16],
     pub marks: &'a mut [u32],
+}
+
+// The same, as they are read: the tables may be lent to others meanwhile.
+#[derive(Clone, Copy)]
+pub struct Stood<'a> {
+    pub heads: &'a [u16],
+    pub next: &'a [u16],
+    pub nodes: &'a [u16],
+    pub marks: &'a [u32],
 }
 
 // The place of a number of 32 bits among so many.
@@ -61,7 +70,7 @@ fn place_of(places: usize, node: usize) -> usize
     node - places
 }
 
-impl<'a> Tables<'a> {
+impl<'a> Stood<'a> {
     // Whether name k stands under the node with this mark and this letter.
     fn leads(&self, lain: &Lain, node: usize, mark: u32, letter: u64, k: usize) -> bool
         requires k_in_bounds { (k < lain.now.names.count) × (k < length self.now.nodes.now) × (k < length self.now.marks.now) }
@@ -80,7 +89,7 @@ impl<'a> Tables<'a> {
     // The name that leads name i on from the node with the mark, if one does.
     fn child(&self, lain: &Lain, i: usize, node: usize, mark: u32) -> Option<usize>
         requires i_in_bounds { i < lain.now.names.count }
-        requires standing { StandingIn lain.now self.now i }
+        requires standing { StoodIn lain.now self.now i }
         requires reached { Reached (length self.now.heads.now) (name_in lain.now) self.now.nodes.now self.now.marks.now (name_in lain.now i) i node mark }
         ensures { MatchOption result
             (Alone (length self.now.heads.now) (name_in lain.now) self.now.nodes.now self.now.marks.now (name_in lain.now i) i node mark)
@@ -103,7 +112,7 @@ impl<'a> Tables<'a> {
     // Where the way of name i ends, if no earlier name is the same.
     pub fn spot_of(&self, lain: &Lain, i: usize) -> Option<Spot>
         requires i_in_bounds { i < lain.now.names.count }
-        requires standing { StandingIn lain.now self.now i }
+        requires standing { StoodIn lain.now self.now i }
         ensures { MatchOption result (Repeated (name_in lain.now) i)
             (Spotted (length self.now.heads.now) (name_in lain.now) self.now.nodes.now self.now.marks.now i) }
     {
@@ -125,6 +134,24 @@ impl<'a> Tables<'a> {
             node = places + k;
             mark = from as u32;
         }
+    }
+}
+
+impl<'a> Tables<'a> {
+    // Where the way of name i ends, if no earlier name is the same.
+    pub fn spot_of(&self, lain: &Lain, i: usize) -> Option<Spot>
+        requires i_in_bounds { i < lain.now.names.count }
+        requires standing { StandingIn lain.now self.now i }
+        ensures { MatchOption result (Repeated (name_in lain.now) i)
+            (Spotted (length self.now.heads.now) (name_in lain.now) self.now.nodes.now self.now.marks.now i) }
+    {
+        let stood = Stood {
+            heads: &*self.heads,
+            next: &*self.next,
+            nodes: &*self.nodes,
+            marks: &*self.marks,
+        };
+        stood.spot_of(lain, i)
     }
 
     // Puts name i at the spot, in front of the chain there.

@@ -16,7 +16,7 @@ entries_fine-requires c =
 
 pub after_list-requires : goal.after_list-requires
 after_list-requires c =
-    (c.requires.0, listed_within c.args.form.e c.args.shape c.args.from.start c.args.clause (sym c.listed.ensures ∙ not-false _ c.if-not-listed.false-raw))
+    (c.requires.0, λ _. listed_within c.args.form.e c.args.shape c.args.from.start c.args.clause (sym c.listed.ensures ∙ not-false _ c.if-not-listed.false-raw))
 
 pub returns : goal.returns
 returns c =

@@ -7,11 +7,14 @@ use Rattle.laws.proofs.Tests.{le_or_lt}
 use Rattle.rulesteps.specs.Later.{schema_in}
 use Rattle.rulesteps.proofs.all_later.Goals as goal
 
+pub overflow_add-x-end : goal.overflow_add-x-end
+overflow_add-x-end c = ⊎_elim (λ (h : c.args.list.count ≤ 0). omega arith) (λ (h : 0 < c.args.list.count). omega (arith, c.requires.1 h)) (le_or_lt c.args.list.count 0)
+
 pub loop-x-init : goal.loop-x-init
 loop-x-init c = λ y low high. absurd (omega arith)
 
 pub entry_at-requires : goal.entry_at-requires
-entry_at-requires c = (c.requires.0, omega (arith, c.requires.1))
+entry_at-requires c = (c.requires.0, omega (arith, c.requires.1 (omega arith)))
 
 pub returns-then-schema_in-s : goal.returns-then-schema_in-s
 returns-then-schema_in-s c t = absurd (false≢true t)

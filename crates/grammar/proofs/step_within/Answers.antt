@@ -1,7 +1,7 @@
--- `grammar::step` meets its contract: within a word, digits or a character the bracket is no matter.
+-- `grammar::step_within` meets its contract: within a word, digits or a character the bracket is no matter.
 -- Assumes nothing.
 use Rattle.grammar.specs.Codes.{bracket_at}
-use Rattle.grammar.proofs.step.Goals as goal
+use Rattle.grammar.proofs.step_within.Goals as goal
 
 pub returns-in-6-to-15 : goal.returns-in-6-to-15
 returns-in-6-to-15 c = c.spelled.ensures (bracket_at c.args.around)

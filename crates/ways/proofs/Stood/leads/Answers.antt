@@ -2,7 +2,7 @@
 use mathlib.Core.Path.{sym, ◌∙◌}
 use native.Mathlib.Omega.{arith}
 use Rattle.ways.proofs.Ways.{told_not, told_by}
-use Rattle.ways.proofs.Tables.leads.Goals as goal
+use Rattle.ways.proofs.Stood.leads.Goals as goal
 
 pub returns-then-from-node : goal.returns-then-from-node
 returns-then-from-node c = told_not (λ l. c.if-from-node.true (c.from.ensures ∙ l.under))

@@ -2,7 +2,7 @@ use mathlib.Core.Path.{sym, ◌∙◌}
 use native.Mathlib.Omega.{arith}
 use Rattle.ways.proofs.Chains.{begin, shorter, on}
 use Rattle.ways.proofs.Ways.{leads_place, branch_mark}
-use Rattle.ways.proofs.Tables.child.Goals as goal
+use Rattle.ways.proofs.Stood.child.Goals as goal
 
 pub letter_of-letter-requires : goal.letter_of-letter-requires
 letter_of-letter-requires c l =

@@ -3,7 +3,7 @@ use Prim.Native.Nat.{ℕ, ◌+◌, ◌≤◌, ◌<◌}
 use native.Mathlib.Omega.{arith}
 use Rattle.ways.specs.Tree.{root_of, print_of}
 use Rattle.ways.proofs.Ways.{begin, spotted_free, met, met_below, met_above, met_same, met_on}
-use Rattle.ways.proofs.Tables.spot_of.Goals as goal
+use Rattle.ways.proofs.Stood.spot_of.Goals as goal
 
 below : {a b : ℕ} → a ≤ b → b < a → ⊥
 below h g = omega arith

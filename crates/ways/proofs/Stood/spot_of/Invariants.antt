@@ -4,16 +4,16 @@ use mathlib.Core.Path.{◌≡◌}
 use Prim.Native.Nat.{◌+◌, ◌-◌, ◌<◌}
 use lib.ListN.{length}
 use Rattle.names.specs.Lain.{name_in}
-use Rattle.ways.specs.Tree.{StandingIn}
+use Rattle.ways.specs.Tree.{StoodIn}
 use Rattle.ways.proofs.Ways.{Seeking, From}
-use Rattle.ways.proofs.Tables.spot_of.Given as goal
+use Rattle.ways.proofs.Stood.spot_of.Given as goal
 
 abbrev pub invariant-loop-k : goal.invariant-loop-k
 invariant-loop-k l =
     Seeking l.places (name_in l.lain) l.self.nodes.now l.self.marks.now l.i l.node l.mark
     × From l.places l.node l.mark l.from
     × (l.i < l.lain.names.count)
-    × StandingIn l.lain l.self l.i
+    × StoodIn l.lain l.self l.i
     × (l.name ≡ name_in l.lain l.i)
     × (length l.name < 4_294_967_296)
 
