@@ -10,14 +10,15 @@ ghost use Rattle.ways.specs.Tree.{places_max, Room};
 use names::Lain;
 use ways::Tables;
 
-// The lowest name that an earlier one repeats, or their number, in tables that are clear.
-fn first_among(lain: &Lain, tables: &mut Tables) -> usize
-    requires room { Room lain.now.names.count tables.old.heads.now tables.old.next.now tables.old.nodes.now tables.old.marks.now }
-    requires by_index { (p : ℕ) → get_or tables.old.heads.now p 0 ≡ 0 }
-    ensures { result ≡ lowest (repeats_in lain.now) lain.now.names.count }
+// The lowest name that an earlier one repeats, or their number, in tables that are clear. Both by value: behind an
+// address the slices are read again after each store, and the check of 100 names takes a quarter longer.
+fn first_among(lain: Lain, mut tables: Tables) -> usize
+    requires room { Room lain.names.count tables.heads.now tables.next.now tables.nodes.now tables.marks.now }
+    requires by_index { (p : ℕ) → get_or tables.heads.now p 0 ≡ 0 }
+    ensures { result ≡ lowest (repeats_in lain.entry) lain.entry.names.count }
 {
     for i in 0..lain.names.count {
-        let Some(spot) = tables.spot_of(lain, i) else {
+        let Some(spot) = tables.spot_of(&lain, i) else {
             return i;
         };
         tables.put(i, spot);
@@ -35,13 +36,13 @@ fn first_of<const N: usize, const PLACES: usize>(lain: &Lain) -> usize
     let mut next = [0u16; N];
     let mut nodes = [0u16; N];
     let mut marks = [0u32; N];
-    let mut tables = Tables {
+    let tables = Tables {
         heads: &mut heads,
         next: &mut next,
         nodes: &mut nodes,
         marks: &mut marks,
     };
-    first_among(lain, &mut tables)
+    first_among(*lain, tables)
 }
 
 // The lowest name that an earlier one repeats, or the number of names where none is repeated, as

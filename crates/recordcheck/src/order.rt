@@ -34,9 +34,9 @@ struct Brood {
 }
 
 // Whether row c is a child of row j, which is of this kind.
-fn child_ok(rows: &RecordRows<'_>, kind: RowKind, j: u32, c: u32) -> bool
-    requires { c < rows.now.form.rows }
-    ensures { result ≡ child_ok rows.now.words.now kind j c }
+fn child_ok(rows: RecordRows<'_>, kind: RowKind, j: u32, c: u32) -> bool
+    requires { c < rows.form.rows }
+    ensures { result ≡ child_ok rows.entry.words.now kind j c }
 {
     let row = rows.row(c);
     if row.owner != j {
@@ -46,9 +46,9 @@ fn child_ok(rows: &RecordRows<'_>, kind: RowKind, j: u32, c: u32) -> bool
 }
 
 // Whether all of the brood are children of their owner; each is told its level.
-fn children_ok(rows: &RecordRows<'_>, brood: Brood, levels: &mut [u8]) -> bool
-    requires { Holding rows.now.words.now rows.now.form brood.kind brood.owner brood.level brood.children.first brood.children.count × Levelled rows.now.words.now rows.now.form.rows levels.old }
-    ensures { result ≡ true → Held rows.now.words.now brood.kind brood.owner brood.children.first brood.children.count × Levelled rows.now.words.now rows.now.form.rows levels.new }
+fn children_ok(rows: RecordRows<'_>, brood: Brood, levels: &mut [u8]) -> bool
+    requires { Holding rows.words.now rows.form brood.kind brood.owner brood.level brood.children.first brood.children.count × Levelled rows.words.now rows.form.rows levels.old }
+    ensures { result ≡ true → Held rows.entry.words.now brood.kind brood.owner brood.children.first brood.children.count × Levelled rows.entry.words.now rows.entry.form.rows levels.new }
 {
     for i in 0..brood.children.count {
         let c = brood.children.first + i;
@@ -61,10 +61,10 @@ fn children_ok(rows: &RecordRows<'_>, brood: Brood, levels: &mut [u8]) -> bool
 }
 
 // Whether no two of these children share a name.
-fn apart(sheet: &RecordSheet<'_>, children: Children) -> bool
-    requires within { children.first + children.count ≤ sheet.now.rows.form.rows }
-    requires by_index { (i : ℕ) → i < children.count → fits (text_word sheet.now.rows.words.now) (row_at sheet.now.rows.words.now (children.first + i)).label ≡ true }
-    ensures { result ≡ true → Apart sheet.now.rows.words.now sheet.now.text.now children.first children.count }
+fn apart(sheet: RecordSheet<'_>, children: Children) -> bool
+    requires within { children.first + children.count ≤ sheet.rows.form.rows }
+    requires by_index { (i : ℕ) → i < children.count → fits (text_word sheet.rows.words.now) (row_at sheet.rows.words.now (children.first + i)).label ≡ true }
+    ensures { result ≡ true → Apart sheet.entry.rows.words.now sheet.entry.text.now children.first children.count }
 {
     let labels = sheet.rows.labels(children);
     labels.count <= namesakes::first_repeated(sheet.rows.words, sheet.text, labels)
@@ -73,23 +73,23 @@ fn apart(sheet: &RecordSheet<'_>, children: Children) -> bool
 // Whether all of the brood, few members of an object, are its members, and no two share a name, which
 // their signs mostly tell as they are met. Each is told its level. In two passes (`children_ok`, then
 // the signs) a passage's check took a quarter more.
-fn few_ok(sheet: &RecordSheet<'_>, brood: Brood, levels: &mut [u8]) -> bool
-    requires holding { Holding sheet.now.rows.words.now sheet.now.rows.form brood.kind brood.owner brood.level brood.children.first brood.children.count × (brood.kind ≡ Object) }
-    requires levelled { Levelled sheet.now.rows.words.now sheet.now.rows.form.rows levels.old }
-    ensures held { result ≡ true → Held sheet.now.rows.words.now brood.kind brood.owner brood.children.first brood.children.count }
-    ensures apart { result ≡ true → Apart sheet.now.rows.words.now sheet.now.text.now brood.children.first brood.children.count }
-    ensures levelled { result ≡ true → Levelled sheet.now.rows.words.now sheet.now.rows.form.rows levels.new }
+fn few_ok(sheet: RecordSheet<'_>, brood: Brood, levels: &mut [u8]) -> bool
+    requires holding { Holding sheet.rows.words.now sheet.rows.form brood.kind brood.owner brood.level brood.children.first brood.children.count × (brood.kind ≡ Object) }
+    requires levelled { Levelled sheet.rows.words.now sheet.rows.form.rows levels.old }
+    ensures held { result ≡ true → Held sheet.entry.rows.words.now brood.kind brood.owner brood.children.first brood.children.count }
+    ensures apart { result ≡ true → Apart sheet.entry.rows.words.now sheet.entry.text.now brood.children.first brood.children.count }
+    ensures levelled { result ≡ true → Levelled sheet.entry.rows.words.now sheet.entry.rows.form.rows levels.new }
 {
     let mut seen = [false; 128];
     for i in 0..brood.children.count {
         let c = brood.children.first + i;
-        if !child_ok(&sheet.rows, brood.kind, brood.owner, c) {
+        if !child_ok(sheet.rows, brood.kind, brood.owner, c) {
             return false;
         }
         let label = sheet.rows.row(c).label;
         let sign = text::print::sign(text::bytes_of(sheet.text, label)) as usize;
         if seen[sign] {
-            return children_ok(&sheet.rows, brood, levels) && apart(sheet, brood.children);
+            return children_ok(sheet.rows, brood, levels) && apart(sheet, brood.children);
         }
         seen[sign] = true;
         levels[wide(c)] = brood.level;
@@ -98,9 +98,9 @@ fn few_ok(sheet: &RecordSheet<'_>, brood: Brood, levels: &mut [u8]) -> bool
 }
 
 // Whether row j is in order, and tells its children their level.
-fn row_ok(sheet: &RecordSheet<'_>, levels: &mut [u8], j: u32) -> bool
-    requires { (j < sheet.now.rows.form.rows) × Levelled sheet.now.rows.words.now sheet.now.rows.form.rows levels.old }
-    ensures { result ≡ true → Ordered sheet.now.rows.words.now sheet.now.text.now j × Levelled sheet.now.rows.words.now sheet.now.rows.form.rows levels.new }
+fn row_ok(sheet: RecordSheet<'_>, levels: &mut [u8], j: u32) -> bool
+    requires { (j < sheet.rows.form.rows) × Levelled sheet.rows.words.now sheet.rows.form.rows levels.old }
+    ensures { result ≡ true → Ordered sheet.entry.rows.words.now sheet.entry.text.now j × Levelled sheet.entry.rows.words.now sheet.entry.rows.form.rows levels.new }
 {
     let level = levels[wide(j)];
     if level == 0 {
@@ -133,14 +133,14 @@ fn row_ok(sheet: &RecordSheet<'_>, levels: &mut [u8], j: u32) -> bool
     if kind.is_object() && count <= FEW {
         return few_ok(sheet, brood, levels);
     }
-    children_ok(&sheet.rows, brood, levels) && (!kind.is_object() || apart(sheet, children))
+    children_ok(sheet.rows, brood, levels) && (!kind.is_object() || apart(sheet, children))
 }
 
 // Whether all rows are, with a table that is clear.
-fn rows_ok(sheet: &RecordSheet<'_>, levels: &mut [u8]) -> bool
-    requires room { sheet.now.rows.form.rows ≤ length levels.old }
+fn rows_ok(sheet: RecordSheet<'_>, levels: &mut [u8]) -> bool
+    requires room { sheet.rows.form.rows ≤ length levels.old }
     requires by_index { (p : ℕ) → get_or levels.old p 0 ≡ 0 }
-    ensures { result ≡ true → (j : ℕ) → j < sheet.now.rows.form.rows → Ordered sheet.now.rows.words.now sheet.now.text.now j }
+    ensures { result ≡ true → (j : ℕ) → j < sheet.entry.rows.form.rows → Ordered sheet.entry.rows.words.now sheet.entry.text.now j }
 {
     if !root_ok(sheet.rows.row(0)) {
         return false;
@@ -155,9 +155,9 @@ fn rows_ok(sheet: &RecordSheet<'_>, levels: &mut [u8]) -> bool
 }
 
 // The same, with a table of so many levels.
-fn in_table<const N: usize>(sheet: &RecordSheet<'_>) -> bool
-    requires { (sheet.now.rows.form.rows ≤ N) × (N < 65_536) }
-    ensures { result ≡ true → (j : ℕ) → j < sheet.now.rows.form.rows → Ordered sheet.now.rows.words.now sheet.now.text.now j }
+fn in_table<const N: usize>(sheet: RecordSheet<'_>) -> bool
+    requires { (sheet.rows.form.rows ≤ N) × (N < 65_536) }
+    ensures { result ≡ true → (j : ℕ) → j < sheet.entry.rows.form.rows → Ordered sheet.entry.rows.words.now sheet.entry.text.now j }
 {
     let mut levels = [0u8; N];
     rows_ok(sheet, &mut levels)
@@ -171,8 +171,8 @@ pub(crate) fn in_order(words: &[u32], text: &[u8], form: RecordForm) -> bool
 {
     let sheet = RecordSheet::new(words, text, form);
     if wide(form.rows) <= SMALL {
-        in_table::<SMALL>(&sheet)
+        in_table::<SMALL>(sheet)
     } else {
-        in_table::<{ RecordForm::ROWS_MAX }>(&sheet)
+        in_table::<{ RecordForm::ROWS_MAX }>(sheet)
     }
 }

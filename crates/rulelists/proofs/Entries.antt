@@ -4,6 +4,7 @@
 --     found_differ          a search that finds no name again
 --     names_fit             entries in order that have names have them within the text
 --     unnamed_fine          entries that have no names
+--     found_ok              entries of which a search finds none at fault are in order
 --     all_in_order          entries that have no names, where a search finds none at fault
 --     named_entry           an entry that has a name, by its bound
 --     all_named             entries that have names, by their bound
@@ -67,12 +68,17 @@ module _ (ws : List ℕ) (fields : Fields) (first count : ℕ) (ok : (x : ℕ) �
       no : is_named fields ≡ true → ⊥
       no t = let z : ◌≡◌ {A = ℕ} 0 1 = cc in omega arith
 
+pub found_ok : (ws : List ℕ) (fields : Fields) (first count : ℕ) (bad : Option ℕ)
+    → FoundIn (λ x. not (entry_ok fields (text_word ws) (schemas_word ws) (entry_at ws x))) count first bad → is_some bad ≡ false
+    → (x : ℕ) → first ≤ x → x < first + count → entry_ok fields (text_word ws) (schemas_word ws) (entry_at ws x) ≡ true
+found_ok ws fields first count None e none = entries_ok ws fields (text_word ws) (schemas_word ws) first count e
+found_ok ws fields first count (Some x) e none = cc
+
 pub all_in_order : (ws ts : List ℕ) (fields : Fields) (first count : ℕ) (bad : Option ℕ) → is_named fields ≡ false
     → FoundIn (λ x. not (entry_ok fields (text_word ws) (schemas_word ws) (entry_at ws x))) count first bad → is_some bad ≡ false
     → ListFine ws ts fields first count
-all_in_order ws ts fields first count None unnamed e none =
-    unnamed_fine ws fields first count (entries_ok ws fields (text_word ws) (schemas_word ws) first count e) ts unnamed
-all_in_order ws ts fields first count (Some x) unnamed e none = cc
+all_in_order ws ts fields first count bad unnamed e none =
+    unnamed_fine ws fields first count (found_ok ws fields first count bad e none) ts unnamed
 
 -- ---- entries that have names
 

@@ -128,7 +128,7 @@ fn few_differ(words: &[u32], text: &[u8], form: RuleForm, list: Entries) -> bool
 }
 
 // The same, and whether the entries, which have names, are in order.
-fn named_fine(words: &[u32], text: &[u8], form: RuleForm, fields: Fields, list: Entries) -> bool
+pub fn named_fine(words: &[u32], text: &[u8], form: RuleForm, fields: Fields, list: Entries) -> bool
     requires { RulesFormed words.now form × (length text.now ≡ text_word words.now) × (list.first + list.count ≤ form.e) × (is_named fields ≡ true) }
     ensures { result ≡ true → ListFine words.now text.now fields list.first list.count }
 {
@@ -145,7 +145,19 @@ fn unnamed_fine(words: &[u32], text: &[u8], form: RuleForm, fields: Fields, list
 }
 
 // Whether the entries of a list of any fields are in order, and their names, if they have some, differ.
-// Enums and lists of schemas, of which most sheets have some, are asked for by themselves.
+fn others_fine(words: &[u32], text: &[u8], form: RuleForm, fields: Fields, list: Entries) -> bool
+    requires { RulesFormed words.now form × (length text.now ≡ text_word words.now) × (list.first + list.count ≤ form.e) }
+    ensures { result ≡ true → ListFine words.now text.now fields list.first list.count }
+{
+    if !fields.is_named() {
+        return unnamed_fine(words, text, form, fields, list);
+    }
+    first_bad_in(words, form, text.len(), fields, list).is_none()
+        && names_differ(words, text, form, list)
+}
+
+// The same. Enums and lists of schemas, of which most sheets have some, are asked for by themselves, as
+// lists of names are by `named_fine`, which has one caller so that it becomes part of it.
 pub fn entries_fine(
     words: &[u32],
     text: &[u8],
@@ -156,12 +168,9 @@ pub fn entries_fine(
     requires { RulesFormed words.now form × (length text.now ≡ text_word words.now) × (list.first + list.count ≤ form.e) }
     ensures { result ≡ true → ListFine words.now text.now fields list.first list.count }
 {
-    if fields.is_named() {
-        return named_fine(words, text, form, fields, list);
-    }
     match fields {
         Fields::Values => unnamed_fine(words, text, form, Fields::Values, list),
         Fields::Schemas => unnamed_fine(words, text, form, Fields::Schemas, list),
-        _ => unnamed_fine(words, text, form, fields, list),
+        _ => others_fine(words, text, form, fields, list),
     }
 }

@@ -5,16 +5,16 @@
 // Its contracts cite `specs/Pass.antt`.
 #![tactic(auto)]
 
-ghost use Rattle.std.specs.Prelude.{true, ◌≡◌, ◌+◌, ◌≤◌, length, IfSome};
+ghost use Rattle.std.specs.Prelude.{true, false, ◌≡◌, ◌+◌, ◌≤◌, length, IfSome};
 ghost use Rattle.rulesheet.specs.Sheet.{text_word, schema_at};
 ghost use Rattle.rulesheet.specs.Codes.{shape_of};
-ghost use Rattle.rulesheet.specs.Faults.{is_list, list_start};
+ghost use Rattle.rulesheet.specs.Faults.{is_list, is_named, list_start};
 ghost use Rattle.rulesheet.specs.Read.{RulesFormed};
 ghost use Rattle.rulepass.specs.Pass.{listed_by, ClausePassed, SchemaPassed, Told};
 
 use ruleclauses::fields_ok;
 use rulecodes::shape_of;
-use rulelists::entries_fine;
+use rulelists::{entries_fine, named_fine};
 use rulesheet::clause::Entries;
 use rulesheet::code::Shape;
 use rulesheet::form::{ClauseRow, RuleForm, SchemaRow, clause_at, schema_at};
@@ -53,6 +53,36 @@ fn listed(form: RuleForm, clause: ClauseRow, shape: Shape, start: u32) -> bool
     (first == start)
         & ((wide(first) + wide(count) <= wide(form.e))
             & ((shape.least <= count) & (count <= shape.most)))
+}
+
+// Passes a list clause whose entries have names and which has no steps: most lists are such, and stand
+// apart from the others, which are told by their fields.
+fn pass_named(
+    words: &[u32],
+    text: &[u8],
+    form: RuleForm,
+    s: RuleRow,
+    clause: ClauseRow,
+    shape: Shape,
+    from: Pass,
+) -> Option<Pass>
+    requires { RulesFormed words.now form × (length text.now ≡ text_word words.now) × (shape ≡ shape_of clause.code) × (is_list shape.fields ≡ true) × (is_named shape.fields ≡ true) × (shape.unguarded ≡ false) }
+    ensures { IfSome result (ClausePassed words.now text.now s.0 clause from.start from.steps) }
+{
+    if !listed(form, clause, shape, from.start) {
+        return None;
+    }
+    let list = Entries {
+        first: clause.first,
+        count: clause.count,
+    };
+    if !named_fine(words, text, form, shape.fields, list) {
+        return None;
+    }
+    Some(Pass {
+        start: list.first + list.count,
+        ..from
+    })
 }
 
 // Passes a list clause of schema s.
@@ -97,16 +127,19 @@ fn pass_clause(
     ensures { IfSome result (ClausePassed words.now text.now s.0 clause from.start from.steps) }
 {
     let shape = shape_of(clause.code);
-    if shape.fields.is_list() {
-        return pass_list(words, text, form, s, clause, shape, from);
+    if !shape.fields.is_list() {
+        if !fields_ok(shape.fields, form.m, clause.first, clause.count) {
+            return None;
+        }
+        return Some(Pass {
+            steps: after_one(s, shape.unguarded, clause.first, from.steps),
+            ..from
+        });
     }
-    if !fields_ok(shape.fields, form.m, clause.first, clause.count) {
-        return None;
+    if shape.fields.is_named() & !shape.unguarded {
+        return pass_named(words, text, form, s, clause, shape, from);
     }
-    Some(Pass {
-        steps: after_one(s, shape.unguarded, clause.first, from.steps),
-        ..from
-    })
+    pass_list(words, text, form, s, clause, shape, from)
 }
 
 // Passes the clauses of schema s. No code is 0, so the first one's must rise above 0 too.

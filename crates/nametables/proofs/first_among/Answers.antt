@@ -14,7 +14,7 @@ returns-in_default c = here c.loop-i.invariant.0 (omega arith) (spot_same c.in_d
 pub put-requires : goal.put-requires
 put-requires c =
     let room = c.loop-i.invariant.1.room in
-    let few = c.args.lain.now.lying.few in
+    let few = c.args.lain.lying.few in
     let low = c.in-Some.ensures.free.reached.low in record {
       i_in_bounds = (omega (arith, room.next_room), omega (arith, room.nodes_room), omega (arith, room.marks_room), omega (arith, few));
       node_in_bounds = (omega (arith, low, room.enough_places), omega (arith, low, room.few_places, few));
@@ -28,5 +28,5 @@ loop-i-preserved c =
 
 pub returns : goal.returns
 returns c =
-    let e : c.loop-i.i ≡ c.args.lain.now.names.count = omega arith in
+    let e : c.loop-i.i ≡ c.args.lain.names.count = omega arith in
     rw e at (nowhere c.loop-i.invariant.0 (omega arith))

@@ -13,17 +13,17 @@ use Rattle.recordcheck.proofs.order.apart.Goals as goal
 
 pub first_repeated-requires : goal.first_repeated-requires
 first_repeated-requires c =
-    let rows = c.args.sheet.now.rows in
+    let rows = c.args.sheet.rows in
     let is = c.labels-labels.ensures in
     let count : c.labels-labels.result.count ≡ c.args.children.count = ap (λ (n : Names). n.count) is in
-    labels_lie rows.words.now c.args.sheet.now.text.now rows.form rows.formed c.args.children.first c.labels-labels.result (ap (λ (n : Names). n.base) is) (ap (λ (n : Names). n.stride) is)
-    (c.args.sheet.now.whole ∙ rows.sized)
+    labels_lie rows.words.now c.args.sheet.text.now rows.form rows.formed c.args.children.first c.labels-labels.result (ap (λ (n : Names). n.base) is) (ap (λ (n : Names). n.stride) is)
+    (c.args.sheet.whole ∙ rows.sized)
     (omega (arith, c.requires.within))
     (λ i l. c.requires.by_index i (omega (arith, count)))
 
 pub returns : goal.returns
 returns c t =
-    let rows = c.args.sheet.now.rows in
+    let rows = c.args.sheet.rows in
     let is = c.labels-labels.ensures in
     let names = c.labels-labels.result in
     let count : names.count ≡ c.args.children.count = ap (λ (n : Names). n.count) is in
@@ -31,7 +31,7 @@ returns c t =
     record {
       none_repeats =
           λ (i : ℕ) (l : i < c.args.children.count).
-          repeats_agree (λ k. (doc_of rows.words.now c.args.sheet.now.text.now).name (c.args.children.first + k)) (name_at rows.words.now c.args.sheet.now.text.now names) i
-          (λ k g. sym (label_name rows.words.now c.args.sheet.now.text.now rows.form rows.formed c.args.children.first names (ap (λ (n : Names). n.base) is) (ap (λ (n : Names). n.stride) is) k))
-          ∙ clear_below (repeats_at rows.words.now c.args.sheet.now.text.now names) names.count 0 i (omega arith) (omega (arith, count)) (omega (arith, count, c.first_repeated.ensures));
+          repeats_agree (λ k. (doc_of rows.words.now c.args.sheet.text.now).name (c.args.children.first + k)) (name_at rows.words.now c.args.sheet.text.now names) i
+          (λ k g. sym (label_name rows.words.now c.args.sheet.text.now rows.form rows.formed c.args.children.first names (ap (λ (n : Names). n.base) is) (ap (λ (n : Names). n.stride) is) k))
+          ∙ clear_below (repeats_at rows.words.now c.args.sheet.text.now names) names.count 0 i (omega arith) (omega (arith, count)) (omega (arith, count, c.first_repeated.ensures));
     }

@@ -5,9 +5,9 @@ use Rattle.recordcheck.proofs.order.child_ok.Goals as goal
 
 pub returns-then-row-j : goal.returns-then-row-j
 returns-then-row-j c =
-    not_child c.args.rows.now.words.now c.args.kind c.args.j c.args.c c.row-row.result c.row-row.ensures c.if-row-j.true
+    not_child c.args.rows.words.now c.args.kind c.args.j c.args.c c.row-row.result c.row-row.ensures c.if-row-j.true
 
 pub returns : goal.returns
 returns c =
     c.label_ok.ensures
-    ∙ by_label c.args.rows.now.words.now c.args.kind c.args.j c.args.c c.row-row.result c.row-row.ensures c.if-row-j.false c.args.rows.now.size c.args.rows.now.sized
+    ∙ by_label c.args.rows.words.now c.args.kind c.args.j c.args.c c.row-row.result c.row-row.ensures c.if-row-j.false c.args.rows.size c.args.rows.sized

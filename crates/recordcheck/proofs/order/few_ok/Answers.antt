@@ -14,12 +14,12 @@ use Rattle.recordcheck.proofs.Children.{told, named}
 use Rattle.recordcheck.proofs.order.few_ok.Goals as goal
 
 pub overflow_add-c : goal.overflow_add-c
-overflow_add-c c = omega (arith, c.requires.holding.0.within, form_few c.args.sheet.now.rows.words.now c.args.sheet.now.rows.form c.args.sheet.now.rows.formed)
+overflow_add-c c = omega (arith, c.requires.holding.0.within, form_few c.args.sheet.rows.words.now c.args.sheet.rows.form c.args.sheet.rows.formed)
 
 pub loop-i-preserved : goal.loop-i-preserved
 loop-i-preserved c =
-    let words = c.args.sheet.now.rows.words.now in
-    let text = c.args.sheet.now.text.now in
+    let words = c.args.sheet.rows.words.now in
+    let text = c.args.sheet.text.now in
     let first = c.args.brood.children.first in
     let inv = c.loop-i.invariant in
     let i = c.loop-i.i in
