@@ -1,7 +1,7 @@
 // The bench program: one bundle on standard input, the reply to it in lines on standard output.
 //
-// What it prints is settled, and proved, in crate `bundle`; that crate's `Display`s, which are not
-// proved, put it in words, and here these are written out.
+// What it prints, and in which words, is settled and proved in crate `bundle`. Here the words are
+// written out; that they reach standard output is not proved.
 #![tactic(auto)]
 
 ghost use Rattle.std.specs.Prelude.{Ok};

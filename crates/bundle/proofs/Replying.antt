@@ -3,10 +3,10 @@
 --     bad_replied, record_refused, rules_refused, sides_large     what is printed where nothing is judged
 --     judged_replies, never_refused                  what the judge's answer is, and what it is not
 -- Assumes nothing.
-use mathlib.Core.Bool.{Bool, true, false, ◌||◌}
+use mathlib.Core.Bool.{Bool, true, false}
 use mathlib.Core.List.{List, ◌++◌}
 use mathlib.Core.Path.{◌≡◌, refl, sym, ap, ◌∙◌}
-use Prim.Native.Nat.{ℕ, ◌+◌, ◌-◌, ◌*◌, ◌≤◌, ◌<◌}
+use Prim.Native.Nat.{ℕ, ◌-◌, ◌*◌, ◌≤◌}
 use native.Mathlib.Nat.{mul-le-mul_right, mul_comm}
 use native.Mathlib.Omega.{arith}
 use lib.Dec.{ltb}

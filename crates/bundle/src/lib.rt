@@ -1,7 +1,7 @@
 // The reply to a bundle, all that the bench program prints; crate `parts` takes it apart. Nothing here
 // reads or writes a file.
 //
-// Its contracts cite `specs/Printed.antt`.
+// Its contracts cite `specs/Printed.antt`, and those of `display` `specs/Words.antt`.
 #![tactic(auto)]
 
 pub mod display;
